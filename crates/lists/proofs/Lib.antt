@@ -1,0 +1,4 @@
+pub mod Bools
+pub mod Picks
+pub mod KeyedLaws
+pub mod Sums

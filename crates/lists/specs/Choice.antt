@@ -1,0 +1,29 @@
+-- Choices by a test, and by equality of two numbers.
+use Prim.Native.Nat.{ℕ}
+use mathlib.Core.Bool.{Bool, true, false, not, _&&_, _||_}
+use lib.Dec.{eqb, leb}
+
+infixr 5 _⇒_else_
+infix 40 _==_
+-- the first value where the test holds, else the second
+abbrev pub _⇒_else_ {ℓ} : {A : Type ℓ} → Bool → A → A → A
+_⇒_else_ true x y = x
+_⇒_else_ false x y = y
+
+abbrev pub _==_ : ℕ → ℕ → Bool
+m == n = eqb m n
+
+-- `pick m n a b` is a where m and n are the same number, else b
+unfoldable pub pick {ℓ} : {A : Type ℓ} → ℕ → ℕ → A → A → A
+pick m n a b = (m == n) ⇒ a else b
+
+-- 1 where m and n are the same number, else 0
+abbrev pub is : ℕ → ℕ → ℕ
+is m n = pick m n 1 0
+
+abbrev pub bit : Bool → ℕ
+bit true = 1
+bit false = 0
+
+abbrev pub within : ℕ → ℕ → ℕ → Bool
+within lo hi n = leb lo n && leb n hi

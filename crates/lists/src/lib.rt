@@ -1,0 +1,1 @@
+// Shared definitions and laws on choices, lists and counts. There is no code here.
