@@ -7,7 +7,7 @@ use native.Mathlib.Omega.{arith}
 use lib.ListN.{length}
 use borrow.Author.Tests.{eqb-true, eqb-false, eq-eqb, ne-eqb, not-true, not-false}
 use Rattle.lists.specs.Choice.{_⇒_else_, _==_, bit}
-use Rattle.lists.specs.Lists.{any, all, has, distinct, sumOf, count}
+use Rattle.lists.specs.Lists.{any, all, has, distinct, sumOf, count, All, done, more}
 use Rattle.lists.proofs.Bools.{tf, ft, and-true, and-both}
 
 module _ {A : Type 0} (f : A → ℕ) where
@@ -16,11 +16,6 @@ module _ {A : Type 0} (f : A → ℕ) where
   sum-append (x ∷ xs) ys = omega (arith, sum-append xs ys)
 
 module _ {A : Type 0} where
-  -- P holds of each element
-  pub data All (P : A → Type 0) : List A → Type 0 where
-    done : All P []
-    more : {x : A} {xs : List A} → P x → All P xs → All P (x ∷ xs)
-
   pub all-imp : {P Q : A → Type 0} → ((x : A) → P x → Q x) → {xs : List A} → All P xs → All Q xs
   all-imp h done = done
   all-imp h (more {x = x} p a) = more (h x p) (all-imp h a)

@@ -25,6 +25,11 @@ module _ {A : Type 0} where
   sumOf f [] = 0
   sumOf f (x ∷ xs) = f x + sumOf f xs
 
+  -- P holds of each element
+  pub data All (P : A → Type 0) : List A → Type 0 where
+    done : All P []
+    more : {x : A} {xs : List A} → P x → All P xs → All P (x ∷ xs)
+
   -- f of each element, one after another
   abbrev pub each : (A → List ℕ) → List A → List ℕ
   each f [] = []

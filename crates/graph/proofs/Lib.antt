@@ -1,0 +1,5 @@
+pub mod Orders
+pub mod Incidence
+pub mod Lists
+pub mod Undoes
+pub mod Keeps

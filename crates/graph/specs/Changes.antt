@@ -1,0 +1,201 @@
+-- The sixteen changes.
+use Prim.Native.Nat.{ℕ, zero, suc, _+_, _*_, _/_, _%_, _^_, _≤_, _<_}
+use mathlib.Core.Path.{_≡_}
+use mathlib.Core.Logic.{_≢_}
+use mathlib.Core.Bool.{Bool, true, false}
+use mathlib.Core.List.{List, [], _∷_, _++_, map}
+use lib.ListN.{length}
+use Rattle.lists.specs.Choice.{_⇒_else_, _==_}
+use Rattle.lists.specs.Lists.{firsts}
+use Rattle.lists.specs.Keyed.{countBy, rem, upd, putBefore, putAfter}
+use Rattle.graph.specs.declared.Reading.{Reading}
+use Rattle.graph.specs.declared.Reading.the-variants.{Untested}
+use Rattle.graph.specs.declared.Change.{Change}
+use Rattle.graph.specs.declared.Change.the-variants.{
+  CreateVertex,
+  DeleteVertex,
+  CreateEdge,
+  DeleteEdge,
+  RetypeVertex,
+  RetypeEdge,
+  SetValue,
+  SetReading,
+  SetAlpha,
+  SetOmega,
+  VertexBefore,
+  VertexAfter,
+  EdgeBefore,
+  EdgeAfter,
+  WordBefore,
+  WordAfter,
+}
+use Rattle.graph.specs.Graph.{Vertex, Edge, Graph, vn, en, wd, noVertex, noEdge, edge, outWord, inWord, edgeOf, bySide, this, listOf, readingOf, isReading}
+use Rattle.graph.specs.WellFormed.{Bounds}
+
+-- ---- one part of a record replaced
+
+abbrev pub withVertex : ℕ → ℕ → Vertex → Vertex
+withVertex t x v = record { number = v .number; type = t; value = x; incidences = v .incidences }
+
+abbrev pub onList : (List ℕ → List ℕ) → Vertex → Vertex
+onList h v = record { number = v .number; type = v .type; value = v .value; incidences = h (v .incidences) }
+
+abbrev pub withEdge : ℕ → Reading → Edge → Edge
+withEdge t r e = record { number = e .number; alpha = e .alpha; omega = e .omega; type = t; reading = r }
+
+-- the end that the oriented word w is seen from becomes u
+abbrev pub withEnd : ℕ → ℕ → Edge → Edge
+withEnd w u e = record { number = e .number; alpha = bySide w u (e .alpha); omega = bySide w (e .omega) u; type = e .type; reading = e .reading }
+
+-- word w last in the list of v; out of it
+abbrev pub append : List Vertex → ℕ → ℕ → List Vertex
+append vs v w = upd vn v (onList (λ ws. ws ++ (w ∷ []))) vs
+
+abbrev pub detach : List Vertex → ℕ → ℕ → List Vertex
+detach vs v w = upd vn v (onList (rem wd w)) vs
+
+abbrev pub onVseq : (List Vertex → List Vertex) → Graph → Graph
+onVseq f g = record { vseq = f (g .vseq); eseq = g .eseq }
+
+abbrev pub onEseq : (List Edge → List Edge) → Graph → Graph
+onEseq f g = record { vseq = g .vseq; eseq = f (g .eseq) }
+
+-- ---- the changes
+
+-- "1 create vertex (number, type, value), last in Vseq."
+unfoldable pub createVertex : ℕ → ℕ → ℕ → Graph → Graph
+createVertex n t x = onVseq (λ vs. vs ++ (record { number = n; type = t; value = x; incidences = [] } ∷ []))
+
+-- "4 delete edge": both words leave their lists
+unfoldable pub deleteEdge : ℕ → Graph → Graph
+deleteEdge e g = record {
+  vseq = detach (detach (g .vseq) (edge g e .omega) (inWord e)) (edge g e .alpha) (outWord e);
+  eseq = rem en e (g .eseq);
+}
+
+unfoldable pub deleteEdges : List ℕ → Graph → Graph
+unfolding deleteEdge
+deleteEdges [] g = g
+deleteEdges (e ∷ es) g = deleteEdges es (deleteEdge e g)
+
+-- the distinct edges at vertex a, in the order of its list
+abbrev pub edgesAt : Graph → ℕ → List ℕ
+edgesAt g a = firsts (map edgeOf (listOf g a))
+
+-- "2 delete vertex a: first the edges of its list, then it."
+unfoldable pub deleteVertex : ℕ → Graph → Graph
+unfolding deleteEdges
+deleteVertex a g = onVseq (rem vn a) (deleteEdges (edgesAt g a) g)
+
+-- "3 create edge (number, alpha, omega, type), untested; last in Eseq; out word last at alpha, then in word last at omega."
+unfoldable pub createEdge : ℕ → ℕ → ℕ → ℕ → Graph → Graph
+createEdge n a o t g = record {
+  vseq = append (append (g .vseq) a (outWord n)) o (inWord n);
+  eseq = g .eseq ++ (record { number = n; alpha = a; omega = o; type = t; reading = Untested } ∷ []);
+}
+
+-- "5, 6 retype vertex, edge (a, type). 7 vertex value (a, value). 8 reading (a, kind, decimetres)."
+unfoldable pub retypeVertex : ℕ → ℕ → Graph → Graph
+retypeVertex a t = onVseq (upd vn a (λ v. withVertex t (v .value) v))
+
+unfoldable pub retypeEdge : ℕ → ℕ → Graph → Graph
+retypeEdge a t = onEseq (upd en a (λ e. withEdge t (e .reading) e))
+
+unfoldable pub setValue : ℕ → ℕ → Graph → Graph
+setValue a x = onVseq (upd vn a (λ v. withVertex (v .type) x v))
+
+unfoldable pub setReading : ℕ → ℕ → ℕ → Graph → Graph
+setReading a k d = onEseq (upd en a (λ e. withEdge (e .type) (readingOf k d) e))
+
+-- "9, 10 new alpha, omega (edge, vertex): the oriented word leaves its old list and becomes last in the new one, also where
+-- both are the same vertex."
+unfoldable pub reattach : ℕ → ℕ → Graph → Graph
+reattach w u g = record {
+  vseq = append (detach (g .vseq) (this g w) w) u w;
+  eseq = upd en (edgeOf w) (withEnd w u) (g .eseq);
+}
+
+-- "11, 12 put vertex a directly before, after b in Vseq. 13, 14 the same for edges in Eseq. 15, 16 the same for oriented
+-- words in their list."
+unfoldable pub vertexBefore : ℕ → ℕ → Graph → Graph
+vertexBefore a b = onVseq (putBefore vn noVertex a b)
+
+unfoldable pub vertexAfter : ℕ → ℕ → Graph → Graph
+vertexAfter a b = onVseq (putAfter vn noVertex a b)
+
+unfoldable pub edgeBefore : ℕ → ℕ → Graph → Graph
+edgeBefore a b = onEseq (putBefore en noEdge a b)
+
+unfoldable pub edgeAfter : ℕ → ℕ → Graph → Graph
+edgeAfter a b = onEseq (putAfter en noEdge a b)
+
+unfoldable pub wordBefore : ℕ → ℕ → Graph → Graph
+wordBefore a b g = onVseq (upd vn (this g a) (onList (putBefore wd 0 a b))) g
+
+unfoldable pub wordAfter : ℕ → ℕ → Graph → Graph
+wordAfter a b g = onVseq (upd vn (this g a) (onList (putAfter wd 0 a b))) g
+
+unfoldable pub changed : Change → Graph → Graph
+unfolding createVertex deleteVertex createEdge deleteEdge retypeVertex retypeEdge setValue setReading reattach vertexBefore vertexAfter edgeBefore edgeAfter wordBefore wordAfter
+changed (CreateVertex n t x) g = createVertex n t x g
+changed (DeleteVertex a) g = deleteVertex a g
+changed (CreateEdge n a o t) g = createEdge n a o t g
+changed (DeleteEdge a) g = deleteEdge a g
+changed (RetypeVertex a t) g = retypeVertex a t g
+changed (RetypeEdge a t) g = retypeEdge a t g
+changed (SetValue a x) g = setValue a x g
+changed (SetReading a k d) g = setReading a k d g
+changed (SetAlpha e v) g = reattach (outWord e) v g
+changed (SetOmega e v) g = reattach (inWord e) v g
+changed (VertexBefore a b) g = vertexBefore a b g
+changed (VertexAfter a b) g = vertexAfter a b g
+changed (EdgeBefore a b) g = edgeBefore a b g
+changed (EdgeAfter a b) g = edgeAfter a b g
+changed (WordBefore a b) g = wordBefore a b g
+changed (WordAfter a b) g = wordAfter a b g
+
+-- "Its cost is 1, for kind 2 it is 1 + the number of distinct edges at the vertex."
+abbrev pub cost : Change → Graph → ℕ
+cost (CreateVertex n t x) g = 1
+cost (DeleteVertex a) g = 1 + length (edgesAt g a)
+cost (CreateEdge n a o t) g = 1
+cost (DeleteEdge a) g = 1
+cost (RetypeVertex a t) g = 1
+cost (RetypeEdge a t) g = 1
+cost (SetValue a x) g = 1
+cost (SetReading a k d) g = 1
+cost (SetAlpha e v) g = 1
+cost (SetOmega e v) g = 1
+cost (VertexBefore a b) g = 1
+cost (VertexAfter a b) g = 1
+cost (EdgeBefore a b) g = 1
+cost (EdgeAfter a b) g = 1
+cost (WordBefore a b) g = 1
+cost (WordAfter a b) g = 1
+
+-- ---- what a change asks of the graph: codes 2 to 9 do not apply
+
+abbrev pub VertexThere : Graph → ℕ → Type 0
+VertexThere g n = countBy vn n (g .vseq) ≡ 1
+
+abbrev pub EdgeThere : Graph → ℕ → Type 0
+EdgeThere g n = countBy en n (g .eseq) ≡ 1
+
+abbrev pub Allowed : Bounds → Graph → Change → Type 0
+Allowed b g (CreateVertex n t x) = (1 ≤ n) × (n ≤ b .vertices) × (countBy vn n (g .vseq) ≡ 0) × (t < b .types) × (x < 2 ^ 32)
+Allowed b g (DeleteVertex a) = VertexThere g a
+Allowed b g (CreateEdge n a o t) =
+    (1 ≤ n) × (n ≤ b .edges) × (countBy en n (g .eseq) ≡ 0) × VertexThere g a × VertexThere g o × (t < b .types)
+Allowed b g (DeleteEdge a) = EdgeThere g a
+Allowed b g (RetypeVertex a t) = VertexThere g a × (t < b .types)
+Allowed b g (RetypeEdge a t) = EdgeThere g a × (t < b .types)
+Allowed b g (SetValue a x) = VertexThere g a × (x < 2 ^ 32)
+Allowed b g (SetReading a k d) = EdgeThere g a × (isReading k d ≡ true)
+Allowed b g (SetAlpha e v) = EdgeThere g e × VertexThere g v
+Allowed b g (SetOmega e v) = EdgeThere g e × VertexThere g v
+Allowed b g (VertexBefore x y) = VertexThere g x × VertexThere g y × (x ≢ y)
+Allowed b g (VertexAfter x y) = VertexThere g x × VertexThere g y × (x ≢ y)
+Allowed b g (EdgeBefore x y) = EdgeThere g x × EdgeThere g y × (x ≢ y)
+Allowed b g (EdgeAfter x y) = EdgeThere g x × EdgeThere g y × (x ≢ y)
+Allowed b g (WordBefore x y) = EdgeThere g (edgeOf x) × EdgeThere g (edgeOf y) × (this g x ≡ this g y) × (x ≢ y)
+Allowed b g (WordAfter x y) = EdgeThere g (edgeOf x) × EdgeThere g (edgeOf y) × (this g x ≡ this g y) × (x ≢ y)

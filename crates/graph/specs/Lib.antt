@@ -1,0 +1,5 @@
+pub mod Graph
+pub mod WellFormed
+pub mod Changes
+pub mod Edits
+pub mod Plans

@@ -1,0 +1,52 @@
+// The reading of an edge: untested, silent, or heard at some decimetres.
+pub enum Reading {
+    Untested,
+    Silent,
+    Heard(u32),
+}
+
+// A change of the graph, kinds 1 to 16 in their order; the words of a reading as the call has them.
+pub enum Change {
+    // number, type, value
+    CreateVertex(u32, u32, u32),
+    DeleteVertex(u32),
+    // number, alpha, omega, type
+    CreateEdge(u32, u32, u32, u32),
+    DeleteEdge(u32),
+    // number, type
+    RetypeVertex(u32, u32),
+    RetypeEdge(u32, u32),
+    // number, value
+    SetValue(u32, u32),
+    // number, reading kind, decimetres
+    SetReading(u32, u32, u32),
+    // edge, vertex
+    SetAlpha(u32, u32),
+    SetOmega(u32, u32),
+    // what is put, and before or after what
+    VertexBefore(u32, u32),
+    VertexAfter(u32, u32),
+    EdgeBefore(u32, u32),
+    EdgeAfter(u32, u32),
+    WordBefore(u32, u32),
+    WordAfter(u32, u32),
+}
+
+// A reversible edit. A place is the number, or the oriented word, that stands directly before; 0 is the front.
+pub enum Edit {
+    // number, type, value; after which vertex
+    InsertVertex(u32, u32, u32, u32),
+    RemoveVertex(u32, u32, u32, u32),
+    // number, alpha, omega, type, reading; after which edge, which out word and which in word
+    InsertEdge(u32, u32, u32, u32, Reading, u32, u32, u32),
+    RemoveEdge(u32, u32, u32, u32, Reading, u32, u32, u32),
+    // number, old type and value, new ones
+    SetVertex(u32, u32, u32, u32, u32),
+    // number, old type and reading, new ones
+    SetEdge(u32, u32, Reading, u32, Reading),
+    // number, old place, new place
+    MoveVertex(u32, u32, u32),
+    MoveEdge(u32, u32, u32),
+    // oriented word, old vertex and place, new ones
+    MoveWord(u32, u32, u32, u32, u32),
+}
