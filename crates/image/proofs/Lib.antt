@@ -1,0 +1,5 @@
+pub mod Formed
+pub mod Records
+pub mod Ends
+pub mod Loads
+pub mod Examples
