@@ -16,10 +16,10 @@ graph : Graph
 graph =
     record {
       vseq =
-        record { number = 1; type = 0; value = 7; incidences = 2 ∷ [] }
-        ∷ record { number = 2; type = 0; value = 9; incidences = 3 ∷ [] }
-        ∷ [];
-      eseq = record { number = 1; alpha = 1; omega = 2; type = 0; reading = Heard 450 } ∷ []
+          record { number = 1; type = 0; value = 7; incidences = 2 ∷ [] }
+          ∷ record { number = 2; type = 0; value = 9; incidences = 3 ∷ [] }
+          ∷ [];
+      eseq = record { number = 1; alpha = 1; omega = 2; type = 0; reading = Heard 450 } ∷ [];
     }
 
 saved-chartrun : save graph ≡ 2 ∷ 1 ∷ 6 ∷ 12 ∷ 18 ∷ 20 ∷ 1 ∷ 0 ∷ 7 ∷ 2 ∷ 0 ∷ 9 ∷ 1 ∷ 1 ∷ 2 ∷ 0 ∷ 2 ∷ 450 ∷ 2 ∷ 3 ∷ []
