@@ -6,3 +6,4 @@ pub mod Keeps
 pub mod Numbers
 pub mod Words
 pub mod Facts
+pub mod EditBounds
