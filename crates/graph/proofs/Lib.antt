@@ -3,3 +3,7 @@ pub mod Incidence
 pub mod Lists
 pub mod Undoes
 pub mod Keeps
+pub mod Numbers
+pub mod Words
+pub mod Facts
+pub mod EditBounds
