@@ -30,6 +30,10 @@ module _ (n p : ℕ → ℕ) where
   head-link a [] b c = c
   head-link a (x ∷ v) b c = c .0
 
+  pub last-link : (a : ℕ) (v : List ℕ) (b : ℕ) → Chain n p a v b → p b ≡ lastOr a v
+  last-link a [] b c = c .1
+  last-link a (x ∷ v) b c = last-link x v b (c .1)
+
   pub head-rest : (a : ℕ) (v : List ℕ) (b : ℕ) → Chain n p a v b → Rest n p v b
   head-rest a [] b c = tt
   head-rest a (x ∷ v) b c = c .1
