@@ -73,7 +73,7 @@ module _ (n p n′ p′ : ℕ → ℕ) (c d x : ℕ)
   keep-rest (y ∷ v) b e fc fx fb di h =
       keep-chain y v b fc (fx .1) (rw e (di .0)) (λ q. fb .0 (q ∙ e)) (λ q. fx .0 (sym q)) h
 
--- a cyclic chain, from 0 through u ++ v to 0, cut at u: c before the cut, d after it
+-- a circle, from 0 through u ++ v to 0, where x leaves or enters between u and v: only the links of x and of its two neighbours change
 module _ (n p n′ p′ : ℕ → ℕ) (u v : List ℕ) (x : ℕ)
     (hn : (k : ℕ) → (k ≡ lastOr 0 u → ⊥) → (k ≡ x → ⊥) → n′ k ≡ n k)
     (hp : (k : ℕ) → (k ≡ headOr 0 v → ⊥) → (k ≡ x → ⊥) → p′ k ≡ p k)

@@ -1,4 +1,4 @@
--- The list that a table has is the one list that it holds.
+-- The list read off a table is the one list that it holds.
 use Prim.Native.Nat.{ℕ, zero, suc, _+_, _*_, _≤_, _<_}
 use mathlib.Core.Path.{_≡_, refl, sym, _∙_}
 use mathlib.Core.List.{List, [], _∷_}

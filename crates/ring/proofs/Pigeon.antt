@@ -43,7 +43,7 @@ pigeon (suc n) l d h = go (has n l) refl (pigeon n)
             r (u ++ v) (distinct-drop u n v d′) (lower n (u ++ v) (fresh-mid u n v d′) (all-drop (λ k. k < suc n) u n v h′)) in
             omega (arith, ap length (s .whole), length-mid u n v)
 
--- as many as there are node numbers, where these are below m
+-- a held list has at most m nodes, where every node in the table is below m
 pub held-length : (lane : Lane) (t : List ℕ) (e : Ends) (m : ℕ) (l : List ℕ) → ((x : ℕ) → Starts lane x → addr lane x + 1 < length t → x < m) → Held lane t e l → length l ≤ m
 held-length lane t e m l f h = pigeon m l (h .distinct .1) (go l (h .distinct .0) (h .inside))
   where

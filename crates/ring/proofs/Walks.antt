@@ -143,7 +143,7 @@ module _ (lane : Lane) (t : List ℕ) (e : Ends) (l : List ℕ) (h : Held lane t
 
 -- ---- the walk of `before`, from a in search of b, along the list that the table holds
 
--- where the walk is at x: b is behind a just where it is in the rest of the list, which starts with x
+-- where the walk is at x: b is behind a exactly where it is in the rest of the list, which starts with x
 pub record Walk (l : List ℕ) (a b x : ℕ) : Type 0 where
   pub place : (x ≡ 0) ⊎ (has x l ≡ true)
   pub rest : has b (suffix x l) ≡ before a b l

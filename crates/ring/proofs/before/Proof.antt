@@ -1,5 +1,5 @@
--- `ring::before` meets its contract. The loop's invariant: b is behind a just where it is in the rest of the list, which starts with x.
--- The measure is the length of that rest. Assumes nothing.
+-- `ring::before` meets its contract. The loop's invariant: b is behind a exactly where it is in the rest of the list, which starts with x.
+-- The measure is the length of that rest.
 use lib.ListN.{length}
 use Rattle.ring.specs.Links.{nodes}
 use Rattle.ring.proofs.Walks.{Walk, suffix, walk-inside, walk-start, walk-end, walk-here, walk-found, walk-more, walk-less}
