@@ -1,13 +1,13 @@
 -- Facts about every element of a keyed list.
-use Prim.Native.Nat.{ℕ, _+_, _≤_}
-use mathlib.Core.Path.{_≡_, refl, sym, ap, _∙_}
+use Prim.Native.Nat.{ℕ, _≤_}
+use mathlib.Core.Path.{_≡_, refl}
 use mathlib.Core.Logic.{_≢_}
 use mathlib.Core.List.{List, [], _∷_}
 use native.Mathlib.Omega.{arith}
-use Rattle.lists.specs.Choice.{pick, is}
+use Rattle.lists.specs.Choice.{pick}
 use Rattle.lists.specs.Lists.{All, done, more}
 use Rattle.lists.specs.Keyed.{countBy, ins, rem, find, upd}
-use Rattle.lists.proofs.Picks.{pick-yes, pick-no, pick-self, Same, same, differ, same?, is-yes, is-no, is-zero}
+use Rattle.lists.proofs.Picks.{pick-yes, pick-no, pick-self, same, differ, same?, is-yes, is-no, is-zero}
 
 module _ {A : Type 0} (key : A → ℕ) (P : A → Type 0) where
   pub all-ins : (q p : ℕ) (x : A) {l : List A} → P x → All P l → All P (ins key q p x l)

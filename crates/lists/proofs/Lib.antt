@@ -4,3 +4,5 @@ pub mod KeyedLaws
 pub mod Sums
 pub mod Counts
 pub mod KeyedAll
+pub mod Places
+pub mod Firsts
