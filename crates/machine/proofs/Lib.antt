@@ -1,0 +1,10 @@
+pub mod Sorts
+pub mod Stands
+pub mod MarkLaws
+pub mod CodeRows
+pub mod Paid
+pub mod Cases
+pub mod Whole
+pub mod Allowed
+pub mod Laws
+pub mod Graphs
