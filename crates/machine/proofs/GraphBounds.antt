@@ -15,28 +15,11 @@ use Rattle.lists.proofs.KeyedLaws.{find-none}
 use Rattle.lists.proofs.Firsts.{distinct-firsts}
 use Rattle.lists.proofs.Members.{all-counted, counted-all, all-firsts, all-keys, keep-length}
 use Rattle.graph.specs.declared.Change.{Change}
-use Rattle.graph.specs.declared.Change.the-variants.{
-  CreateVertex,
-  DeleteVertex,
-  CreateEdge,
-  DeleteEdge,
-  RetypeVertex,
-  RetypeEdge,
-  SetValue,
-  SetReading,
-  SetAlpha,
-  SetOmega,
-  VertexBefore,
-  VertexAfter,
-  EdgeBefore,
-  EdgeAfter,
-  WordBefore,
-  WordAfter,
-}
 use Rattle.graph.specs.Graph.{Vertex, Edge, Graph, vn, en, noVertex, noEdge, edgeIn, vertex, edge, vertexNumbers, edgeNumbers, outWord, inWord, edgeOf, this, that, thisIn, listOf, readingKind, decimetres}
 use Rattle.graph.specs.WellFormed.{Bounds, wellFormed, WellFormed, VertexIn, EdgeIn, Within}
 use Rattle.graph.specs.Changes.{edgesAt, cost}
 use Rattle.graph.specs.Questions.{onSide, degree}
+use Rattle.graph.proofs.ChangeLaws.{Kind, deletion, single, kind?}
 use Rattle.graph.proofs.Facts.{to-facts}
 use Rattle.graph.proofs.Incidence.{this-out, this-into, pick-le}
 use Rattle.graph.proofs.Lists.{ordered-list}
@@ -50,29 +33,6 @@ WordOf cap k = (2 ≤ k) × (k ≤ 2 * cap + 1)
 
 abbrev Numbered : ℕ → ℕ → Type 0
 Numbered cap n = (1 ≤ n) × (n ≤ cap)
-
--- "Its cost is 1, for kind 2 it is 1 + the number of distinct edges at the vertex."
-module _ (g : Graph) (P : ℕ → Type 0) (p : P 1) (q : (a : ℕ) → P (1 + length (edgesAt g a))) where
-  by-cost : (c : Change) → P (cost c g)
-  by-cost (CreateVertex n t x) = p
-  by-cost (DeleteVertex a) = q a
-  by-cost (CreateEdge n a o t) = p
-  by-cost (DeleteEdge a) = p
-  by-cost (RetypeVertex a t) = p
-  by-cost (RetypeEdge a t) = p
-  by-cost (SetValue a x) = p
-  by-cost (SetReading a k d) = p
-  by-cost (SetAlpha e v) = p
-  by-cost (SetOmega e v) = p
-  by-cost (VertexBefore x y) = p
-  by-cost (VertexAfter x y) = p
-  by-cost (EdgeBefore x y) = p
-  by-cost (EdgeAfter x y) = p
-  by-cost (WordBefore x y) = p
-  by-cost (WordAfter x y) = p
-
-pub cost-real : (c : Change) (g : Graph) → 1 ≤ cost c g
-cost-real c g = by-cost g (λ n. 1 ≤ n) (omega arith) (λ a. omega arith) c
 
 module _ (b : Bounds) (g : Graph) (h : wellFormed b g ≡ true) where
   well : WellFormed g
@@ -194,4 +154,15 @@ module _ (b : Bounds) (g : Graph) (h : wellFormed b g ≡ true) where
       in-list = all-firsts (all-keys edgeOf (all-imp (λ k f. (omega (arith, f .0), omega (arith, f .1))) (list-words a)))
 
   pub cost-le : (c : Change) → cost c g ≤ 1 + b .edges
-  cost-le c = by-cost g (λ n. n ≤ 1 + b .edges) (omega arith) (λ a. omega (arith, edges-at-le a)) c
+  cost-le c = go (kind? c)
+    where
+      go : {d : Change} → Kind d → cost d g ≤ 1 + b .edges
+      go (deletion a) = omega (arith, edges-at-le a)
+      go (single e k) = omega (arith, k g)
+
+pub cost-real : (c : Change) (g : Graph) → 1 ≤ cost c g
+cost-real c g = go (kind? c)
+  where
+    go : {d : Change} → Kind d → 1 ≤ cost d g
+    go (deletion a) = omega arith
+    go (single e k) = omega (arith, k g)

@@ -10,7 +10,8 @@ use borrow.Author.Tests.{ltb-false}
 use Rattle.lists.specs.Choice.{_⇒_else_, _==_}
 use Rattle.graph.specs.Graph.{Graph}
 use Rattle.graph.specs.Changes.{cost}
-use Rattle.history.specs.Machine.{Step, Machine, costs, fresh, present}
+use Rattle.history.specs.Machine.{Machine, costs, fresh, present}
+use Rattle.history.proofs.Timelines.{costs-cut, costs-take}
 use Rattle.machine.specs.Calls.{Call, World, isChange, changeOf}
 use Rattle.machine.specs.Codes.{free, noRoom, refusal}
 use Rattle.machine.specs.Machine.{Sort, changes, sets, drops, undoes, redoes, goes, commits, asks, sortOf, stepBy, nextBy, step, last}
@@ -19,16 +20,6 @@ use Rattle.machine.proofs.Sorts.{accepted-step, refused-step, Kind, kin
 
 unfoldable pub Paid : World → Machine → Type 0
 Paid w m = costs (m .line .steps) ≤ w .changes
-
-costs-cut : (p : ℕ) (ss : List Step) (st : Step) → costs (take p ss ++ (st ∷ [])) ≡ costs (take p ss) + st .cost
-costs-cut zero ss st = omega arith
-costs-cut (suc p) [] st = omega arith
-costs-cut (suc p) (s ∷ ss) st = omega (arith, costs-cut p ss st)
-
-costs-take : (p : ℕ) (ss : List Step) → costs (take p ss) ≤ costs ss
-costs-take zero ss = omega arith
-costs-take (suc p) [] = omega arith
-costs-take (suc p) (s ∷ ss) = omega (arith, costs-take p ss)
 
 affordable : (w : World) (m : Machine) (x : Call) → (refusal w m x == 0) ≡ true → sortOf (present m) x ≡ changes → cost (changeOf x) (present m) ≤ free w m
 unfolding noRoom Kind
