@@ -26,7 +26,7 @@ use Rattle.machine.specs.Codes.{
   refusal,
 }
 
-chain-zero : (t : Bool) (n r : ℕ) → ((t ⇒ suc n else r) == 0) ≡ true → (t ≡ false) × ((r == 0) ≡ true)
+pub chain-zero : (t : Bool) (n r : ℕ) → ((t ⇒ suc n else r) == 0) ≡ true → (t ≡ false) × ((r == 0) ≡ true)
 chain-zero true n r h = absurd (omega (arith, eqb-true (suc n) 0 h))
 chain-zero false n r h = (refl, h)
 
