@@ -30,6 +30,10 @@ module _ (n p : ℕ → ℕ) where
   head-link a [] b c = c
   head-link a (x ∷ v) b c = c .0
 
+  pub last-link : (a : ℕ) (v : List ℕ) (b : ℕ) → Chain n p a v b → p b ≡ lastOr a v
+  last-link a [] b c = c .1
+  last-link a (x ∷ v) b c = last-link x v b (c .1)
+
   pub head-rest : (a : ℕ) (v : List ℕ) (b : ℕ) → Chain n p a v b → Rest n p v b
   head-rest a [] b c = tt
   head-rest a (x ∷ v) b c = c .1
@@ -69,7 +73,7 @@ module _ (n p n′ p′ : ℕ → ℕ) (c d x : ℕ)
   keep-rest (y ∷ v) b e fc fx fb di h =
       keep-chain y v b fc (fx .1) (rw e (di .0)) (λ q. fb .0 (q ∙ e)) (λ q. fx .0 (sym q)) h
 
--- a cyclic chain, from 0 through u ++ v to 0, cut at u: c before the cut, d after it
+-- a circle, from 0 through u ++ v to 0, where x leaves or enters between u and v: only the links of x and of its two neighbours change
 module _ (n p n′ p′ : ℕ → ℕ) (u v : List ℕ) (x : ℕ)
     (hn : (k : ℕ) → (k ≡ lastOr 0 u → ⊥) → (k ≡ x → ⊥) → n′ k ≡ n k)
     (hp : (k : ℕ) → (k ≡ headOr 0 v → ⊥) → (k ≡ x → ⊥) → p′ k ≡ p k)

@@ -3,6 +3,7 @@ use Prim.Native.Nat.{ℕ, _+_, _-_, _*_}
 use mathlib.Core.Path.{_≡_, refl, sym, _∙_}
 use mathlib.Core.List.{List, [], _∷_, _++_}
 use mathlib.Core.Bool.{Bool, true, false}
+use mathlib.Core.Logic.{_⊎_}
 use lib.ListN.{length, getD, set}
 use lib.Seq.{getD-set-other}
 use borrow.Author.Tests.{ltb-false}
@@ -13,7 +14,6 @@ use Rattle.ring.specs.declared.Ends.{Ends}
 use Rattle.ring.specs.Lists.{Fresh, All}
 use Rattle.ring.specs.Links.{Fair, Side, prv, nxt, word, Starts, early, Inside, linkOf, putT, joinT, Chain, Held, unlinkT, insertT}
 use Rattle.ring.proofs.Words.{nodes-apart}
-use mathlib.Core.Logic.{_⊎_}
 use Rattle.ring.proofs.HeldLaws.{before-x, after-x, after-last}
 use Rattle.ring.proofs.ListLaws.{Split, split, Spot, spot, all-left, all-right, all-last, all-head}
 use Rattle.ring.proofs.Puts.{length-join}
@@ -22,7 +22,7 @@ use Rattle.ring.proofs.Puts.{length-join}
 abbrev pub Off : Lane → Lane → ℕ → ℕ → Type 0
 Off lane′ lane a k = Starts lane a → (r s : Side) → word r lane′ k ≡ word s lane a → ⊥
 
--- a word that is none of the two stands
+-- a word that is not the one put is kept; one that is neither of the two that a join puts is kept
 pub put-other : (s : Side) (lane : Lane) (k v : ℕ) (t : List ℕ) (i : ℕ) → (Starts lane k → i ≡ word s lane k → ⊥) →
     getD (putT s lane k v t) i 0 ≡ getD t i 0
 unfolding putT
@@ -39,7 +39,7 @@ pub join-other : (lane : Lane) (a b : ℕ) (t : List ℕ) (i : ℕ) →
 unfolding joinT
 join-other lane a b t i ha hb = put-other prv lane b a (putT nxt lane a b t) i hb ∙ put-other nxt lane a b t i ha
 
--- a chain reads its links alone
+-- a chain depends only on the links of its nodes, and on those of its two ends
 chain-agree : (n p n′ p′ : ℕ → ℕ) (a : ℕ) (l : List ℕ) (b : ℕ) → n′ a ≡ n a → All (λ k. (n′ k ≡ n k) × (p′ k ≡ p k)) l → p′ b ≡ p b →
     Chain n p a l b → Chain n′ p′ a l b
 chain-agree n p n′ p′ a [] b ha hl hb h = (ha ∙ h .0, hb ∙ h .1)

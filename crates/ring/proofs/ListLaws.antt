@@ -1,21 +1,20 @@
 -- Laws of the lists of node numbers: where a node stands, and that removal and insertion undo each other.
 use Prim.Native.Nat.{ℕ}
 use mathlib.Core.Path.{_≡_, refl, sym, ap, _∙_}
-use mathlib.Core.List.{List, [], _∷_, _++_}
+use mathlib.Core.List.{List, [], _∷_, _++_, append-nil}
 use mathlib.Core.Bool.{Bool, true, false, _||_}
 use mathlib.Core.Logic.{_≢_, _⊎_, inl, inr}
 use borrow.Author.Tests.{eqb-true, eqb-false, eq-eqb, ne-eqb}
 use Rattle.lists.specs.Choice.{_==_}
 use Rattle.lists.specs.Lists.{has}
-use Rattle.lists.specs.Keyed.{ins, prev}
+use Rattle.lists.specs.Keyed.{ins, prev, lastBy}
 use Rattle.lists.proofs.Bools.{tf, ft, or-right}
 use Rattle.lists.proofs.Picks.{pick-yes, pick-no, pick-self}
 use Rattle.ring.specs.Lists.{Fresh, Distinct, All, remove, insertAfter, predOf}
 
 -- the last of a ∷ u, and the first of v ++ b ∷ []
 abbrev pub lastOr : ℕ → List ℕ → ℕ
-lastOr a [] = a
-lastOr a (x ∷ u) = lastOr x u
+lastOr a u = lastBy (λ k. k) a u
 
 abbrev pub headOr : ℕ → List ℕ → ℕ
 headOr b [] = b
@@ -122,6 +121,7 @@ distinct-put (y ∷ u) x v f h = (fresh-put y u x v (λ e. f .0 (sym e)) (h .0),
 
 -- ---- where a node stands
 
+-- where l has its first x
 pub record Split (x : ℕ) (l : List ℕ) : Type 0 where
   pub before : List ℕ
   pub after : List ℕ
@@ -138,7 +138,7 @@ split x (y ∷ l) h = go (y == x) refl (split x l) h
         let s = r m in
         record { before = y ∷ s .before; after = s .after; whole = ap (λ k. y ∷ k) (s .whole); fresh = ((λ q. eqb-false y x e (sym q)), s .fresh) }
 
--- p is the last of a ∷ u
+-- where a ∷ l is cut directly after p
 pub record Spot (p a : ℕ) (l : List ℕ) : Type 0 where
   pub before : List ℕ
   pub after : List ℕ
@@ -178,6 +178,10 @@ insert-at p x a (y ∷ u) v d e =
     let o : a ≢ p = λ q. fresh-last a y u (d .0) (q ∙ e) in
     rw (pick-no a p) (ap (λ k. y ∷ k) (insert-at p x y u v (d .1) e))
 
+-- x put in after the last node is last
+pub insert-last : (x : ℕ) (l : List ℕ) → Distinct (0 ∷ l) → insertAfter (lastOr 0 l) x l ≡ l ++ x ∷ []
+insert-last x l d = rw append-nil at (insert-at (lastOr 0 l) x 0 l [] d refl)
+
 -- ---- they undo each other
 
 pub insert-remove : (x : ℕ) (l : List ℕ) → Distinct (0 ∷ l) → has x l ≡ true → insertAfter (predOf x l) x (remove x l) ≡ l
@@ -209,7 +213,8 @@ fresh-has x (y ∷ l) h = rw (ne-eqb y x (λ q. h .0 (sym q))) (fresh-has x l (h
 
 -- ---- where a node goes back
 
-last-has : (a : ℕ) (u v : List ℕ) → (lastOr a u ≡ a) ⊎ (has (lastOr a u) (u ++ v) ≡ true)
+-- the last of a ∷ u is a, or is in u
+pub last-has : (a : ℕ) (u v : List ℕ) → (lastOr a u ≡ a) ⊎ (has (lastOr a u) (u ++ v) ≡ true)
 last-has a [] v = inl refl
 last-has a (y ∷ u) v = inr (go (last-has y u v))
   where

@@ -1,4 +1,4 @@
--- A list that is held has no more nodes than the table has words.
+-- A list that is held has no more nodes than there are node numbers for the table's words.
 use Prim.Native.Nat.{ℕ, zero, suc, _+_, _-_, _≤_, _<_}
 use mathlib.Core.Path.{_≡_, refl, sym, ap}
 use mathlib.Core.List.{List, [], _∷_, _++_}
@@ -23,7 +23,7 @@ lower n (x ∷ l) f h =
     let b : n ≡ x → ⊥ = f .0 in
     (omega arith, lower n l (f .1) (h .1))
 
--- distinct numbers below n are at most n
+-- the pigeonhole principle: there are at most n distinct numbers below n
 pub pigeon : (n : ℕ) (l : List ℕ) → Distinct l → All (λ k. k < n) l → length l ≤ n
 pigeon zero [] d h = omega arith
 pigeon zero (x ∷ l) d h = let a : x < 0 = h .0 in absurd (omega arith)
@@ -43,7 +43,7 @@ pigeon (suc n) l d h = go (has n l) refl (pigeon n)
             r (u ++ v) (distinct-drop u n v d′) (lower n (u ++ v) (fresh-mid u n v d′) (all-drop (λ k. k < suc n) u n v h′)) in
             omega (arith, ap length (s .whole), length-mid u n v)
 
--- where every node is below m
+-- a held list has at most m nodes, where every node in the table is below m
 pub held-length : (lane : Lane) (t : List ℕ) (e : Ends) (m : ℕ) (l : List ℕ) → ((x : ℕ) → Starts lane x → addr lane x + 1 < length t → x < m) → Held lane t e l → length l ≤ m
 held-length lane t e m l f h = pigeon m l (h .distinct .1) (go l (h .distinct .0) (h .inside))
   where

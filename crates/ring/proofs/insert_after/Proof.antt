@@ -1,5 +1,6 @@
+-- `ring::insert_after` meets its contract, by what `next` and its two calls of `join` ensure.
 use mathlib.Core.Path.{refl}
-use Rattle.ring.proofs.Steps.{inside-by}
+use Rattle.ring.proofs.Steps.{inside-by, insert-steps}
 use borrow.Author.Needs.{needs}
 use Rattle.ring.proofs.insert_after.Statement.{statement}
 use Rattle.ring.proofs.insert_after.Tie as tie
@@ -26,7 +27,11 @@ same-length : tie.Need-same-length
 same-length c = search needs
 
 returns : tie.Need-returns
-returns c = (cc, cc)
+returns c =
+    let b = c .before .before in
+    let a = b .before .before .before .before in
+    let n = a .before .before in
+    insert-steps _ _ _ _ _ (n .next .ensures) (a .join .ensures) (b .join2 .ensures)
 
 pub insert-after-spec : {M : Type 1} → statement M
 insert-after-spec =

@@ -1,6 +1,6 @@
+-- `ring::join` meets its contract, by what `put_next` and `put_prev` ensure.
 use mathlib.Core.Path.{refl}
-use Rattle.ring.specs.Links.{joinT, joinE}
-use Rattle.ring.proofs.Steps.{inside-by}
+use Rattle.ring.proofs.Steps.{inside-by, join-steps}
 use borrow.Author.Needs.{needs}
 use Rattle.ring.proofs.join.Statement.{statement}
 use Rattle.ring.proofs.join.Tie as tie
@@ -18,8 +18,10 @@ same-length : tie.Need-same-length
 same-length c = search needs
 
 returns : tie.Need-returns
-unfolding joinT joinE
-returns c = (cc, cc)
+returns c =
+    let b = c .before .before in
+    let a = b .before .before .before .before in
+    join-steps _ _ _ _ _ (a .put-next .ensures) (b .put-prev .ensures)
 
 pub join-spec : {M : Type 1} → statement M
 join-spec = tie.close (tie.spec put-next-requires put-prev-requires same-length returns)

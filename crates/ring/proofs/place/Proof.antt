@@ -1,3 +1,4 @@
+-- `ring::place` meets its contract. That the product fits is `product`, from the table's length.
 use mathlib.Core.Path.{refl}
 use Rattle.ring.proofs.Words.{product}
 use Rattle.ring.proofs.place.Statement.{statement}

@@ -1,5 +1,6 @@
+-- `ring::unlink` meets its contract, by what `prev`, `next` and `join` ensure.
 use mathlib.Core.Path.{refl}
-use Rattle.ring.proofs.Steps.{inside-by}
+use Rattle.ring.proofs.Steps.{inside-by, unlink-steps}
 use borrow.Author.Needs.{needs}
 use Rattle.ring.proofs.unlink.Statement.{statement}
 use Rattle.ring.proofs.unlink.Tie as tie
@@ -26,7 +27,11 @@ same-length : tie.Need-same-length
 same-length c = search needs
 
 returns : tie.Need-returns
-returns c = (cc, cc)
+returns c =
+    let j = c .before .before in
+    let n = j .before .before in
+    let p = n .before .before in
+    unlink-steps _ _ _ _ (p .prev .ensures) (n .next .ensures) (j .join .ensures)
 
 pub unlink-spec : {M : Type 1} → statement M
 unlink-spec = tie.close (tie.spec prev-requires next-requires join-requires same-length returns)
