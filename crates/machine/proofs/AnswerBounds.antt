@@ -32,7 +32,7 @@ use Rattle.machine.specs.Codes.{
   markMissing,
   atAnEnd,
   sideOutside,
-  silentWay,
+  nothingToRange,
   refusal,
 }
 use Rattle.machine.specs.Machine.{Sort, changes, sets, drops, undoes, redoes, goes, commits, asks, sortOf, asked, numberBy, answer, answers, step}
@@ -68,7 +68,7 @@ code-le w m x =
     (either 16 (markMissing m x) 13 _ (omega arith)
     (either 16 (atAnEnd m x) 14 _ (omega arith)
     (either 16 (sideOutside x) 15 _ (omega arith)
-    (either 16 (silentWay (present m) x) 16 0 (omega arith) (omega arith))))))))))))))))
+    (either 16 (nothingToRange (present m) x) 16 0 (omega arith) (omega arith))))))))))))))))
 
 -- ---- numbers
 
