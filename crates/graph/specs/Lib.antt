@@ -3,3 +3,4 @@ pub mod WellFormed
 pub mod Changes
 pub mod Edits
 pub mod Plans
+pub mod Questions

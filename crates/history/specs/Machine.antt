@@ -1,0 +1,121 @@
+-- The state of the plain machine, and what each sort of history call makes of it.
+use Prim.Native.Nat.{ℕ, zero, suc, _+_, _-_}
+use mathlib.Core.Bool.{Bool, true, false}
+use mathlib.Core.List.{List, [], _∷_, _++_, map}
+use lib.ListN.{length, take}
+use lib.Dec.{ltb}
+use Rattle.lists.specs.Choice.{_⇒_else_, _==_}
+use Rattle.lists.specs.Lists.{keep, upto, total}
+use Rattle.graph.specs.Graph.{Graph}
+
+-- "each G1 to Gm with the cost of the step that made it"
+pub record Step : Type 0 where
+  pub cost : ℕ
+  pub graph : Graph
+
+-- "charts G0 to Gm .. a place p"
+pub record Timeline : Type 0 where
+  pub start : Graph
+  pub steps : List Step
+  pub place : ℕ
+
+-- "for each standing mark a place"
+pub data Standing : Type 0 where
+  gone : Standing
+  at : ℕ → Standing
+
+-- "Its state is charts G0 to Gm, each G1 to Gm with the cost of the step that made it, a place p, and for each standing
+-- mark a place."
+pub record Machine : Type 0 where
+  pub line : Timeline
+  pub marks : ℕ → Standing
+
+-- ---- the timeline
+
+abbrev pub begun : Graph → Timeline
+begun g = record { start = g; steps = []; place = 0 }
+
+-- Gi, from G0 and the steps
+abbrev pub graphAt : ℕ → Graph → List Step → Graph
+graphAt zero g ss = g
+graphAt (suc i) g [] = g
+graphAt (suc i) g (s ∷ ss) = graphAt i (s .graph) ss
+
+-- Gp
+abbrev pub current : Timeline → Graph
+current t = graphAt (t .place) (t .start) (t .steps)
+
+-- "Undo and redo move p by 1." "Go to mark sets p."
+abbrev pub placed : ℕ → Timeline → Timeline
+placed p t = record { start = t .start; steps = t .steps; place = p }
+
+-- "An accepted change f cuts the charts after p .., adds f(Gp), and p grows by 1."
+abbrev pub extended : Step → Timeline → Timeline
+extended s t = record { start = t .start; steps = take (t .place) (t .steps) ++ (s ∷ []); place = suc (t .place) }
+
+abbrev pub costs : List Step → ℕ
+costs ss = total (map (λ (s : Step). s .cost) ss)
+
+-- "Free changes are the capacity less the costs of steps 1 to p"
+abbrev pub freeOf : ℕ → Timeline → ℕ
+freeOf capacity t = capacity - costs (take (t .place) (t .steps))
+
+-- "the steps between two places are their distance"
+abbrev pub distance : ℕ → ℕ → ℕ
+distance p q = (p - q) + (q - p)
+
+-- ---- marks
+
+abbrev pub noMarks : ℕ → Standing
+noMarks k = gone
+
+abbrev pub stands : Standing → Bool
+stands gone = false
+stands (at q) = true
+
+-- the place of a standing mark; where it does not stand, the other
+abbrev pub placeOr : ℕ → Standing → ℕ
+placeOr other gone = other
+placeOr other (at q) = q
+
+abbrev pub marked : ℕ → Standing → (ℕ → Standing) → ℕ → Standing
+marked n s ms k = (k == n) ⇒ s else ms k
+
+-- a change at place p cuts "the marks whose place is above p"
+abbrev pub cut : ℕ → Standing → Standing
+cut p gone = gone
+cut p (at q) = ltb p q ⇒ gone else at q
+
+abbrev pub cutMarks : ℕ → (ℕ → Standing) → ℕ → Standing
+cutMarks p ms k = cut p (ms k)
+
+-- "50 how many marks stand": marks are numbered from 1 to 64
+unfoldable pub standing : (ℕ → Standing) → ℕ
+standing ms = length (keep (λ n. stands (ms (suc n))) (upto 64))
+
+-- ---- the machine
+
+-- "Fresh is one chart (the start chart), p = 0, no marks."
+abbrev pub fresh : Graph → Machine
+fresh g = record { line = begun g; marks = noMarks }
+
+abbrev pub present : Machine → Graph
+present m = current (m .line)
+
+-- an accepted change that makes s
+abbrev pub changes : Step → Machine → Machine
+changes s m = record { line = extended s (m .line); marks = cutMarks (m .line .place) (m .marks) }
+
+abbrev pub moves : ℕ → Machine → Machine
+moves p m = record { line = placed p (m .line); marks = m .marks }
+
+-- "Set mark records p."
+abbrev pub sets : ℕ → Machine → Machine
+sets n m = record { line = m .line; marks = marked n (at (m .line .place)) (m .marks) }
+
+abbrev pub drops : ℕ → Machine → Machine
+drops n m = record { line = m .line; marks = marked n gone (m .marks) }
+
+-- "Commit keeps Gp alone, as G0, p = 0, no marks."
+abbrev pub commits : Machine → Machine
+commits m = fresh (present m)

@@ -1,0 +1,1 @@
+// The history layer. Its state and operations are in specs/.

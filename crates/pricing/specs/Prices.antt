@@ -1,0 +1,50 @@
+-- The price list: range and grade of a pair.
+use Prim.Native.Nat.{ℕ, _/_, min, max}
+use mathlib.Core.Bool.{Bool, true, false, _&&_, _||_}
+use mathlib.Core.List.{List, [], _∷_, _++_}
+use Rattle.lists.specs.Choice.{_⇒_else_, _==_}
+use Rattle.lists.specs.Lists.{each}
+use Rattle.graph.specs.declared.Reading.{Reading}
+use Rattle.graph.specs.declared.Reading.the-variants.{Untested, Silent, Heard}
+use Rattle.graph.specs.Graph.{Edge, Graph}
+
+-- the decimetres of a heard reading
+abbrev pub heardIn : Reading → List ℕ
+heardIn Untested = []
+heardIn Silent = []
+heardIn (Heard d) = d ∷ []
+
+-- the heard decimetres "on edges from a to b"
+unfoldable pub heard : Graph → ℕ → ℕ → List ℕ
+heard g a b = each (λ (e : Edge). ((e .alpha == a) && (e .omega == b)) ⇒ heardIn (e .reading) else []) (g .eseq)
+
+abbrev pub isNone : List ℕ → Bool
+isNone [] = true
+isNone (d ∷ ds) = false
+
+abbrev pub largest : List ℕ → ℕ
+largest [] = 0
+largest (d ∷ ds) = max d (largest ds)
+
+-- "One way is the largest heard decimetres on edges from a to b"
+unfoldable pub oneWay : Graph → ℕ → ℕ → ℕ
+unfolding heard
+oneWay g a b = largest (heard g a b)
+
+-- code 16: "a way has nothing heard"
+unfoldable pub nothingHeard : Graph → ℕ → ℕ → Bool
+unfolding heard
+nothingHeard g a b = isNone (heard g a b) || isNone (heard g b a)
+
+-- "two-way is the smaller of both ways; a may equal b"
+unfoldable pub twoWay : Graph → ℕ → ℕ → ℕ
+unfolding oneWay
+twoWay g a b = min (oneWay g a b) (oneWay g b a)
+
+-- "54 grade: that range ÷ 250, rounded down."
+abbrev pub gradeOf : ℕ → ℕ
+gradeOf range = range / 250
+
+unfoldable pub grade : Graph → ℕ → ℕ → ℕ
+unfolding twoWay
+grade g a b = gradeOf (twoWay g a b)

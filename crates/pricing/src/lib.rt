@@ -1,0 +1,1 @@
+// The price list layer. Its definitions are in specs/.
