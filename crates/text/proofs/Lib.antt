@@ -5,3 +5,4 @@ pub mod Numbers
 pub mod Lines
 pub mod Scans
 pub mod Verdicts
+pub mod Texts
