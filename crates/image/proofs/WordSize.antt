@@ -1,22 +1,21 @@
 -- Every saved word is below 2^32.
-use Prim.Native.Nat.{ℕ, zero, suc, _+_, _*_, _/_, _^_, _≤_, _<_}
-use mathlib.Core.Path.{_≡_, refl, sym, ap, _∙_, subst}
-use mathlib.Core.Bool.{Bool, true, false, _&&_, _||_}
-use mathlib.Core.List.{List, [], _∷_, _++_, map}
+use Prim.Native.Nat.{ℕ, zero, suc, _+_, _^_, _≤_, _<_}
+use mathlib.Core.Path.{_≡_, refl, subst}
+use mathlib.Core.Bool.{Bool, true, false, _||_}
+use mathlib.Core.List.{List, [], _∷_, _++_}
 use native.Mathlib.Omega.{arith}
-use lib.Dec.{leb, ltb}
 use lib.ListN.{length, getD}
 use borrow.Author.Tests.{ltb-true, leb-true, eqb-true}
 use Rattle.lists.specs.Choice.{_⇒_else_, _==_, bit}
-use Rattle.lists.specs.Lists.{any, all, has, count, each, All, done, more}
-use Rattle.lists.proofs.Bools.{ft, or-true, and-true}
-use Rattle.lists.proofs.Sums.{all-append, all-bool, sum-append}
+use Rattle.lists.specs.Lists.{any, all, count, each, All, done, more}
+use Rattle.lists.proofs.Bools.{ft, and-true}
+use Rattle.lists.proofs.Sums.{all-append, all-bool}
 use Rattle.graph.specs.declared.Reading.{Reading}
 use Rattle.graph.specs.declared.Reading.the-variants.{Untested, Silent, Heard}
 use Rattle.graph.specs.Graph.{Vertex, Edge, Graph, isVertex, hasVertex, readingKind, decimetres, isReading, outWord, inWord}
 use Rattle.graph.specs.WellFormed.{Bounds, wordsOf, wordsAt, soundVertex, soundEdge, wellFormed}
 use Rattle.image.specs.Image.{vertexRecord, edgeRecord, incidencesOf, vertexOffset, edgeOffset, incidenceOffset, imageLength, save}
-use Rattle.image.proofs.Formed.{Formed, formed, within-le, vertex-facts, edge-facts}
+use Rattle.image.proofs.Formed.{formed, within-le, vertex-facts, edge-facts}
 use Rattle.image.proofs.Counts.{self-one}
 use Rattle.image.proofs.Room.{few-vertices, few-edges}
 
