@@ -1,8 +1,7 @@
 // Runs the text functions on examples whose answers were worked out by hand from document 01: a line of output for each.
 use libc::STDOUT_FILENO;
 use text::ReadVerdict;
-ghost use mathlib.Core.Path.{_≡_};
-ghost use Prim.Native.Nat.{_≤_, _+_};
+ghost use Prim.Native.Nat.{_≤_};
 ghost use lib.ListN.{length};
 
 fn report(good: bool, name: &[u8]) {
