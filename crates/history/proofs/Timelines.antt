@@ -1,11 +1,15 @@
 -- What a change leaves of the steps, the graphs, the costs and the marks.
-use Prim.Native.Nat.{ℕ, zero, suc, _+_, _-_, _≤_, _<_}
-use mathlib.Core.Path.{_≡_, refl, sym}
+use Prim.Native.Nat.{ℕ, zero, suc, _+_, _-_, _≤_}
+use mathlib.Core.Path.{_≡_, refl}
+use mathlib.Core.Logic.{_↔_}
+use mathlib.Core.Bool.{Bool, true, false}
 use mathlib.Core.List.{List, [], _∷_, _++_}
 use native.Mathlib.Omega.{arith}
+use lib.Dec.{ltb}
 use lib.ListN.{length, take, length-append}
 use lib.Seq.{length-take-le}
-use borrow.Author.Tests.{lt-ltb, le-ltb}
+use borrow.Author.Tests.{ltb-false, le-ltb}
+use Rattle.lists.specs.Choice.{_⇒_else_}
 use Rattle.graph.specs.Graph.{Graph}
 use Rattle.history.specs.Machine.{Step, Machine, gone, at, graphAt, costs, freeOf, cut, present, changes, moves}
 
@@ -59,9 +63,11 @@ module _ (s : Step) (m : Machine) (h : m .line .place ≤ length (m .line .steps
   pub change-free : (capacity : ℕ) → freeOf capacity (changes s m .line) ≡ freeOf capacity (m .line) - s .cost
   change-free capacity = omega (arith, costs-new (m .line .place) (m .line .steps) s h)
 
--- "the marks whose place is above p" go, and a mark at p stays
-pub cut-above : (p q : ℕ) → p < q → cut p (at q) ≡ gone
-cut-above p q h = rw (lt-ltb p q h)
+-- ---- "the marks whose place is above p" are cut, and no other: a mark at p stays
 
-pub cut-kept : (p q : ℕ) → q ≤ p → cut p (at q) ≡ at q
-cut-kept p q h = rw (le-ltb p q h)
+pub cut-keeps : (p q : ℕ) → (cut p (at q) ≡ at q) ↔ (q ≤ p)
+cut-keeps p q = (λ e. go (ltb p q) refl e, λ h. rw (le-ltb p q h))
+  where
+    go : (t : Bool) → ltb p q ≡ t → (t ⇒ gone else at q) ≡ at q → q ≤ p
+    go true f e = absurd (let z : _≡_ {A = ℕ} 0 1 = cc in omega arith)
+    go false f e = ltb-false p q f

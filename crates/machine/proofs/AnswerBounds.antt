@@ -32,7 +32,7 @@ use Rattle.machine.specs.Codes.{
   markMissing,
   atAnEnd,
   sideOutside,
-  silentWay,
+  nothingToRange,
   refusal,
 }
 use Rattle.machine.specs.Machine.{Sort, changes, sets, drops, undoes, redoes, goes, commits, asks, sortOf, asked, numberBy, answer, answers, step}
@@ -68,7 +68,7 @@ code-le w m x =
     (either 16 (markMissing m x) 13 _ (omega arith)
     (either 16 (atAnEnd m x) 14 _ (omega arith)
     (either 16 (sideOutside x) 15 _ (omega arith)
-    (either 16 (silentWay (present m) x) 16 0 (omega arith) (omega arith))))))))))))))))
+    (either 16 (nothingToRange (present m) x) 16 0 (omega arith) (omega arith))))))))))))))))
 
 -- ---- numbers
 
@@ -164,8 +164,11 @@ calls-fit (more a (more b done)) = done
 calls-fit (more a (more b (more c done))) = done
 calls-fit (more a (more b (more c (more d done)))) = done
 
--- every answer word of a list that is not refused
+-- what a list that is not refused begins with
+pub begins-invariant : (l : Lent) → listRefusal l ≡ 0 → Invariant (worldOf l) (begins l)
+begins-invariant l e = fresh-invariant (worldOf l) (load (l .start)) (start-formed l e)
+
+-- every answer word of it
 pub run-answers-fit : (l : Lent) → listRefusal l ≡ 0 → All Word (l .calls) →
     All Word (answerWords (answers (worldOf l) (begins l) (callsOf (l .calls))))
-run-answers-fit l e f =
-    answers-fit (worldOf l) (begins l) (callsOf (l .calls)) (passed l e .limits) (fresh-invariant (worldOf l) (load (l .start)) (start-formed l e)) (calls-fit f)
+run-answers-fit l e f = answers-fit (worldOf l) (begins l) (callsOf (l .calls)) (passed l e .limits) (begins-invariant l e) (calls-fit f)

@@ -13,3 +13,4 @@ pub mod Invariant
 pub mod ListRows
 pub mod AnswerBounds
 pub mod Ends
+pub mod Lowest

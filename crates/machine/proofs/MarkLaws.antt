@@ -21,7 +21,7 @@ use Rattle.machine.specs.Marks.{Event, eventOf, events, setsBy, setsMark
 use Rattle.machine.proofs.Sorts.{code-is, accepted-step, refused-step, not-refused, Kind, kind-of, ofKind, call-is}
 use Rattle.machine.proofs.Stands.{gone-at, at-at, cut-at, set-to, drop-to, Stood, no-head, no-tail, last-to, kept-from}
 
--- ---- the places stay within the graphs, and a kept place keeps its chart
+-- ---- the places stay within the graphs, and a kept place keeps its graph
 
 pub record Sane (m : Machine) : Type 0 where
   pub place-in : m .line .place ≤ length (m .line .steps)
