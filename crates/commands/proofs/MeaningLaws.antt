@@ -32,7 +32,7 @@ use Rattle.graph.specs.declared.Change.the-variants.{
 use Rattle.graph.specs.Graph.{hasVertex, hasEdge, edgeOf, this, isReading}
 use Rattle.graph.specs.Changes.{changed, cost}
 use Rattle.machine.specs.Calls.{Call, World, known, changeOf}
-use Rattle.machine.specs.Codes.{free, refusal, noRoom, silentWay}
+use Rattle.machine.specs.Codes.{free, refusal, noRoom, nothingToRange}
 use Rattle.machine.specs.Machine.{Answer, sortOf, numberBy, asked, nextBy, stepBy, answer, step}
 use Rattle.machine.proofs.Sorts.{ofKind, call-is}
 use Rattle.commands.specs.declared.Command.{Command}
@@ -74,191 +74,191 @@ record Meant (w : World) (m : Machine) (x : Call) : Type 0 where
 
 module _ (w : World) (m : Machine) (x : Call) where
   of-1 : Meant w m (ofKind 1 x)
-  unfolding ofKind refusal noRoom silentWay sortOf numberBy asked nextBy stepBy changeOf historyOf questionOf commandOf
+  unfolding ofKind refusal noRoom nothingToRange sortOf numberBy asked nextBy stepBy changeOf historyOf questionOf commandOf
   of-1 = record { code = simp or-false (three (not (within 1 (w .vertices) (x .a))) (hasVertex (present m) (x .a)) (leb (length (w .rows)) (x .b)) 1 2 5 (roomCode (free w m) (cost (CreateVertex (x .a) (x .b) (x .c)) (present m)))); number = λ z. refl; next = λ z. refl }
 
   of-2 : Meant w m (ofKind 2 x)
-  unfolding ofKind refusal noRoom silentWay sortOf numberBy asked nextBy stepBy changeOf historyOf questionOf commandOf
+  unfolding ofKind refusal noRoom nothingToRange sortOf numberBy asked nextBy stepBy changeOf historyOf questionOf commandOf
   of-2 = record { code = simp or-false (one (not (hasVertex (present m) (x .a))) 3 (roomCode (free w m) (cost (DeleteVertex (x .a)) (present m)))); number = λ z. refl; next = λ z. refl }
 
   of-3 : Meant w m (ofKind 3 x)
-  unfolding ofKind refusal noRoom silentWay sortOf numberBy asked nextBy stepBy changeOf historyOf questionOf commandOf
+  unfolding ofKind refusal noRoom nothingToRange sortOf numberBy asked nextBy stepBy changeOf historyOf questionOf commandOf
   of-3 = record { code = simp or-false (four (not (within 1 (w .edges) (x .a))) (hasEdge (present m) (x .a)) (not (hasVertex (present m) (x .b)) || not (hasVertex (present m) (x .c))) (leb (length (w .rows)) (x .d)) 1 2 3 5 (roomCode (free w m) (cost (CreateEdge (x .a) (x .b) (x .c) (x .d)) (present m)))); number = λ z. refl; next = λ z. refl }
 
   of-4 : Meant w m (ofKind 4 x)
-  unfolding ofKind refusal noRoom silentWay sortOf numberBy asked nextBy stepBy changeOf historyOf questionOf commandOf
+  unfolding ofKind refusal noRoom nothingToRange sortOf numberBy asked nextBy stepBy changeOf historyOf questionOf commandOf
   of-4 = record { code = simp or-false (one (not (hasEdge (present m) (x .a))) 4 (roomCode (free w m) (cost (DeleteEdge (x .a)) (present m)))); number = λ z. refl; next = λ z. refl }
 
   of-5 : Meant w m (ofKind 5 x)
-  unfolding ofKind refusal noRoom silentWay sortOf numberBy asked nextBy stepBy changeOf historyOf questionOf commandOf
+  unfolding ofKind refusal noRoom nothingToRange sortOf numberBy asked nextBy stepBy changeOf historyOf questionOf commandOf
   of-5 = record { code = simp or-false (two (not (hasVertex (present m) (x .a))) (leb (length (w .rows)) (x .b)) 3 5 (roomCode (free w m) (cost (RetypeVertex (x .a) (x .b)) (present m)))); number = λ z. refl; next = λ z. refl }
 
   of-6 : Meant w m (ofKind 6 x)
-  unfolding ofKind refusal noRoom silentWay sortOf numberBy asked nextBy stepBy changeOf historyOf questionOf commandOf
+  unfolding ofKind refusal noRoom nothingToRange sortOf numberBy asked nextBy stepBy changeOf historyOf questionOf commandOf
   of-6 = record { code = simp or-false (two (not (hasEdge (present m) (x .a))) (leb (length (w .rows)) (x .b)) 4 5 (roomCode (free w m) (cost (RetypeEdge (x .a) (x .b)) (present m)))); number = λ z. refl; next = λ z. refl }
 
   of-7 : Meant w m (ofKind 7 x)
-  unfolding ofKind refusal noRoom silentWay sortOf numberBy asked nextBy stepBy changeOf historyOf questionOf commandOf
+  unfolding ofKind refusal noRoom nothingToRange sortOf numberBy asked nextBy stepBy changeOf historyOf questionOf commandOf
   of-7 = record { code = simp or-false (one (not (hasVertex (present m) (x .a))) 3 (roomCode (free w m) (cost (SetValue (x .a) (x .b)) (present m)))); number = λ z. refl; next = λ z. refl }
 
   of-8 : Meant w m (ofKind 8 x)
-  unfolding ofKind refusal noRoom silentWay sortOf numberBy asked nextBy stepBy changeOf historyOf questionOf commandOf
+  unfolding ofKind refusal noRoom nothingToRange sortOf numberBy asked nextBy stepBy changeOf historyOf questionOf commandOf
   of-8 = record { code = simp or-false (two (not (hasEdge (present m) (x .a))) (not (isReading (x .b) (x .c))) 4 6 (roomCode (free w m) (cost (SetReading (x .a) (x .b) (x .c)) (present m)))); number = λ z. refl; next = λ z. refl }
 
   of-9 : Meant w m (ofKind 9 x)
-  unfolding ofKind refusal noRoom silentWay sortOf numberBy asked nextBy stepBy changeOf historyOf questionOf commandOf
+  unfolding ofKind refusal noRoom nothingToRange sortOf numberBy asked nextBy stepBy changeOf historyOf questionOf commandOf
   of-9 = record { code = simp or-false (two (not (hasVertex (present m) (x .b))) (not (hasEdge (present m) (x .a))) 3 4 (roomCode (free w m) (cost (SetAlpha (x .a) (x .b)) (present m)))); number = λ z. refl; next = λ z. refl }
 
   of-10 : Meant w m (ofKind 10 x)
-  unfolding ofKind refusal noRoom silentWay sortOf numberBy asked nextBy stepBy changeOf historyOf questionOf commandOf
+  unfolding ofKind refusal noRoom nothingToRange sortOf numberBy asked nextBy stepBy changeOf historyOf questionOf commandOf
   of-10 = record { code = simp or-false (two (not (hasVertex (present m) (x .b))) (not (hasEdge (present m) (x .a))) 3 4 (roomCode (free w m) (cost (SetOmega (x .a) (x .b)) (present m)))); number = λ z. refl; next = λ z. refl }
 
   of-11 : Meant w m (ofKind 11 x)
-  unfolding ofKind refusal noRoom silentWay sortOf numberBy asked nextBy stepBy changeOf historyOf questionOf commandOf
+  unfolding ofKind refusal noRoom nothingToRange sortOf numberBy asked nextBy stepBy changeOf historyOf questionOf commandOf
   of-11 = record { code = simp or-false (two (not (hasVertex (present m) (x .a)) || not (hasVertex (present m) (x .b))) (x .a == x .b) 3 8 (roomCode (free w m) (cost (VertexBefore (x .a) (x .b)) (present m)))); number = λ z. refl; next = λ z. refl }
 
   of-12 : Meant w m (ofKind 12 x)
-  unfolding ofKind refusal noRoom silentWay sortOf numberBy asked nextBy stepBy changeOf historyOf questionOf commandOf
+  unfolding ofKind refusal noRoom nothingToRange sortOf numberBy asked nextBy stepBy changeOf historyOf questionOf commandOf
   of-12 = record { code = simp or-false (two (not (hasVertex (present m) (x .a)) || not (hasVertex (present m) (x .b))) (x .a == x .b) 3 8 (roomCode (free w m) (cost (VertexAfter (x .a) (x .b)) (present m)))); number = λ z. refl; next = λ z. refl }
 
   of-13 : Meant w m (ofKind 13 x)
-  unfolding ofKind refusal noRoom silentWay sortOf numberBy asked nextBy stepBy changeOf historyOf questionOf commandOf
+  unfolding ofKind refusal noRoom nothingToRange sortOf numberBy asked nextBy stepBy changeOf historyOf questionOf commandOf
   of-13 = record { code = simp or-false (two (not (hasEdge (present m) (x .a)) || not (hasEdge (present m) (x .b))) (x .a == x .b) 4 8 (roomCode (free w m) (cost (EdgeBefore (x .a) (x .b)) (present m)))); number = λ z. refl; next = λ z. refl }
 
   of-14 : Meant w m (ofKind 14 x)
-  unfolding ofKind refusal noRoom silentWay sortOf numberBy asked nextBy stepBy changeOf historyOf questionOf commandOf
+  unfolding ofKind refusal noRoom nothingToRange sortOf numberBy asked nextBy stepBy changeOf historyOf questionOf commandOf
   of-14 = record { code = simp or-false (two (not (hasEdge (present m) (x .a)) || not (hasEdge (present m) (x .b))) (x .a == x .b) 4 8 (roomCode (free w m) (cost (EdgeAfter (x .a) (x .b)) (present m)))); number = λ z. refl; next = λ z. refl }
 
   of-15 : Meant w m (ofKind 15 x)
-  unfolding ofKind refusal noRoom silentWay sortOf numberBy asked nextBy stepBy changeOf historyOf questionOf commandOf
+  unfolding ofKind refusal noRoom nothingToRange sortOf numberBy asked nextBy stepBy changeOf historyOf questionOf commandOf
   of-15 = record { code = simp or-false (three (not (hasEdge (present m) (edgeOf (x .a))) || not (hasEdge (present m) (edgeOf (x .b)))) (not (this (present m) (x .a) == this (present m) (x .b))) (x .a == x .b) 4 7 8 (roomCode (free w m) (cost (WordBefore (x .a) (x .b)) (present m)))); number = λ z. refl; next = λ z. refl }
 
   of-16 : Meant w m (ofKind 16 x)
-  unfolding ofKind refusal noRoom silentWay sortOf numberBy asked nextBy stepBy changeOf historyOf questionOf commandOf
+  unfolding ofKind refusal noRoom nothingToRange sortOf numberBy asked nextBy stepBy changeOf historyOf questionOf commandOf
   of-16 = record { code = simp or-false (three (not (hasEdge (present m) (edgeOf (x .a))) || not (hasEdge (present m) (edgeOf (x .b)))) (not (this (present m) (x .a) == this (present m) (x .b))) (x .a == x .b) 4 7 8 (roomCode (free w m) (cost (WordAfter (x .a) (x .b)) (present m)))); number = λ z. refl; next = λ z. refl }
 
   of-17 : Meant w m (ofKind 17 x)
-  unfolding ofKind refusal noRoom silentWay sortOf numberBy asked nextBy stepBy changeOf historyOf questionOf commandOf
+  unfolding ofKind refusal noRoom nothingToRange sortOf numberBy asked nextBy stepBy changeOf historyOf questionOf commandOf
   of-17 = record { code = simp or-false; number = λ z. refl; next = λ z. refl }
 
   of-18 : Meant w m (ofKind 18 x)
-  unfolding ofKind refusal noRoom silentWay sortOf numberBy asked nextBy stepBy changeOf historyOf questionOf commandOf
+  unfolding ofKind refusal noRoom nothingToRange sortOf numberBy asked nextBy stepBy changeOf historyOf questionOf commandOf
   of-18 = record { code = simp or-false; number = λ z. refl; next = λ z. refl }
 
   of-19 : Meant w m (ofKind 19 x)
-  unfolding ofKind refusal noRoom silentWay sortOf numberBy asked nextBy stepBy changeOf historyOf questionOf commandOf
+  unfolding ofKind refusal noRoom nothingToRange sortOf numberBy asked nextBy stepBy changeOf historyOf questionOf commandOf
   of-19 = record { code = simp or-false; number = λ z. refl; next = λ z. refl }
 
   of-20 : Meant w m (ofKind 20 x)
-  unfolding ofKind refusal noRoom silentWay sortOf numberBy asked nextBy stepBy changeOf historyOf questionOf commandOf
+  unfolding ofKind refusal noRoom nothingToRange sortOf numberBy asked nextBy stepBy changeOf historyOf questionOf commandOf
   of-20 = record { code = refl; number = λ z. refl; next = λ z. refl }
 
   of-21 : Meant w m (ofKind 21 x)
-  unfolding ofKind refusal noRoom silentWay sortOf numberBy asked nextBy stepBy changeOf historyOf questionOf commandOf
+  unfolding ofKind refusal noRoom nothingToRange sortOf numberBy asked nextBy stepBy changeOf historyOf questionOf commandOf
   of-21 = record { code = simp or-false; number = λ z. refl; next = λ z. refl }
 
   of-22 : Meant w m (ofKind 22 x)
-  unfolding ofKind refusal noRoom silentWay sortOf numberBy asked nextBy stepBy changeOf historyOf questionOf commandOf
+  unfolding ofKind refusal noRoom nothingToRange sortOf numberBy asked nextBy stepBy changeOf historyOf questionOf commandOf
   of-22 = record { code = refl; number = λ z. refl; next = λ z. refl }
 
   of-30 : Meant w m (ofKind 30 x)
-  unfolding ofKind refusal noRoom silentWay sortOf numberBy asked nextBy stepBy changeOf historyOf questionOf commandOf
+  unfolding ofKind refusal noRoom nothingToRange sortOf numberBy asked nextBy stepBy changeOf historyOf questionOf commandOf
   of-30 = record { code = refl; number = λ z. refl; next = λ z. refl }
 
   of-31 : Meant w m (ofKind 31 x)
-  unfolding ofKind refusal noRoom silentWay sortOf numberBy asked nextBy stepBy changeOf historyOf questionOf commandOf
+  unfolding ofKind refusal noRoom nothingToRange sortOf numberBy asked nextBy stepBy changeOf historyOf questionOf commandOf
   of-31 = record { code = simp or-false; number = λ z. refl; next = λ z. refl }
 
   of-32 : Meant w m (ofKind 32 x)
-  unfolding ofKind refusal noRoom silentWay sortOf numberBy asked nextBy stepBy changeOf historyOf questionOf commandOf
+  unfolding ofKind refusal noRoom nothingToRange sortOf numberBy asked nextBy stepBy changeOf historyOf questionOf commandOf
   of-32 = record { code = refl; number = λ z. refl; next = λ z. refl }
 
   of-33 : Meant w m (ofKind 33 x)
-  unfolding ofKind refusal noRoom silentWay sortOf numberBy asked nextBy stepBy changeOf historyOf questionOf commandOf
+  unfolding ofKind refusal noRoom nothingToRange sortOf numberBy asked nextBy stepBy changeOf historyOf questionOf commandOf
   of-33 = record { code = simp or-false; number = λ z. refl; next = λ z. refl }
 
   of-34 : Meant w m (ofKind 34 x)
-  unfolding ofKind refusal noRoom silentWay sortOf numberBy asked nextBy stepBy changeOf historyOf questionOf commandOf
+  unfolding ofKind refusal noRoom nothingToRange sortOf numberBy asked nextBy stepBy changeOf historyOf questionOf commandOf
   of-34 = record { code = simp or-false; number = λ z. refl; next = λ z. refl }
 
   of-35 : Meant w m (ofKind 35 x)
-  unfolding ofKind refusal noRoom silentWay sortOf numberBy asked nextBy stepBy changeOf historyOf questionOf commandOf
+  unfolding ofKind refusal noRoom nothingToRange sortOf numberBy asked nextBy stepBy changeOf historyOf questionOf commandOf
   of-35 = record { code = simp or-false; number = λ z. refl; next = λ z. refl }
 
   of-36 : Meant w m (ofKind 36 x)
-  unfolding ofKind refusal noRoom silentWay sortOf numberBy asked nextBy stepBy changeOf historyOf questionOf commandOf
+  unfolding ofKind refusal noRoom nothingToRange sortOf numberBy asked nextBy stepBy changeOf historyOf questionOf commandOf
   of-36 = record { code = simp or-false; number = λ z. refl; next = λ z. refl }
 
   of-37 : Meant w m (ofKind 37 x)
-  unfolding ofKind refusal noRoom silentWay sortOf numberBy asked nextBy stepBy changeOf historyOf questionOf commandOf
+  unfolding ofKind refusal noRoom nothingToRange sortOf numberBy asked nextBy stepBy changeOf historyOf questionOf commandOf
   of-37 = record { code = simp or-false; number = λ z. refl; next = λ z. refl }
 
   of-38 : Meant w m (ofKind 38 x)
-  unfolding ofKind refusal noRoom silentWay sortOf numberBy asked nextBy stepBy changeOf historyOf questionOf commandOf
+  unfolding ofKind refusal noRoom nothingToRange sortOf numberBy asked nextBy stepBy changeOf historyOf questionOf commandOf
   of-38 = record { code = simp or-false; number = λ z. refl; next = λ z. refl }
 
   of-39 : Meant w m (ofKind 39 x)
-  unfolding ofKind refusal noRoom silentWay sortOf numberBy asked nextBy stepBy changeOf historyOf questionOf commandOf
+  unfolding ofKind refusal noRoom nothingToRange sortOf numberBy asked nextBy stepBy changeOf historyOf questionOf commandOf
   of-39 = record { code = simp or-false; number = λ z. refl; next = λ z. refl }
 
   of-40 : Meant w m (ofKind 40 x)
-  unfolding ofKind refusal noRoom silentWay sortOf numberBy asked nextBy stepBy changeOf historyOf questionOf commandOf
+  unfolding ofKind refusal noRoom nothingToRange sortOf numberBy asked nextBy stepBy changeOf historyOf questionOf commandOf
   of-40 = record { code = simp or-false; number = λ z. refl; next = λ z. refl }
 
   of-41 : Meant w m (ofKind 41 x)
-  unfolding ofKind refusal noRoom silentWay sortOf numberBy asked nextBy stepBy changeOf historyOf questionOf commandOf
+  unfolding ofKind refusal noRoom nothingToRange sortOf numberBy asked nextBy stepBy changeOf historyOf questionOf commandOf
   of-41 = record { code = simp or-false; number = λ z. refl; next = λ z. refl }
 
   of-42 : Meant w m (ofKind 42 x)
-  unfolding ofKind refusal noRoom silentWay sortOf numberBy asked nextBy stepBy changeOf historyOf questionOf commandOf
+  unfolding ofKind refusal noRoom nothingToRange sortOf numberBy asked nextBy stepBy changeOf historyOf questionOf commandOf
   of-42 = record { code = simp or-false; number = λ z. refl; next = λ z. refl }
 
   of-43 : Meant w m (ofKind 43 x)
-  unfolding ofKind refusal noRoom silentWay sortOf numberBy asked nextBy stepBy changeOf historyOf questionOf commandOf
+  unfolding ofKind refusal noRoom nothingToRange sortOf numberBy asked nextBy stepBy changeOf historyOf questionOf commandOf
   of-43 = record { code = simp or-false; number = λ z. refl; next = λ z. refl }
 
   of-44 : Meant w m (ofKind 44 x)
-  unfolding ofKind refusal noRoom silentWay sortOf numberBy asked nextBy stepBy changeOf historyOf questionOf commandOf
+  unfolding ofKind refusal noRoom nothingToRange sortOf numberBy asked nextBy stepBy changeOf historyOf questionOf commandOf
   of-44 = record { code = simp or-false; number = λ z. refl; next = λ z. refl }
 
   of-45 : Meant w m (ofKind 45 x)
-  unfolding ofKind refusal noRoom silentWay sortOf numberBy asked nextBy stepBy changeOf historyOf questionOf commandOf
+  unfolding ofKind refusal noRoom nothingToRange sortOf numberBy asked nextBy stepBy changeOf historyOf questionOf commandOf
   of-45 = record { code = simp or-false; number = λ z. refl; next = λ z. refl }
 
   of-46 : Meant w m (ofKind 46 x)
-  unfolding ofKind refusal noRoom silentWay sortOf numberBy asked nextBy stepBy changeOf historyOf questionOf commandOf
+  unfolding ofKind refusal noRoom nothingToRange sortOf numberBy asked nextBy stepBy changeOf historyOf questionOf commandOf
   of-46 = record { code = simp or-false; number = λ z. refl; next = λ z. refl }
 
   of-47 : Meant w m (ofKind 47 x)
-  unfolding ofKind refusal noRoom silentWay sortOf numberBy asked nextBy stepBy changeOf historyOf questionOf commandOf
+  unfolding ofKind refusal noRoom nothingToRange sortOf numberBy asked nextBy stepBy changeOf historyOf questionOf commandOf
   of-47 = record { code = simp or-false; number = λ z. refl; next = λ z. refl }
 
   of-48 : Meant w m (ofKind 48 x)
-  unfolding ofKind refusal noRoom silentWay sortOf numberBy asked nextBy stepBy changeOf historyOf questionOf commandOf
+  unfolding ofKind refusal noRoom nothingToRange sortOf numberBy asked nextBy stepBy changeOf historyOf questionOf commandOf
   of-48 = record { code = simp or-false; number = λ z. refl; next = λ z. refl }
 
   of-49 : Meant w m (ofKind 49 x)
-  unfolding ofKind refusal noRoom silentWay sortOf numberBy asked nextBy stepBy changeOf historyOf questionOf commandOf
+  unfolding ofKind refusal noRoom nothingToRange sortOf numberBy asked nextBy stepBy changeOf historyOf questionOf commandOf
   of-49 = record { code = simp or-false; number = λ z. refl; next = λ z. refl }
 
   of-50 : Meant w m (ofKind 50 x)
-  unfolding ofKind refusal noRoom silentWay sortOf numberBy asked nextBy stepBy changeOf historyOf questionOf commandOf
+  unfolding ofKind refusal noRoom nothingToRange sortOf numberBy asked nextBy stepBy changeOf historyOf questionOf commandOf
   of-50 = record { code = refl; number = λ z. refl; next = λ z. refl }
 
   of-51 : Meant w m (ofKind 51 x)
-  unfolding ofKind refusal noRoom silentWay sortOf numberBy asked nextBy stepBy changeOf historyOf questionOf commandOf
+  unfolding ofKind refusal noRoom nothingToRange sortOf numberBy asked nextBy stepBy changeOf historyOf questionOf commandOf
   of-51 = record { code = refl; number = λ z. refl; next = λ z. refl }
 
   of-52 : Meant w m (ofKind 52 x)
-  unfolding ofKind refusal noRoom silentWay sortOf numberBy asked nextBy stepBy changeOf historyOf questionOf commandOf
+  unfolding ofKind refusal noRoom nothingToRange sortOf numberBy asked nextBy stepBy changeOf historyOf questionOf commandOf
   of-52 = record { code = simp or-false; number = λ z. refl; next = λ z. refl }
 
   of-53 : Meant w m (ofKind 53 x)
-  unfolding ofKind refusal noRoom silentWay sortOf numberBy asked nextBy stepBy changeOf historyOf questionOf commandOf
+  unfolding ofKind refusal noRoom nothingToRange sortOf numberBy asked nextBy stepBy changeOf historyOf questionOf commandOf
   of-53 = record { code = simp or-false; number = λ z. refl; next = λ z. refl }
 
   of-54 : Meant w m (ofKind 54 x)
-  unfolding ofKind refusal noRoom silentWay sortOf numberBy asked nextBy stepBy changeOf historyOf questionOf commandOf
+  unfolding ofKind refusal noRoom nothingToRange sortOf numberBy asked nextBy stepBy changeOf historyOf questionOf commandOf
   of-54 = record { code = simp or-false; number = λ z. refl; next = λ z. refl }
 
   -- ---- any call
