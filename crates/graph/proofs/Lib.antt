@@ -3,3 +3,15 @@ pub mod Incidence
 pub mod Lists
 pub mod Undoes
 pub mod Keeps
+pub mod Numbers
+pub mod Words
+pub mod Facts
+pub mod EditBounds
+pub mod Removals
+pub mod Moves
+pub mod EdgesAt
+pub mod PlanLaws
+pub mod Readings
+pub mod PlanBounds
+pub mod EditLists
+pub mod ChangeLaws

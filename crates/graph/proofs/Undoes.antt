@@ -48,7 +48,7 @@ end-back x u v e h = elim (same? (x % 2) 0) [
       simp pick-no (λ t. record { number = e .number; alpha = e .alpha; omega = sym k t; type = e .type; reading = e .reading })
 ]
 
-graph-path : (g h : Graph) → g .vseq ≡ h .vseq → g .eseq ≡ h .eseq → g ≡ h
+pub graph-path : (g h : Graph) → g .vseq ≡ h .vseq → g .eseq ≡ h .eseq → g ≡ h
 graph-path g h a b = λ i. record { vseq = a i; eseq = b i }
 
 pub undoes : (e : Edit) (g : Graph) → Applies e g → WellFormed g → apply (inverse e) (apply e g) ≡ g

@@ -26,7 +26,7 @@ use Rattle.graph.specs.declared.Change.the-variants.{
 }
 use Rattle.graph.specs.Graph.{Vertex, Edge, Graph, vn, en, wd, vertex, edge, listIn, listOf, this, outWord, inWord, readingOf}
 use Rattle.graph.specs.Changes.{append, detach, edgesAt}
-use Rattle.graph.specs.Edits.{apply}
+use Rattle.graph.specs.Edits.{apply, Applies}
 
 -- the edit that takes edge n out: the in word leaves first
 unfoldable pub removal : ℕ → Graph → Edit
@@ -76,6 +76,11 @@ plan (WordAfter a b) g = wordMove a (this g a) b g
 abbrev pub applyAll : List Edit → Graph → Graph
 applyAll [] g = g
 applyAll (e ∷ es) g = applyAll es (apply e g)
+
+-- each edit applies to what the ones before it left
+abbrev pub AppliesAll : List Edit → Graph → Type 0
+AppliesAll [] g = Unit {0}
+AppliesAll (e ∷ es) g = Applies e g × AppliesAll es (apply e g)
 
 -- the removals of these edges, each on what the ones before it left
 abbrev pub removals : List ℕ → Graph → List Edit

@@ -86,6 +86,10 @@ module _ {A : Type 0} (key : A → ℕ) where
   find-none d k [] h = refl
   find-none d k (y ∷ l) h = rw (pick-no (key y) k, is-zero (key y) k (omega arith)) (find-none d k l (omega arith))
 
+  pub upd-none : (k : ℕ) (f : A → A) (l : List A) → countBy key k l ≡ 0 → upd key k f l ≡ l
+  upd-none k f [] h = refl
+  upd-none k f (y ∷ l) h = rw (pick-no (key y) k, upd-none k f l (omega arith), is-zero (key y) k (omega arith))
+
   -- an update that keeps the keys
   module _ (f : A → A) (kept : (y : A) → key (f y) ≡ key y) where
     pub key-upd : (k : ℕ) (y : A) → key (pick (key y) k (f y) y) ≡ key y
@@ -116,10 +120,6 @@ module _ {A : Type 0} (key : A → ℕ) where
     ])
 
     -- what was updated is put back
-    upd-none : (k : ℕ) (g : A → A) (l : List A) → countBy key k l ≡ 0 → upd key k g l ≡ l
-    upd-none k g [] h = refl
-    upd-none k g (y ∷ l) h = rw (pick-no (key y) k, upd-none k g l (omega arith), is-zero (key y) k (omega arith))
-
     pub upd-back : (d : A) (k : ℕ) (g : A → A) (l : List A) → ((n : ℕ) → countBy key n l ≤ 1) → g (f (find key d k l)) ≡ find key d k l → upd key k g (upd key k f l) ≡ l
     upd-back d k g [] u h = refl
     upd-back d k g (y ∷ l) u h = rw (key-upd k y) (elim (same? (key y) k) [
