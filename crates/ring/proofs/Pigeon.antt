@@ -1,0 +1,52 @@
+-- A list that is held has no more nodes than there are node numbers for the table's words.
+use Prim.Native.Nat.{ℕ, zero, suc, _+_, _-_, _≤_, _<_}
+use mathlib.Core.Path.{_≡_, refl, sym, ap}
+use mathlib.Core.List.{List, [], _∷_, _++_}
+use mathlib.Core.Bool.{Bool, true, false}
+use native.Mathlib.Omega.{arith}
+use lib.ListN.{length}
+use Rattle.lists.specs.Lists.{has}
+use Rattle.ring.specs.declared.Lane.{Lane}
+use Rattle.ring.specs.declared.Ends.{Ends}
+use Rattle.ring.specs.Lists.{Fresh, Distinct, All}
+use Rattle.ring.specs.Links.{addr, Starts, Inside, Held}
+use Rattle.ring.proofs.ListLaws.{Split, split, has-fresh, all-drop, distinct-drop, fresh-mid}
+
+pub length-mid : (u : List ℕ) (x : ℕ) (v : List ℕ) → length (u ++ x ∷ v) ≡ suc (length (u ++ v))
+length-mid [] x v = refl
+length-mid (y ∷ u) x v = ap suc (length-mid u x v)
+
+lower : (n : ℕ) (l : List ℕ) → Fresh n l → All (λ k. k < suc n) l → All (λ k. k < n) l
+lower n [] f h = tt
+lower n (x ∷ l) f h =
+    let a : x < suc n = h .0 in
+    let b : n ≡ x → ⊥ = f .0 in
+    (omega arith, lower n l (f .1) (h .1))
+
+-- the pigeonhole principle: there are at most n distinct numbers below n
+pub pigeon : (n : ℕ) (l : List ℕ) → Distinct l → All (λ k. k < n) l → length l ≤ n
+pigeon zero [] d h = omega arith
+pigeon zero (x ∷ l) d h = let a : x < 0 = h .0 in absurd (omega arith)
+pigeon (suc n) l d h = go (has n l) refl (pigeon n)
+  where
+    go : (b : Bool) → has n l ≡ b → ((l : List ℕ) → Distinct l → All (λ k. k < n) l → length l ≤ n) → length l ≤ suc n
+    go false e r = let a : length l ≤ n = r l d (lower n l (has-fresh n l e) h) in omega arith
+    go true e r = out (split n l e)
+      where
+        out : Split n l → length l ≤ suc n
+        out s =
+            let u = s .before in
+            let v = s .after in
+            let d′ : Distinct (u ++ n ∷ v) = rw (s .whole) at d in
+            let h′ : All (λ k. k < suc n) (u ++ n ∷ v) = rw (s .whole) at h in
+            let a : length (u ++ v) ≤ n =
+            r (u ++ v) (distinct-drop u n v d′) (lower n (u ++ v) (fresh-mid u n v d′) (all-drop (λ k. k < suc n) u n v h′)) in
+            omega (arith, ap length (s .whole), length-mid u n v)
+
+-- a held list has at most m nodes, where every node in the table is below m
+pub held-length : (lane : Lane) (t : List ℕ) (e : Ends) (m : ℕ) (l : List ℕ) → ((x : ℕ) → Starts lane x → addr lane x + 1 < length t → x < m) → Held lane t e l → length l ≤ m
+held-length lane t e m l f h = pigeon m l (h .distinct .1) (go l (h .distinct .0) (h .inside))
+  where
+    go : (l : List ℕ) → Fresh 0 l → All (Inside lane (length t)) l → All (λ k. k < m) l
+    go [] z i = tt
+    go (x ∷ l) z i = let o = i .0 (λ q. z .0 (sym q)) in (f x (o .0) (o .1), go l (z .1) (i .1))

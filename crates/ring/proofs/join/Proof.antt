@@ -1,0 +1,27 @@
+-- `ring::join` meets its contract, by what `put_next` and `put_prev` ensure.
+use mathlib.Core.Path.{refl}
+use Rattle.ring.proofs.Steps.{inside-by, join-steps}
+use borrow.Author.Needs.{needs}
+use Rattle.ring.proofs.join.Statement.{statement}
+use Rattle.ring.proofs.join.Tie as tie
+
+put-next-requires : tie.Need-put-next-requires
+put-next-requires c κs = search needs
+
+put-prev-requires : tie.Need-put-prev-requires
+put-prev-requires c κs =
+    let d = c .before .before .before in
+    let s = d .before .before .before in
+    (s .pre .0, inside-by (s .args .lane) refl (d .put-next .kept .0) (s .pre .1 .1))
+
+same-length : tie.Need-same-length
+same-length c = search needs
+
+returns : tie.Need-returns
+returns c =
+    let b = c .before .before in
+    let a = b .before .before .before .before in
+    join-steps _ _ _ _ _ (a .put-next .ensures) (b .put-prev .ensures)
+
+pub join-spec : {M : Type 1} → statement M
+join-spec = tie.close (tie.spec put-next-requires put-prev-requires same-length returns)
