@@ -10,7 +10,7 @@ use Rattle.graph.specs.declared.Reading.the-variants.{Untested, Silent, Heard}
 use Rattle.graph.specs.declared.Edit.{Edit}
 use Rattle.graph.specs.declared.Edit.the-variants.{InsertVertex, RemoveVertex, InsertEdge, RemoveEdge, SetVertex, SetEdge, MoveVertex, MoveEdge, MoveWord}
 use Rattle.graph.specs.Graph.{readingKind, decimetres, readingOf}
-use Rattle.journal.specs.Rows.{wordsOf, editOf, editAt, storeFrom, rowAt, costAt, rowed}
+use Rattle.journal.specs.Rows.{wordsOf, editOf, editAt, storeFrom, rowAt, costAt, rowed, Below}
 
 -- ---- words stored one after another
 
@@ -70,9 +70,6 @@ edit-at t l q at =
     rw (at 0 (omega arith), at 1 (omega arith), at 2 (omega arith), at 3 (omega arith), at 4 (omega arith), at 5 (omega arith), at 6 (omega arith), at 7 (omega arith), at 8 (omega arith), at 9 (omega arith))
 
 -- ---- words that agree below row u
-
-abbrev pub Below : ℕ → List ℕ → List ℕ → Type 0
-Below u t t′ = (j : ℕ) → j < 12 * u → getD t′ j 0 ≡ getD t j 0
 
 pub below-less : (u v : ℕ) (t t′ : List ℕ) → v ≤ u → Below u t t′ → Below v t t′
 below-less u v t t′ h b j l = b j (omega arith)

@@ -1,5 +1,6 @@
 -- A row of the journal: an edit as ten words of twelve, word 10 the cost of its step, word 11 spare.
-use Prim.Native.Nat.{ℕ, _+_, _*_}
+use Prim.Native.Nat.{ℕ, _+_, _*_, _<_}
+use mathlib.Core.Path.{_≡_}
 use mathlib.Core.List.{List, [], _∷_}
 use lib.ListN.{getD, set}
 use Rattle.lists.specs.Choice.{_⇒_else_, _==_}
@@ -55,3 +56,7 @@ costAt t i = getD t (12 * i + 10) 0
 -- the words with row i written
 unfoldable pub rowed : ℕ → Edit → ℕ → List ℕ → List ℕ
 rowed i e c t = set (storeFrom (12 * i) (wordsOf e) t) (12 * i + 10) c
+
+-- the words below row u are as they were
+abbrev pub Below : ℕ → List ℕ → List ℕ → Type 0
+Below u t t′ = (j : ℕ) → j < 12 * u → getD t′ j 0 ≡ getD t j 0
