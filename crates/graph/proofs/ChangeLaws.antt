@@ -1,14 +1,13 @@
 -- Each change is its edits, keeps the graph well formed, and costs as many edits as it says.
-use Prim.Native.Nat.{ℕ, suc, _+_, _≤_}
+use Prim.Native.Nat.{ℕ}
 use mathlib.Core.Path.{_≡_, refl, sym, ap, _∙_}
 use mathlib.Core.Bool.{true}
 use mathlib.Core.List.{List, [], _∷_, _++_}
 use native.Mathlib.Omega.{arith}
 use lib.ListN.{length, length-append}
 use Rattle.lists.specs.Lists.{All, done, more}
-use Rattle.lists.specs.Keyed.{countBy, rem}
+use Rattle.lists.specs.Keyed.{rem}
 use Rattle.lists.proofs.Sums.{all-append}
-use Rattle.graph.specs.declared.Edit.{Edit}
 use Rattle.graph.specs.declared.Change.{Change}
 use Rattle.graph.specs.declared.Change.the-variants.{
   CreateVertex,
@@ -31,10 +30,10 @@ use Rattle.graph.specs.declared.Change.the-variants.{
 use Rattle.graph.specs.Graph.{Graph, vn, listOf, edgeOf}
 use Rattle.graph.specs.WellFormed.{Bounds, wellFormed, WellFormed, Within}
 use Rattle.graph.specs.Changes.{onVseq, edgesAt, deleteEdges, deleteVertex, changed, cost, VertexThere, Allowed}
-use Rattle.graph.specs.Edits.{apply, Applies, EditIn}
+use Rattle.graph.specs.Edits.{apply, EditIn}
 use Rattle.graph.specs.Plans.{removal, vertexRemoval, plan, applyAll, AppliesAll, removals, firstEdits, editsOf}
 use Rattle.graph.proofs.Keeps.{keeps-formed}
-use Rattle.graph.proofs.Facts.{to-facts, from-facts}
+use Rattle.graph.proofs.Facts.{to-facts}
 use Rattle.graph.proofs.EditBounds.{keeps-within}
 use Rattle.graph.proofs.EditLists.{apply-append, applies-append, all-formed, all-within, keeps-all}
 use Rattle.graph.proofs.Removals.{removal-applies, removal-is}
@@ -43,27 +42,27 @@ use Rattle.graph.proofs.PlanLaws.{plan-applies, plan-is}
 use Rattle.graph.proofs.PlanBounds.{removal-in, plan-in}
 
 -- kind 2, and the other changes, which are one edit each
-data Kind : Change → Type 0 where
+pub data Kind : Change → Type 0 where
   deletion : (a : ℕ) → Kind (DeleteVertex a)
   single : {c : Change} → ((g : Graph) → firstEdits c g ≡ []) → ((g : Graph) → cost c g ≡ 1) → Kind c
 
-kind : (c : Change) → Kind c
-kind (CreateVertex n t x) = single (λ g. refl) (λ g. refl)
-kind (DeleteVertex a) = deletion a
-kind (CreateEdge n a o t) = single (λ g. refl) (λ g. refl)
-kind (DeleteEdge a) = single (λ g. refl) (λ g. refl)
-kind (RetypeVertex a t) = single (λ g. refl) (λ g. refl)
-kind (RetypeEdge a t) = single (λ g. refl) (λ g. refl)
-kind (SetValue a x) = single (λ g. refl) (λ g. refl)
-kind (SetReading a k d) = single (λ g. refl) (λ g. refl)
-kind (SetAlpha e v) = single (λ g. refl) (λ g. refl)
-kind (SetOmega e v) = single (λ g. refl) (λ g. refl)
-kind (VertexBefore x y) = single (λ g. refl) (λ g. refl)
-kind (VertexAfter x y) = single (λ g. refl) (λ g. refl)
-kind (EdgeBefore x y) = single (λ g. refl) (λ g. refl)
-kind (EdgeAfter x y) = single (λ g. refl) (λ g. refl)
-kind (WordBefore x y) = single (λ g. refl) (λ g. refl)
-kind (WordAfter x y) = single (λ g. refl) (λ g. refl)
+pub kind? : (c : Change) → Kind c
+kind? (CreateVertex n t x) = single (λ g. refl) (λ g. refl)
+kind? (DeleteVertex a) = deletion a
+kind? (CreateEdge n a o t) = single (λ g. refl) (λ g. refl)
+kind? (DeleteEdge a) = single (λ g. refl) (λ g. refl)
+kind? (RetypeVertex a t) = single (λ g. refl) (λ g. refl)
+kind? (RetypeEdge a t) = single (λ g. refl) (λ g. refl)
+kind? (SetValue a x) = single (λ g. refl) (λ g. refl)
+kind? (SetReading a k d) = single (λ g. refl) (λ g. refl)
+kind? (SetAlpha e v) = single (λ g. refl) (λ g. refl)
+kind? (SetOmega e v) = single (λ g. refl) (λ g. refl)
+kind? (VertexBefore x y) = single (λ g. refl) (λ g. refl)
+kind? (VertexAfter x y) = single (λ g. refl) (λ g. refl)
+kind? (EdgeBefore x y) = single (λ g. refl) (λ g. refl)
+kind? (EdgeAfter x y) = single (λ g. refl) (λ g. refl)
+kind? (WordBefore x y) = single (λ g. refl) (λ g. refl)
+kind? (WordAfter x y) = single (λ g. refl) (λ g. refl)
 
 removals-in : (b : Bounds) (a : ℕ) (ns : List ℕ) (g : Graph) → WellFormed g → Within b g → edgesAt g a ≡ ns → All (EditIn b) (removals ns g)
 removals-in b a [] g w i h = done
@@ -75,61 +74,64 @@ removals-in b a (n ∷ ns) g w i h =
 
 -- ---- kind 2: once its edges are out
 
-module _ (b : Bounds) (g : Graph) (w : WellFormed g) (a : ℕ) (h : VertexThere g a) where
-  abbrev bare : Graph
-  bare = applyAll (removals (edgesAt g a) g) g
+abbrev bare : Graph → ℕ → Graph
+bare g a = applyAll (removals (edgesAt g a) g) g
 
-  bare-formed : WellFormed (applyAll (removals (edgesAt g a) g) g)
-  bare-formed = all-formed (removals (edgesAt g a) g) g (removals-apply a (edgesAt g a) g w refl) w
+module _ (g : Graph) (w : WellFormed g) (a : ℕ) where
+  bare-applies : AppliesAll (removals (edgesAt g a) g) g
+  bare-applies = removals-apply a (edgesAt g a) g w refl
 
-  bare-there : VertexThere (applyAll (removals (edgesAt g a) g) g) a
-  bare-there = removals-vertices (edgesAt g a) a g ∙ h
+  bare-formed : WellFormed (bare g a)
+  bare-formed = all-formed (removals (edgesAt g a) g) g bare-applies w
 
-  bare-none : firstEdits (DeleteVertex a) (applyAll (removals (edgesAt g a) g) g) ≡ []
-  bare-none = ap (λ (ns : List ℕ). removals ns (applyAll (removals (edgesAt g a) g) g)) (removals-empty a (edgesAt g a) g w refl)
+  bare-there : VertexThere g a → VertexThere (bare g a) a
+  bare-there h = removals-vertices (edgesAt g a) a g ∙ h
+
+  bare-none : firstEdits (DeleteVertex a) (bare g a) ≡ []
+  bare-none = ap (λ (ns : List ℕ). removals ns (bare g a)) (removals-empty a (edgesAt g a) g w refl)
 
 -- ---- every change
 
 module _ (g : Graph) where
   pub edits-cost : (c : Change) → length (editsOf c g) ≡ cost c g
   unfolding editsOf
-  edits-cost c = go (kind c)
+  edits-cost c = go (kind? c)
     where
       go : {d : Change} → Kind d → length (firstEdits d g ++ (plan d (applyAll (firstEdits d g) g) ∷ [])) ≡ cost d g
       go (deletion a) =
-          omega (arith, length-append (removals (edgesAt g a) g) (plan (DeleteVertex a) (applyAll (removals (edgesAt g a) g) g) ∷ []), removals-length (edgesAt g a) g)
+          omega (arith, length-append (removals (edgesAt g a) g) (plan (DeleteVertex a) (bare g a) ∷ []), removals-length (edgesAt g a) g)
       go (single e k) = rw (e g, k g)
 
 module _ (b : Bounds) (g : Graph) (w : WellFormed g) where
   pub edits-apply : (c : Change) → Allowed b g c → AppliesAll (editsOf c g) g
   unfolding editsOf
-  edits-apply c h = go (kind c) h
+  edits-apply c h = go (kind? c) h
     where
       go : {d : Change} → Kind d → Allowed b g d → AppliesAll (firstEdits d g ++ (plan d (applyAll (firstEdits d g) g) ∷ [])) g
       go (deletion a) h =
-          applies-append (removals (edgesAt g a) g) (plan (DeleteVertex a) (applyAll (removals (edgesAt g a) g) g) ∷ []) g (removals-apply a (edgesAt g a) g w refl)
-          (plan-applies (applyAll (removals (edgesAt g a) g) g) (bare-formed b g w a h) b (DeleteVertex a) (bare-there b g w a h) (bare-none b g w a h), tt)
-      go (single {c = d} e k) h = rw (e g) (plan-applies g w b d h (e g), tt)
+          applies-append (removals (edgesAt g a) g) (plan (DeleteVertex a) (bare g a) ∷ []) g (bare-applies g w a)
+          (plan-applies b (bare g a) (bare-formed g w a) (DeleteVertex a) (bare-there g w a h) (bare-none g w a), tt)
+      go (single {c = d} e k) h = rw (e g) (plan-applies b g w d h (e g), tt)
 
   pub change-is : (c : Change) → Allowed b g c → applyAll (editsOf c g) g ≡ changed c g
   unfolding editsOf plan vertexRemoval changed deleteVertex
-  change-is c h = go (kind c) h
+  change-is c h = go (kind? c) h
     where
       go : {d : Change} → Kind d → Allowed b g d → applyAll (firstEdits d g ++ (plan d (applyAll (firstEdits d g) g) ∷ [])) g ≡ changed d g
       go (deletion a) h =
-          apply-append (removals (edgesAt g a) g) (plan (DeleteVertex a) (applyAll (removals (edgesAt g a) g) g) ∷ []) g
+          apply-append (removals (edgesAt g a) g) (plan (DeleteVertex a) (bare g a) ∷ []) g
           ∙ ap (onVseq (rem vn a)) (removals-are (edgesAt g a) g)
-      go (single {c = d} e k) h = rw (e g) (plan-is g w b d h (e g))
+      go (single {c = d} e k) h = rw (e g) (plan-is b g w d h (e g))
 
   pub edits-in : (c : Change) → Within b g → Allowed b g c → All (EditIn b) (editsOf c g)
   unfolding editsOf
-  edits-in c i h = go (kind c) h
+  edits-in c i h = go (kind? c) h
     where
       go : {d : Change} → Kind d → Allowed b g d → All (EditIn b) (firstEdits d g ++ (plan d (applyAll (firstEdits d g) g) ∷ []))
       go (deletion a) h =
           let r = removals-in b a (edgesAt g a) g w i refl in
-          all-append r (more (plan-in b (applyAll (removals (edgesAt g a) g) g) (all-within b (removals (edgesAt g a) g) g (removals-apply a (edgesAt g a) g w refl) r i)
-          (DeleteVertex a) (bare-there b g w a h)) done)
+          all-append r (more (plan-in b (bare g a) (all-within b (removals (edgesAt g a) g) g (bare-applies g w a) r i)
+          (DeleteVertex a) (bare-there g w a h)) done)
       go (single {c = d} e k) h = rw (e g) (more (plan-in b g i d h) done)
 
 -- each of the sixteen changes keeps the graph well formed
@@ -137,3 +139,32 @@ pub change-keeps : (b : Bounds) (g : Graph) (c : Change) → wellFormed b g ≡ 
 change-keeps b g c t h =
     let f = to-facts b g t in
     rw (← change-is b g (f .0) c h) (keeps-all b (editsOf c g) g t (edits-apply b g (f .0) c h) (edits-in b g (f .0) c (f .1) h))
+
+module _ (b : Bounds) (g : Graph) (w : WellFormed g) (c : Change) (h : Allowed b g c) where
+  pub change-formed : WellFormed (changed c g)
+  change-formed = rw (← change-is b g w c h) (all-formed (editsOf c g) g (edits-apply b g w c h) w)
+
+  pub change-within : Within b g → Within b (changed c g)
+  change-within i = rw (← change-is b g w c h) (all-within b (editsOf c g) g (edits-apply b g w c h) (edits-in b g w c i h) i)
+
+-- ---- kind 2, one edge after another: the first word's edge goes, and what is left to do is the deletion of what is left
+
+module _ (g : Graph) (w : WellFormed g) (a : ℕ) where
+  pub deletion-step : (x : ℕ) (xs : List ℕ) → listOf g a ≡ x ∷ xs →
+      editsOf (DeleteVertex a) g ≡ removal (edgeOf x) g ∷ editsOf (DeleteVertex a) (apply (removal (edgeOf x) g) g)
+  unfolding editsOf
+  deletion-step x xs e = ap (λ (ns : List ℕ). removals ns g ++ (plan (DeleteVertex a) (applyAll (removals ns g) g) ∷ [])) (edges-first g w a x xs e)
+
+  pub deletion-last : listOf g a ≡ [] → editsOf (DeleteVertex a) g ≡ vertexRemoval a g ∷ []
+  unfolding editsOf plan
+  deletion-last e = ap (λ (ns : List ℕ). removals ns g ++ (plan (DeleteVertex a) (applyAll (removals ns g) g) ∷ [])) (edges-none g w a e)
+
+  pub deleted-step : (x : ℕ) (xs : List ℕ) → listOf g a ≡ x ∷ xs →
+      changed (DeleteVertex a) g ≡ changed (DeleteVertex a) (apply (removal (edgeOf x) g) g)
+  unfolding changed deleteVertex deleteEdges
+  deleted-step x xs e = ap (λ (ns : List ℕ). onVseq (rem vn a) (deleteEdges ns g)) (edges-first g w a x xs e)
+      ∙ ap (λ (f : Graph). onVseq (rem vn a) (deleteEdges (edgesAt (apply (removal (edgeOf x) g) g) a) f)) (sym (removal-is g (edgeOf x)))
+
+  pub deleted-last : listOf g a ≡ [] → changed (DeleteVertex a) g ≡ apply (vertexRemoval a g) g
+  unfolding changed deleteVertex deleteEdges vertexRemoval
+  deleted-last e = ap (λ (ns : List ℕ). onVseq (rem vn a) (deleteEdges ns g)) (edges-none g w a e)

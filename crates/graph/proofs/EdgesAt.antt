@@ -1,25 +1,26 @@
 -- The edges at a vertex, taken out one after another.
-use Prim.Native.Nat.{ℕ, suc, _+_, _-_, _*_, _/_, _≤_}
-use mathlib.Core.Path.{_≡_, refl, sym, ap, subst, _∙_}
+use Prim.Native.Nat.{ℕ, suc, min, _+_, _≤_}
+use mathlib.Core.Path.{_≡_, refl, sym, ap, ap₂, subst, _∙_}
 use mathlib.Core.Logic.{_≢_}
-use mathlib.Core.Bool.{Bool, true, false, not}
+use mathlib.Core.Bool.{Bool, true, false, not, _||_}
 use mathlib.Core.List.{List, [], _∷_, map}
 use native.Mathlib.Omega.{arith}
 use lib.ListN.{length, drop}
 use borrow.Author.Tests.{eq-eqb, ne-eqb}
-use Rattle.lists.specs.Choice.{_⇒_else_, _==_, pick, is}
-use Rattle.lists.specs.Lists.{keep, first, firsts}
+use Rattle.lists.specs.Choice.{_==_, is, bit}
+use Rattle.lists.specs.Lists.{keep, first, firsts, count}
 use Rattle.lists.specs.Keyed.{countBy, rem}
-use Rattle.lists.proofs.Picks.{pick-yes, pick-no, pick-both, Same, same, differ, same?, is-yes, is-no}
+use Rattle.lists.proofs.Picks.{pick-yes, pick-no, same, differ, same?, is-yes, is-no}
 use Rattle.lists.proofs.KeyedLaws.{count-rem}
+use Rattle.lists.proofs.Counts.{bit-is, count-by}
 use Rattle.lists.proofs.Places.{rem-none}
-use Rattle.lists.proofs.Firsts.{firsts-skip}
+use Rattle.lists.proofs.Firsts.{firsts-skip, firsts-once}
 use Rattle.graph.specs.Graph.{Vertex, Graph, vn, en, wd, edge, listIn, listOf, thisIn, outWord, inWord, edgeOf}
 use Rattle.graph.specs.WellFormed.{WellFormed}
-use Rattle.graph.specs.Changes.{detach, edgesAt, deleteEdge, deleteEdges, VertexThere, EdgeThere}
+use Rattle.graph.specs.Changes.{detach, edgesAt, deleteEdges, EdgeThere}
 use Rattle.graph.specs.Edits.{apply}
 use Rattle.graph.specs.Plans.{removal, applyAll, AppliesAll, removals}
-use Rattle.graph.proofs.Incidence.{list-upd, count-list, count-detach-other, pick-le, apart′, out-half, into-half, this-out, this-into, Word, out-word, in-word, other-word, word?}
+use Rattle.graph.proofs.Incidence.{list-upd, count-list, count-detach-other, pick-le, apart′, out-half, into-half, this-out, this-into, out-word, in-word, other-word, word?}
 use Rattle.graph.proofs.Lists.{ordered-list}
 use Rattle.graph.proofs.Keeps.{keeps-formed}
 use Rattle.graph.proofs.Removals.{removal-applies, removal-is}
@@ -45,7 +46,7 @@ words-out n (y ∷ l) a b = elim (word? n y) [
       let o : y ≢ inWord n = omega arith in
       let q : y ≢ outWord n = omega arith in
       let h : edgeOf y ≢ n = omega arith in
-      rw (pick-no y (inWord n), pick-no y (outWord n), ne-eqb (edgeOf y) n h) (ap (λ (t : List ℕ). edgeOf y ∷ t) (words-out n l (omega arith) (omega arith)))
+      simp (pick-no, ne-eqb (edgeOf y) n h) (ap (λ (t : List ℕ). edgeOf y ∷ t) (words-out n l (omega arith) (omega arith)))
 ]
 
 detach-list : (l : List Vertex) (v w u : ℕ) → countBy vn v l ≡ 1 → (v ≢ u → countBy wd w (listIn l u) ≡ 0) → listIn (detach l v w) u ≡ rem wd w (listIn l u)
@@ -144,3 +145,31 @@ removal-vertices n k g =
 pub removals-vertices : (ns : List ℕ) (k : ℕ) (g : Graph) → countBy vn k (applyAll (removals ns g) g .vseq) ≡ countBy vn k (g .vseq)
 removals-vertices [] k g = refl
 removals-vertices (n ∷ ns) k g = removals-vertices ns k (apply (removal n g) g) ∙ removal-vertices n k g
+
+-- ---- how often an edge is at a vertex: "A loop is there twice", and counts once in a cost
+
+edge-words : (n : ℕ) (l : List ℕ) → countBy edgeOf n l ≡ countBy wd (outWord n) l + countBy wd (inWord n) l
+edge-words n [] = refl
+edge-words n (y ∷ l) = elim (word? n y) [
+  | out-word e ↦ omega (arith, edge-words n l, is-yes y (outWord n) e, is-no y (inWord n) (omega arith), is-yes (edgeOf y) n (omega arith))
+  | in-word e ↦ omega (arith, edge-words n l, is-no y (outWord n) (omega arith), is-yes y (inWord n) e, is-yes (edgeOf y) n (omega arith))
+  | other-word d e f ↦ omega (arith, edge-words n l, is-no y (outWord n) (omega arith), is-no y (inWord n) (omega arith), is-no (edgeOf y) n (omega arith))
+]
+
+or-bit : (s t : Bool) → bit (s || t) ≡ min 1 (bit s + bit t)
+or-bit true true = refl
+or-bit true false = refl
+or-bit false true = refl
+or-bit false false = refl
+
+module _ (g : Graph) (w : WellFormed g) (a n : ℕ) (h : EdgeThere g n) where
+  pub words-twice : countBy edgeOf n (listOf g a) ≡ is (edge g n .alpha) a + is (edge g n .omega) a
+  words-twice =
+      let o : countBy wd (outWord n) (listOf g a) ≡ is (edge g n .alpha) a = w .lists a (outWord n) ∙ rw (this-out, out-half, h) in
+      let i : countBy wd (inWord n) (listOf g a) ≡ is (edge g n .omega) a = w .lists a (inWord n) ∙ rw (this-into, into-half, h) in
+      omega (arith, edge-words n (listOf g a))
+
+  pub edges-once : count n (edgesAt g a) ≡ bit ((edge g n .alpha == a) || (edge g n .omega == a))
+  edges-once = firsts-once n (map edgeOf (listOf g a))
+      ∙ ap (min 1) (count-by edgeOf n (listOf g a) ∙ words-twice ∙ sym (ap₂ _+_ (bit-is (edge g n .alpha) a) (bit-is (edge g n .omega) a)))
+      ∙ sym (or-bit (edge g n .alpha == a) (edge g n .omega == a))

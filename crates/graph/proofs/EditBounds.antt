@@ -1,16 +1,16 @@
 -- An edit within the bounds keeps the graph within them.
-use Prim.Native.Nat.{ℕ, _+_, _≤_}
-use mathlib.Core.Path.{_≡_, refl, sym, ap, _∙_}
-use mathlib.Core.Bool.{Bool, true, false}
-use mathlib.Core.List.{List, [], _∷_}
+use Prim.Native.Nat.{ℕ}
+use mathlib.Core.Path.{_≡_}
+use mathlib.Core.Bool.{true}
+use mathlib.Core.List.{List, []}
 use native.Mathlib.Omega.{arith}
 use Rattle.lists.specs.Lists.{All}
-use Rattle.lists.specs.Keyed.{ins, rem, upd}
+use Rattle.lists.specs.Keyed.{upd}
 use Rattle.lists.proofs.KeyedAll.{all-ins, all-rem, all-upd, all-find}
 use Rattle.graph.specs.declared.Edit.{Edit}
 use Rattle.graph.specs.declared.Edit.the-variants.{InsertVertex, RemoveVertex, InsertEdge, RemoveEdge, SetVertex, SetEdge, MoveVertex, MoveEdge, MoveWord}
-use Rattle.graph.specs.Graph.{Vertex, Edge, Graph, vn, en, noVertex, noEdge}
-use Rattle.graph.specs.WellFormed.{Bounds, wellFormed, WellFormed, VertexFits, EdgeFits, VertexIn, EdgeIn, Within}
+use Rattle.graph.specs.Graph.{Vertex, Graph, vn, en, noVertex, noEdge}
+use Rattle.graph.specs.WellFormed.{Bounds, wellFormed, VertexIn, EdgeIn, Within}
 use Rattle.graph.specs.Changes.{onList, withVertex, withEdge, withEnd}
 use Rattle.graph.specs.Edits.{inverse, apply, Applies, EditIn}
 use Rattle.graph.proofs.Keeps.{keeps-formed}

@@ -2,7 +2,7 @@
 use mathlib.Core.Path.{_≡_, refl}
 use mathlib.Core.Bool.{true}
 use mathlib.Core.List.{List, [], _∷_, _++_}
-use Rattle.lists.specs.Lists.{All, done, more}
+use Rattle.lists.specs.Lists.{All, more}
 use Rattle.graph.specs.declared.Edit.{Edit}
 use Rattle.graph.specs.Graph.{Graph}
 use Rattle.graph.specs.WellFormed.{Bounds, wellFormed, WellFormed, Within}

@@ -1,22 +1,22 @@
 -- A graph passes the test `wellFormed` exactly where it is well formed and within the bounds.
-use Prim.Native.Nat.{ℕ, _+_, _*_, _/_, _%_, _^_, _≤_, _<_}
+use Prim.Native.Nat.{ℕ, _/_, _%_, _^_, _≤_}
 use mathlib.Core.Path.{_≡_, refl, sym, ap, _∙_}
-use mathlib.Core.Bool.{Bool, true, false, not, _&&_, _||_}
-use mathlib.Core.List.{List, [], _∷_, map}
+use mathlib.Core.Bool.{true, _&&_}
+use mathlib.Core.List.{List}
 use native.Mathlib.Omega.{arith}
 use lib.Dec.{ltb, leb}
 use borrow.Author.Tests.{ltb-true, leb-true, lt-ltb, le-leb}
-use Rattle.lists.specs.Choice.{pick, is, within}
+use Rattle.lists.specs.Choice.{pick, within}
 use Rattle.lists.specs.Lists.{all, All, done, more, distinct, count}
-use Rattle.lists.specs.Keyed.{countBy, find}
+use Rattle.lists.specs.Keyed.{countBy}
 use Rattle.lists.proofs.Bools.{and-true, and-both}
-use Rattle.lists.proofs.Picks.{pick-yes, pick-no, pick-both, Same, same, differ, same?, is-yes, is-no}
+use Rattle.lists.proofs.Picks.{pick-yes, pick-no, same, differ, same?, is-yes, is-no}
 use Rattle.lists.proofs.Sums.{all-imp, all-bool, bool-all, distinct-count, count-distinct, same-alike, alike-same}
 use Rattle.lists.proofs.Counts.{count-same, count-by}
 use Rattle.lists.proofs.KeyedAll.{all-find, find-all}
 use Rattle.lists.proofs.KeyedLaws.{find-none}
 use Rattle.graph.specs.Graph.{Vertex, Edge, Graph, vn, en, wd, noVertex, noEdge, vertexIn, edgeIn, listIn, thisIn, outWord, inWord, hasVertex, vertexNumbers, edgeNumbers, readingKind, decimetres, isReading}
-use Rattle.graph.specs.WellFormed.{Bounds, wordsAt, sameWords, soundVertex, soundEdge, wellFormed, Ordered, WellFormed, VertexFits, EdgeFits, VertexIn, EdgeIn, Within}
+use Rattle.graph.specs.WellFormed.{Bounds, wordsAt, sameWords, soundVertex, soundEdge, wellFormed, Ordered, WellFormed, VertexIn, EdgeIn, Within}
 use Rattle.graph.proofs.Orders.{key-find}
 use Rattle.graph.proofs.Numbers.{vertex-count, count-vertex, vertex-real, edge-real}
 use Rattle.graph.proofs.Incidence.{out-half, into-half, this-out, this-into}

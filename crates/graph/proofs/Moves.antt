@@ -6,7 +6,7 @@ use mathlib.Core.List.{List, [], _∷_, _++_}
 use native.Mathlib.Omega.{arith}
 use Rattle.lists.specs.Choice.{pick, is}
 use Rattle.lists.specs.Keyed.{countBy, ins, insBefore, rem, prev, lastBy, find, upd, putBefore, putAfter}
-use Rattle.lists.proofs.Picks.{pick-yes, pick-no, pick-self, Same, same, differ, same?, is-yes, is-no}
+use Rattle.lists.proofs.Picks.{pick-yes, pick-no, pick-self, same, differ, same?, is-yes, is-no}
 use Rattle.lists.proofs.KeyedLaws.{count-rem}
 use Rattle.lists.proofs.Places.{ins-last, prev-there, ins-before, upd-agree, upd-same, upd-upd}
 use Rattle.graph.specs.Graph.{Vertex, Edge, Graph, vn, en, wd, noVertex, noEdge, vertex, edge, vertexIn, listIn, listOf, this, edgeOf}

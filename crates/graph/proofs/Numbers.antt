@@ -1,14 +1,13 @@
 -- The vertices and edges that a graph has, by test and by count.
-use Prim.Native.Nat.{ℕ, _+_, _≤_}
-use mathlib.Core.Path.{_≡_, refl, sym, ap, _∙_}
-use mathlib.Core.Bool.{Bool, true, false}
+use Prim.Native.Nat.{ℕ, _≤_}
+use mathlib.Core.Path.{_≡_}
+use mathlib.Core.Bool.{true, false}
 use native.Mathlib.Omega.{arith}
-use Rattle.lists.specs.Choice.{is}
 use Rattle.lists.specs.Keyed.{countBy}
 use Rattle.lists.proofs.Picks.{is-zero}
 use Rattle.lists.proofs.Counts.{any-count, count-any, any-none, none-any}
 use Rattle.graph.specs.Graph.{Graph, vn, en, noVertex, noEdge, vertex, edge, hasVertex, hasEdge}
-use Rattle.graph.specs.WellFormed.{Ordered, WellFormed}
+use Rattle.graph.specs.WellFormed.{WellFormed}
 use Rattle.graph.specs.Changes.{VertexThere, EdgeThere}
 use Rattle.graph.proofs.Orders.{key-find}
 

@@ -1,11 +1,8 @@
 -- The edit of a change is within the bounds.
-use Prim.Native.Nat.{ℕ, _≤_, _<_, _^_}
-use mathlib.Core.Path.{_≡_, refl, sym, subst}
-use mathlib.Core.Bool.{true}
+use Prim.Native.Nat.{ℕ}
+use mathlib.Core.Path.{refl, subst}
 use native.Mathlib.Omega.{arith}
 use Rattle.lists.proofs.KeyedAll.{all-find}
-use Rattle.graph.specs.declared.Reading.{Reading}
-use Rattle.graph.specs.declared.Reading.the-variants.{Untested}
 use Rattle.graph.specs.declared.Change.{Change}
 use Rattle.graph.specs.declared.Change.the-variants.{
   CreateVertex,

@@ -1,18 +1,12 @@
 -- The edit of a change applies, makes the change, and is within the bounds.
-use Prim.Native.Nat.{ℕ, _+_, _*_, _/_, _≤_, _<_}
+use Prim.Native.Nat.{ℕ, _≤_}
 use mathlib.Core.Path.{_≡_, refl, sym, ap, _∙_}
-use mathlib.Core.Logic.{_≢_}
-use mathlib.Core.Bool.{Bool, true, false}
-use mathlib.Core.List.{List, [], _∷_, _++_, map}
+use mathlib.Core.List.{List, [], _∷_, _++_}
 use native.Mathlib.Omega.{arith}
 use lib.ListN.{length}
-use Rattle.lists.specs.Choice.{pick, is}
-use Rattle.lists.specs.Keyed.{countBy, ins, insBefore, rem, prev, lastBy, upd}
-use Rattle.lists.proofs.KeyedAll.{all-find}
+use Rattle.lists.specs.Keyed.{countBy, rem, lastBy}
 use Rattle.lists.proofs.Places.{last-in, ins-last, upd-agree}
-use Rattle.graph.specs.declared.Reading.{Reading}
-use Rattle.graph.specs.declared.Reading.the-variants.{Untested, Silent, Heard}
-use Rattle.graph.specs.declared.Edit.{Edit}
+use Rattle.graph.specs.declared.Reading.the-variants.{Untested}
 use Rattle.graph.specs.declared.Change.{Change}
 use Rattle.graph.specs.declared.Change.the-variants.{
   CreateVertex,
@@ -32,16 +26,15 @@ use Rattle.graph.specs.declared.Change.the-variants.{
   WordBefore,
   WordAfter,
 }
-use Rattle.graph.specs.Graph.{Vertex, Edge, Graph, vn, en, wd, noVertex, noEdge, vertex, edge, vertexIn, edgeIn, listIn, listOf, this, outWord, inWord, edgeOf, readingKind, decimetres, isReading, readingOf}
-use Rattle.graph.specs.WellFormed.{Bounds, Ordered, WellFormed, VertexFits, EdgeFits, VertexIn, EdgeIn, Within}
-use Rattle.graph.specs.Changes.{withVertex, onList, withEdge, withEnd, append, detach, onVseq, edgesAt, changed, deleteEdges, createVertex, deleteVertex, createEdge, deleteEdge, retypeVertex, retypeEdge, setValue, setReading, reattach, vertexBefore, vertexAfter, edgeBefore, edgeAfter, wordBefore, wordAfter, VertexThere, EdgeThere, Allowed}
-use Rattle.graph.specs.Edits.{attach, apply, Placed, Fits, Applies, EditIn}
-use Rattle.graph.specs.Plans.{removal, vertexRemoval, wordMove, listWithout, moveLast, plan, removals, firstEdits}
+use Rattle.graph.specs.Graph.{Vertex, Graph, vn, en, wd, noVertex, noEdge, vertex, edge, listIn, listOf, this, outWord, inWord, edgeOf, readingOf}
+use Rattle.graph.specs.WellFormed.{Bounds, Ordered, WellFormed}
+use Rattle.graph.specs.Changes.{withVertex, onList, withEdge, append, detach, onVseq, edgesAt, changed, deleteEdges, createVertex, deleteVertex, createEdge, retypeVertex, retypeEdge, setValue, setReading, reattach, vertexBefore, vertexAfter, edgeBefore, edgeAfter, VertexThere, EdgeThere, Allowed}
+use Rattle.graph.specs.Edits.{attach, apply, Applies}
+use Rattle.graph.specs.Plans.{vertexRemoval, wordMove, listWithout, moveLast, plan, removals, firstEdits}
 use Rattle.graph.proofs.Orders.{ordered-upd}
-use Rattle.graph.proofs.Incidence.{ordered-detach, count-list, out-half, into-half}
+use Rattle.graph.proofs.Incidence.{ordered-detach, out-half, into-half}
 use Rattle.graph.proofs.Lists.{ordered-list, free-out}
 use Rattle.graph.proofs.Undoes.{graph-path}
-use Rattle.graph.proofs.Numbers.{vertex-number, edge-number}
 use Rattle.graph.proofs.Removals.{removal-applies, removal-is, vertex-removal-applies, word-move-applies}
 use Rattle.graph.proofs.Moves.{attach-last, ordered-attach, after-place, before-place, before-is, own-vertex, word-after-place, word-before-place, word-after-is, word-before-is}
 use Rattle.graph.proofs.EdgesAt.{none-edges}
@@ -53,11 +46,8 @@ removals-none (n ∷ ns) g e = absurd (omega (arith, ap length e))
 
 module _ (g : Graph) (w : WellFormed g) where
   -- a word moved to the end of a list
-  last-place : (x u : ℕ) → 1 ≤ is 0 (lastBy wd 0 (listWithout x u g)) + countBy wd (lastBy wd 0 (listWithout x u g)) (listWithout x u g)
-  last-place x u = last-in wd 0 (listWithout x u g)
-
   move-last-applies : (x u : ℕ) → EdgeThere g (edgeOf x) → VertexThere g u → Applies (moveLast x u g) g
-  move-last-applies x u h i = word-move-applies g x u (lastBy wd 0 (listWithout x u g)) h i (last-place x u)
+  move-last-applies x u h i = word-move-applies g x u (lastBy wd 0 (listWithout x u g)) h i (last-in wd 0 (listWithout x u g))
 
   move-last-is : (x u : ℕ) → EdgeThere g (edgeOf x) → apply (moveLast x u g) g ≡ reattach x u g
   unfolding wordMove reattach
@@ -66,62 +56,63 @@ module _ (g : Graph) (w : WellFormed g) where
       (ordered-detach (g .vseq) (this g x) x u (w .ends x h) (ordered-list g w u)))
       refl
 
-  -- the out word of a new edge, last at its start
-  module _ (n a o : ℕ) (r : 1 ≤ n) (f : countBy en n (g .eseq) ≡ 0) (ca : VertexThere g a) where
-    out-last : attach (g .vseq) a (lastBy wd 0 (listOf g a)) (outWord n) ≡ append (g .vseq) a (outWord n)
-    out-last = attach-last (g .vseq) a (outWord n) (w .vorder) (ordered-list g w a)
+  -- the words of a new edge: the out word last at its start, then the in word last at its end
+  out-last : (n a : ℕ) → attach (g .vseq) a (lastBy wd 0 (listOf g a)) (outWord n) ≡ append (g .vseq) a (outWord n)
+  out-last n a = attach-last (g .vseq) a (outWord n) (w .vorder) (ordered-list g w a)
 
-    out-ordered : Ordered wd (listIn (append (g .vseq) a (outWord n)) o)
-    out-ordered = rw (← out-last) (ordered-attach (g .vseq) a (lastBy wd 0 (listOf g a)) (outWord n) o ca (omega arith) (free-out g w n o f) (ordered-list g w o))
+  in-last : (n a o : ℕ) → 1 ≤ n → countBy en n (g .eseq) ≡ 0 → VertexThere g a
+      → attach (append (g .vseq) a (outWord n)) o (lastBy wd 0 (listIn (append (g .vseq) a (outWord n)) o)) (inWord n) ≡ append (append (g .vseq) a (outWord n)) o (inWord n)
+  in-last n a o r f c =
+      let d : Ordered wd (listIn (append (g .vseq) a (outWord n)) o) =
+      rw (← out-last n a) (ordered-attach (g .vseq) a (lastBy wd 0 (listOf g a)) (outWord n) o c (omega arith) (free-out g w n o f) (ordered-list g w o)) in
+      attach-last (append (g .vseq) a (outWord n)) o (inWord n) (ordered-upd vn (onList (λ ws. ws ++ (outWord n ∷ []))) (g .vseq) a (λ y. refl) (w .vorder)) d
 
-    in-last : attach (append (g .vseq) a (outWord n)) o (lastBy wd 0 (listIn (append (g .vseq) a (outWord n)) o)) (inWord n) ≡ append (append (g .vseq) a (outWord n)) o (inWord n)
-    in-last = attach-last (append (g .vseq) a (outWord n)) o (inWord n) (ordered-upd vn (onList (λ ws. ws ++ (outWord n ∷ []))) (g .vseq) a (λ y. refl) (w .vorder)) out-ordered
+-- `firstEdits c g ≡ []` is `refl` for each change but kind 2, and holds of kind 2 where no edge is at the vertex
+module _ (b : Bounds) (g : Graph) (w : WellFormed g) where
+  pub plan-applies : (c : Change) → Allowed b g c → firstEdits c g ≡ [] → Applies (plan c g) g
+  unfolding plan
+  plan-applies (CreateVertex n t x) h e = record { real = h .0; fresh = h .2; after = last-in vn 0 (g .vseq) }
+  plan-applies (DeleteVertex a) h e = vertex-removal-applies g a h (none-edges g a (removals-none (edgesAt g a) g e))
+  plan-applies (CreateEdge n a o t) h e = (
+    record { real = h .0; fresh = h .2; after = last-in en 0 (g .eseq) },
+    h .3,
+    h .4,
+    last-in wd 0 (listOf g a),
+    rw (out-last g w n a) (last-in wd 0 (listIn (append (g .vseq) a (outWord n)) o)),
+  )
+  plan-applies (DeleteEdge a) h e = removal-applies g a h
+  plan-applies (RetypeVertex a t) h e = (h .0, refl, refl)
+  plan-applies (RetypeEdge a t) h e = (h .0, refl, refl)
+  plan-applies (SetValue a x) h e = (h .0, refl, refl)
+  plan-applies (SetReading a k d) h e = (h .0, refl, refl)
+  plan-applies (SetAlpha n v) h e = move-last-applies g w (outWord n) v (rw out-half (h .0)) (h .1)
+  plan-applies (SetOmega n v) h e = move-last-applies g w (inWord n) v (rw into-half (h .0)) (h .1)
+  plan-applies (VertexBefore x y) h e = (record { there = h .0; before = refl }, before-place vn (g .vseq) x y (w .vorder) (h .1) (h .2))
+  plan-applies (VertexAfter x y) h e = (record { there = h .0; before = refl }, after-place vn (g .vseq) x y (w .vorder) (h .1) (h .2))
+  plan-applies (EdgeBefore x y) h e = (record { there = h .0; before = refl }, before-place en (g .eseq) x y (w .eorder) (h .1) (h .2))
+  plan-applies (EdgeAfter x y) h e = (record { there = h .0; before = refl }, after-place en (g .eseq) x y (w .eorder) (h .1) (h .2))
+  plan-applies (WordBefore x y) h e =
+      word-move-applies g x (this g x) _ (h .0) (own-vertex g w x y (h .0) (h .1) (h .2) (h .3)) (word-before-place g w x y (h .0) (h .1) (h .2) (h .3))
+  plan-applies (WordAfter x y) h e =
+      word-move-applies g x (this g x) y (h .0) (own-vertex g w x y (h .0) (h .1) (h .2) (h .3)) (word-after-place g w x y (h .0) (h .1) (h .2) (h .3))
 
-  module _ (b : Bounds) where
-    pub plan-applies : (c : Change) → Allowed b g c → firstEdits c g ≡ [] → Applies (plan c g) g
-    unfolding plan
-    plan-applies (CreateVertex n t x) h e = record { real = h .0; fresh = h .2; after = last-in vn 0 (g .vseq) }
-    plan-applies (DeleteVertex a) h e = vertex-removal-applies g a h (none-edges g a (removals-none (edgesAt g a) g e))
-    plan-applies (CreateEdge n a o t) h e = (
-      record { real = h .0; fresh = h .2; after = last-in en 0 (g .eseq) },
-      h .3,
-      h .4,
-      last-in wd 0 (listOf g a),
-      rw (out-last n a o (h .0) (h .2) (h .3)) (last-in wd 0 (listIn (append (g .vseq) a (outWord n)) o)),
-    )
-    plan-applies (DeleteEdge a) h e = removal-applies g a h
-    plan-applies (RetypeVertex a t) h e = (h .0, refl, refl)
-    plan-applies (RetypeEdge a t) h e = (h .0, refl, refl)
-    plan-applies (SetValue a x) h e = (h .0, refl, refl)
-    plan-applies (SetReading a k d) h e = (h .0, refl, refl)
-    plan-applies (SetAlpha n v) h e = move-last-applies (outWord n) v (rw out-half (h .0)) (h .1)
-    plan-applies (SetOmega n v) h e = move-last-applies (inWord n) v (rw into-half (h .0)) (h .1)
-    plan-applies (VertexBefore x y) h e = (record { there = h .0; before = refl }, before-place vn (g .vseq) x y (w .vorder) (h .1) (h .2))
-    plan-applies (VertexAfter x y) h e = (record { there = h .0; before = refl }, after-place vn (g .vseq) x y (w .vorder) (h .1) (h .2))
-    plan-applies (EdgeBefore x y) h e = (record { there = h .0; before = refl }, before-place en (g .eseq) x y (w .eorder) (h .1) (h .2))
-    plan-applies (EdgeAfter x y) h e = (record { there = h .0; before = refl }, after-place en (g .eseq) x y (w .eorder) (h .1) (h .2))
-    plan-applies (WordBefore x y) h e =
-        word-move-applies g x (this g x) _ (h .0) (own-vertex g w x y (h .0) (h .1) (h .2) (h .3)) (word-before-place g w x y (h .0) (h .1) (h .2) (h .3))
-    plan-applies (WordAfter x y) h e =
-        word-move-applies g x (this g x) y (h .0) (own-vertex g w x y (h .0) (h .1) (h .2) (h .3)) (word-after-place g w x y (h .0) (h .1) (h .2) (h .3))
-
-    pub plan-is : (c : Change) → Allowed b g c → firstEdits c g ≡ [] → apply (plan c g) g ≡ changed c g
-    unfolding plan changed vertexRemoval createVertex deleteVertex deleteEdges createEdge retypeVertex retypeEdge setValue setReading vertexBefore vertexAfter edgeBefore edgeAfter
-    plan-is (CreateVertex n t x) h e = graph-path _ _ (ins-last vn 0 (record { number = n; type = t; value = x; incidences = [] }) (g .vseq) (w .vorder)) refl
-    plan-is (DeleteVertex a) h e = ap (λ (ns : List ℕ). onVseq (rem vn a) (deleteEdges ns g)) (sym (removals-none (edgesAt g a) g e))
-    plan-is (CreateEdge n a o t) h e = graph-path _ _
-        (ap (λ (l : List Vertex). attach l o (lastBy wd 0 (listIn (append (g .vseq) a (outWord n)) o)) (inWord n)) (out-last n a o (h .0) (h .2) (h .3)) ∙ in-last n a o (h .0) (h .2) (h .3))
-        (ins-last en 0 (record { number = n; alpha = a; omega = o; type = t; reading = Untested }) (g .eseq) (w .eorder))
-    plan-is (DeleteEdge a) h e = removal-is g a
-    plan-is (RetypeVertex a t) h e = graph-path _ _ (upd-agree vn noVertex a (withVertex t (vertex g a .value)) (λ v. withVertex t (v .value) v) (g .vseq) (λ k. omega (arith, w .vorder k)) refl) refl
-    plan-is (RetypeEdge a t) h e = graph-path _ _ refl (upd-agree en noEdge a (withEdge t (edge g a .reading)) (λ x. withEdge t (x .reading) x) (g .eseq) (λ k. omega (arith, w .eorder k)) refl)
-    plan-is (SetValue a x) h e = graph-path _ _ (upd-agree vn noVertex a (withVertex (vertex g a .type) x) (λ v. withVertex (v .type) x v) (g .vseq) (λ k. omega (arith, w .vorder k)) refl) refl
-    plan-is (SetReading a k d) h e = graph-path _ _ refl (upd-agree en noEdge a (withEdge (edge g a .type) (readingOf k d)) (λ x. withEdge (x .type) (readingOf k d) x) (g .eseq) (λ k. omega (arith, w .eorder k)) refl)
-    plan-is (SetAlpha n v) h e = move-last-is (outWord n) v (rw out-half (h .0))
-    plan-is (SetOmega n v) h e = move-last-is (inWord n) v (rw into-half (h .0))
-    plan-is (VertexBefore x y) h e = graph-path _ _ (before-is vn (g .vseq) x y (w .vorder) (h .1) (h .2) (vertex g x)) refl
-    plan-is (VertexAfter x y) h e = refl
-    plan-is (EdgeBefore x y) h e = graph-path _ _ refl (before-is en (g .eseq) x y (w .eorder) (h .1) (h .2) (edge g x))
-    plan-is (EdgeAfter x y) h e = refl
-    plan-is (WordBefore x y) h e = word-before-is g w x y (h .0) (h .1) (h .2) (h .3)
-    plan-is (WordAfter x y) h e = word-after-is g w x y (h .0) (h .1) (h .2) (h .3)
+  pub plan-is : (c : Change) → Allowed b g c → firstEdits c g ≡ [] → apply (plan c g) g ≡ changed c g
+  unfolding plan changed vertexRemoval createVertex deleteVertex deleteEdges createEdge retypeVertex retypeEdge setValue setReading vertexBefore vertexAfter edgeBefore edgeAfter
+  plan-is (CreateVertex n t x) h e = graph-path _ _ (ins-last vn 0 (record { number = n; type = t; value = x; incidences = [] }) (g .vseq) (w .vorder)) refl
+  plan-is (DeleteVertex a) h e = ap (λ (ns : List ℕ). onVseq (rem vn a) (deleteEdges ns g)) (sym (removals-none (edgesAt g a) g e))
+  plan-is (CreateEdge n a o t) h e = graph-path _ _
+      (ap (λ (l : List Vertex). attach l o (lastBy wd 0 (listIn (append (g .vseq) a (outWord n)) o)) (inWord n)) (out-last g w n a) ∙ in-last g w n a o (h .0) (h .2) (h .3))
+      (ins-last en 0 (record { number = n; alpha = a; omega = o; type = t; reading = Untested }) (g .eseq) (w .eorder))
+  plan-is (DeleteEdge a) h e = removal-is g a
+  plan-is (RetypeVertex a t) h e = graph-path _ _ (upd-agree vn noVertex a (withVertex t (vertex g a .value)) (λ v. withVertex t (v .value) v) (g .vseq) (λ k. omega (arith, w .vorder k)) refl) refl
+  plan-is (RetypeEdge a t) h e = graph-path _ _ refl (upd-agree en noEdge a (withEdge t (edge g a .reading)) (λ x. withEdge t (x .reading) x) (g .eseq) (λ k. omega (arith, w .eorder k)) refl)
+  plan-is (SetValue a x) h e = graph-path _ _ (upd-agree vn noVertex a (withVertex (vertex g a .type) x) (λ v. withVertex (v .type) x v) (g .vseq) (λ k. omega (arith, w .vorder k)) refl) refl
+  plan-is (SetReading a k d) h e = graph-path _ _ refl (upd-agree en noEdge a (withEdge (edge g a .type) (readingOf k d)) (λ x. withEdge (x .type) (readingOf k d) x) (g .eseq) (λ k. omega (arith, w .eorder k)) refl)
+  plan-is (SetAlpha n v) h e = move-last-is g w (outWord n) v (rw out-half (h .0))
+  plan-is (SetOmega n v) h e = move-last-is g w (inWord n) v (rw into-half (h .0))
+  plan-is (VertexBefore x y) h e = graph-path _ _ (before-is vn (g .vseq) x y (w .vorder) (h .1) (h .2) (vertex g x)) refl
+  plan-is (VertexAfter x y) h e = refl
+  plan-is (EdgeBefore x y) h e = graph-path _ _ refl (before-is en (g .eseq) x y (w .eorder) (h .1) (h .2) (edge g x))
+  plan-is (EdgeAfter x y) h e = refl
+  plan-is (WordBefore x y) h e = word-before-is g w x y (h .0) (h .1) (h .2) (h .3)
+  plan-is (WordAfter x y) h e = word-after-is g w x y (h .0) (h .1) (h .2) (h .3)

@@ -2,7 +2,7 @@
 use Prim.Native.Nat.{ℕ, _≤_}
 use mathlib.Core.Path.{_≡_, refl, sym, ap₂, _∙_}
 use mathlib.Core.Logic.{_⊎_, inl, inr}
-use mathlib.Core.Bool.{Bool, true, false, _&&_, _||_}
+use mathlib.Core.Bool.{Bool, true, false, _&&_}
 use native.Mathlib.Omega.{arith}
 use lib.Dec.{leb}
 use borrow.Author.Tests.{eqb-true, eqb-false, leb-true}
@@ -16,6 +16,12 @@ pub reading-back : (r : Reading) → readingOf (readingKind r) (decimetres r) �
 reading-back Untested = refl
 reading-back Silent = refl
 reading-back (Heard d) = refl
+
+-- "heard at some decimetres, 0 to 9,999"
+pub reading-range : (r : Reading) → isReading (readingKind r) (decimetres r) ≡ true → (readingKind r ≤ 2) × (decimetres r ≤ 9999)
+reading-range Untested h = (omega arith, omega arith)
+reading-range Silent h = (omega arith, omega arith)
+reading-range (Heard d) h = (omega arith, leb-true d 9999 h)
 
 -- what the two words of a reading can be
 data Kinds (k d : ℕ) : Type 0 where

@@ -6,7 +6,7 @@ use Rattle.lists.specs.Choice.{is}
 use Rattle.lists.specs.Keyed.{countBy}
 use Rattle.graph.specs.Graph.{Graph, wd, vertex, edge, listOf, edgeOf}
 use Rattle.graph.specs.Changes.{deleteEdge, VertexThere, EdgeThere}
-use Rattle.graph.specs.Edits.{apply, Placed, Applies}
+use Rattle.graph.specs.Edits.{apply, Applies}
 use Rattle.graph.specs.Plans.{removal, vertexRemoval, wordMove, listWithout}
 use Rattle.graph.proofs.Numbers.{vertex-number, edge-number}
 

@@ -1,5 +1,5 @@
 -- The words of edges at a vertex, counted.
-use Prim.Native.Nat.{ℕ, _+_, _*_, _/_, _%_, _≤_}
+use Prim.Native.Nat.{ℕ, _+_, _/_, _%_, _≤_}
 use mathlib.Core.Path.{_≡_, refl, sym, ap, _∙_}
 use mathlib.Core.Logic.{_≢_}
 use mathlib.Core.Bool.{Bool, true, false}
@@ -9,11 +9,10 @@ use native.Mathlib.Nat.{zero-add}
 use borrow.Author.Tests.{eq-eqb, ne-eqb}
 use Rattle.lists.specs.Choice.{_⇒_else_, _==_, pick, is, bit}
 use Rattle.lists.specs.Lists.{count}
-use Rattle.lists.specs.Keyed.{countBy, find}
-use Rattle.lists.proofs.Picks.{pick-yes, pick-no, pick-both, Same, same, differ, same?, is-yes, is-no}
+use Rattle.lists.specs.Keyed.{countBy}
+use Rattle.lists.proofs.Picks.{pick-yes, pick-no, pick-both, same, differ, same?, is-yes, is-no}
 use Rattle.lists.proofs.Sums.{sum-append}
-use Rattle.lists.proofs.Counts.{bit-is}
-use Rattle.graph.specs.Graph.{Edge, en, noEdge, edgeIn, thisIn, outWord, inWord}
+use Rattle.graph.specs.Graph.{Edge, en, edgeIn, thisIn, outWord, inWord}
 use Rattle.graph.specs.WellFormed.{wordsOf, wordsAt}
 
 -- the end that word k is seen from

@@ -1,13 +1,13 @@
 -- Each number of a list once, where it stands first.
-use Prim.Native.Nat.{ℕ, _+_, _≤_}
-use mathlib.Core.Path.{_≡_, refl, sym, ap, ap₂, _∙_}
+use Prim.Native.Nat.{ℕ, min}
+use mathlib.Core.Path.{_≡_, refl, sym, ap, _∙_}
 use mathlib.Core.Bool.{Bool, true, false, not, _||_}
 use mathlib.Core.List.{List, [], _∷_}
 use native.Mathlib.Omega.{arith}
 use borrow.Author.Tests.{eqb-true, eqb-false, eq-eqb, ne-eqb}
 use Rattle.lists.specs.Choice.{_⇒_else_, _==_, bit}
 use Rattle.lists.specs.Lists.{keep, has, count, distinct, firstsFrom, firsts}
-use Rattle.lists.proofs.Sums.{bit-le, count-distinct}
+use Rattle.lists.proofs.Sums.{bit-le, has-count, has-not, count-distinct}
 
 or-swap : (a b c : Bool) → (a || (b || c)) ≡ (b || (a || c))
 or-swap true true c = refl
@@ -69,6 +69,13 @@ count-from n s (x ∷ xs) = go (count-from n s xs) (count-from n (x ∷ s) xs) (
 -- each number of the list once, and no other
 pub count-firsts : (n : ℕ) (xs : List ℕ) → count n (firsts xs) ≡ bit (has n xs)
 count-firsts n xs = count-from n [] xs
+
+pub firsts-once : (n : ℕ) (xs : List ℕ) → count n (firsts xs) ≡ min 1 (count n xs)
+firsts-once n xs = count-firsts n xs ∙ go (has n xs) refl
+  where
+    go : (b : Bool) → has n xs ≡ b → bit b ≡ min 1 (count n xs)
+    go true e = omega (arith, has-count n xs e)
+    go false e = omega (arith, has-not n xs e)
 
 pub distinct-firsts : (xs : List ℕ) → distinct (firsts xs) ≡ true
 distinct-firsts xs = count-distinct (firsts xs) (λ n. omega (arith, count-firsts n xs, bit-le (has n xs)))

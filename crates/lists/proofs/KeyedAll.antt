@@ -1,13 +1,13 @@
 -- Facts about every element of a keyed list.
-use Prim.Native.Nat.{ℕ, _+_, _≤_}
-use mathlib.Core.Path.{_≡_, refl, sym, ap, _∙_}
+use Prim.Native.Nat.{ℕ, _≤_}
+use mathlib.Core.Path.{_≡_, refl}
 use mathlib.Core.Logic.{_≢_}
 use mathlib.Core.List.{List, [], _∷_}
 use native.Mathlib.Omega.{arith}
-use Rattle.lists.specs.Choice.{pick, is}
+use Rattle.lists.specs.Choice.{pick}
 use Rattle.lists.specs.Lists.{All, done, more}
 use Rattle.lists.specs.Keyed.{countBy, ins, rem, find, upd}
-use Rattle.lists.proofs.Picks.{pick-yes, pick-no, pick-self, Same, same, differ, same?, is-yes, is-no, is-zero}
+use Rattle.lists.proofs.Picks.{pick-yes, pick-no, pick-self, same, differ, same?, is-yes, is-no, is-zero}
 
 module _ {A : Type 0} (key : A → ℕ) (P : A → Type 0) where
   pub all-ins : (q p : ℕ) (x : A) {l : List A} → P x → All P l → All P (ins key q p x l)
@@ -49,3 +49,11 @@ module _ {A : Type 0} (key : A → ℕ) (P : A → Type 0) where
       let o : key y ≢ n = is-zero (key y) n (omega (arith, u n)) in
       let there : P (pick (key y) n y (find key d n l)) = h n (omega arith) in
       rw (pick-no (key y) n) at there)
+
+  -- with no premise, where it holds of the one taken if there is none
+  pub all-found : (d : A) (k : ℕ) {l : List A} → P d → All P l → P (find key d k l)
+  all-found d k z done = z
+  all-found d k z (more {x = y} i a) = elim (same? (key y) k) [
+    | same e f ↦ rw (pick-yes (key y) k) i
+    | differ e f ↦ rw (pick-no (key y) k) (all-found d k z a)
+  ]

@@ -1,12 +1,12 @@
 -- The place before an element, the last place, and updates of keyed lists in which each key stands once.
-use mathlib.Core.Path.{_≡_, refl, sym, ap, ap₂, _∙_}
+use mathlib.Core.Path.{_≡_, refl, ap, ap₂}
 use mathlib.Core.Logic.{_≢_}
 use mathlib.Core.List.{List, [], _∷_, _++_}
-use Prim.Native.Nat.{ℕ, _+_, _-_, _≤_}
+use Prim.Native.Nat.{ℕ, _+_, _≤_}
 use native.Mathlib.Omega.{arith}
-use Rattle.lists.specs.Choice.{pick, is}
+use Rattle.lists.specs.Choice.{is}
 use Rattle.lists.specs.Keyed.{countBy, ins, insBefore, rem, prev, lastBy, find, upd}
-use Rattle.lists.proofs.Picks.{pick-yes, pick-no, pick-self, pick-both, Same, same, differ, same?, is-yes, is-no, is-zero}
+use Rattle.lists.proofs.Picks.{pick-yes, pick-no, pick-both, same, differ, same?, is-yes, is-no, is-zero}
 use Rattle.lists.proofs.KeyedLaws.{count-rem, prev-in, key-upd, upd-none}
 
 module _ {A : Type 0} (key : A → ℕ) where

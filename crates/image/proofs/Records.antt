@@ -1,0 +1,61 @@
+-- Words of records, and records back from their words.
+use Prim.Native.Nat.{ℕ, zero, suc, _+_, _*_}
+use mathlib.Core.Path.{_≡_, refl, sym, ap, ap₂, _∙_}
+use mathlib.Core.Bool.{Bool, true, false, _&&_}
+use mathlib.Core.List.{List, [], _∷_, _++_, map}
+use native.Mathlib.Omega.{arith}
+use lib.ListN.{length, take, drop, getD}
+use lib.Seq.{take-at, drop-at}
+use borrow.Author.Tests.{eqb-true, eq-eqb}
+use Rattle.lists.specs.Choice.{_==_}
+use Rattle.lists.specs.Lists.{each, same}
+use Rattle.lists.proofs.Bools.{ft, and-true, and-both}
+use Rattle.graph.specs.declared.Reading.{Reading}
+use Rattle.graph.specs.declared.Reading.the-variants.{Untested, Silent, Heard}
+use Rattle.graph.specs.Graph.{Vertex, Edge, readingKind, decimetres, readingOf}
+use Rattle.graph.specs.WellFormed.{wordsAt}
+use Rattle.image.specs.Image.{vertexSize, vertexRecord, edgeSize, edgeRecord, incidencesOf, edgesFrom, verticesFrom}
+
+pub same-eq : (xs ys : List ℕ) → same xs ys ≡ true → xs ≡ ys
+same-eq [] [] e = refl
+same-eq [] (y ∷ ys) e = ft e
+same-eq (x ∷ xs) [] e = ft e
+same-eq (x ∷ xs) (y ∷ ys) e =
+    let a = and-true (x == y) (same xs ys) e in
+    ap₂ _∷_ (eqb-true x y (a .0)) (same-eq xs ys (a .1))
+
+pub same-refl : (xs : List ℕ) → same xs xs ≡ true
+same-refl [] = refl
+same-refl (x ∷ xs) = and-both (x == x) (same xs xs) (eq-eqb x x refl) (same-refl xs)
+
+pub vertices-length : (vs : List Vertex) → length (each vertexRecord vs) ≡ vertexSize * length vs
+vertices-length [] = refl
+vertices-length (v ∷ vs) = omega (arith, vertices-length vs)
+
+pub edges-length : (es : List Edge) → length (each edgeRecord es) ≡ edgeSize * length es
+edges-length [] = refl
+edges-length (e ∷ es) = omega (arith, edges-length es)
+
+reading-back : (r : Reading) → readingOf (readingKind r) (decimetres r) ≡ r
+reading-back Untested = refl
+reading-back Silent = refl
+reading-back (Heard d) = refl
+
+pub edges-back : (es : List Edge) → edgesFrom (length es) (each edgeRecord es) ≡ es
+unfolding edgesFrom
+edges-back [] = refl
+edges-back (e ∷ es) =
+    ap₂ _∷_
+    (λ i. record { number = e .number; alpha = e .alpha; omega = e .omega; type = e .type; reading = reading-back (e .reading) i })
+    (edges-back es)
+
+-- each list is as long as the edges have ends at its vertex
+unfoldable pub Fits : List Edge → List Vertex → Type 0
+Fits es [] = Unit {0}
+Fits es (v ∷ vs) = (length (v .incidences) ≡ length (wordsAt es (v .number))) × Fits es vs
+
+pub vertices-back : (es : List Edge) (vs : List Vertex) → Fits es vs → verticesFrom vertexSize es (length vs) (each vertexRecord vs) (each incidencesOf vs) ≡ vs
+unfolding verticesFrom Fits
+vertices-back es [] f = refl
+vertices-back es (v ∷ vs) f =
+    rw (take-at (v .incidences) (each incidencesOf vs) _ (f .0), drop-at (v .incidences) (each incidencesOf vs) _ (f .0), vertices-back es vs (f .1))

@@ -1,0 +1,123 @@
+-- Every saved word is below 2^32.
+use Prim.Native.Nat.{ℕ, zero, suc, _+_, _*_, _/_, _^_, _≤_, _<_}
+use mathlib.Core.Path.{_≡_, refl, sym, ap, _∙_}
+use mathlib.Core.Bool.{Bool, true, false, _&&_, _||_}
+use mathlib.Core.List.{List, [], _∷_, _++_, map}
+use native.Mathlib.Omega.{arith}
+use lib.Dec.{ltb}
+use lib.ListN.{length, getD}
+use borrow.Author.Tests.{ltb-true, eqb-true}
+use Rattle.lists.specs.Choice.{_⇒_else_, _==_}
+use Rattle.lists.specs.Lists.{any, all, has, each, All, done, more}
+use Rattle.lists.proofs.Bools.{ft, or-true, and-true}
+use Rattle.lists.proofs.Sums.{all-append, all-bool}
+use Rattle.lists.proofs.Members.{all-counted, counted-all}
+use Rattle.graph.specs.Graph.{Vertex, Edge, Graph, isVertex, hasVertex, readingKind, decimetres, outWord, inWord}
+use Rattle.graph.specs.WellFormed.{Bounds, wordsOf, wordsAt, soundVertex, soundEdge, wellFormed}
+use Rattle.graph.proofs.Readings.{reading-range}
+use Rattle.image.specs.Image.{vertexRecord, edgeRecord, incidencesOf, vertexOffset, edgeOffset, incidenceOffset, imageLength, save}
+use Rattle.image.proofs.Formed.{Formed, formed, within-le, vertex-facts, edge-facts}
+use Rattle.image.proofs.Room.{few-vertices, few-edges}
+
+-- "A word is unsigned, 32 bits."
+abbrev pub Word : ℕ → Type 0
+Word w = w < 2 ^ 32
+
+-- "1 to 1,000 vertices, 1 to 4,000 edges", "n from 1 to 64"
+pub record InRange (b : Bounds) : Type 0 where
+  pub vertices : b .vertices ≤ 1000
+  pub edges : b .edges ≤ 4000
+  pub types : b .types ≤ 64
+
+pub all-at : {P : ℕ → Type 0} → P 0 → {ws : List ℕ} → All P ws → (i : ℕ) → P (getD ws i 0)
+all-at z done i = z
+all-at z (more p a) zero = p
+all-at z (more p a) (suc i) = all-at z a i
+
+word : (w : ℕ) {ws : List ℕ} → w < 2 ^ 32 → All Word ws → All Word (w ∷ ws)
+word w h a = more h a
+
+module _ {A : Type 0} {P : ℕ → Type 0} (f : A → List ℕ) where
+  all-each : {xs : List A} → All (λ x. All P (f x)) xs → All P (each f xs)
+  all-each done = done
+  all-each (more p a) = all-append p (all-each a)
+
+module _ (b : Bounds) (u : InRange b) (g : Graph) (h : wellFormed b g ≡ true) where
+  -- the oriented words of an edge, of edges
+  word-of : (v : ℕ) (e : Edge) → soundEdge b g e ≡ true → All Word (wordsOf v e)
+  word-of v e s = go (v == e .alpha) (v == e .omega)
+    where
+      n : e .number ≤ 4000
+      n = omega (arith, within-le (b .edges) (e .number) (edge-facts b g e s .number) .1, u .edges)
+
+      out : outWord (e .number) < 2 ^ 32
+      out = omega (arith, n)
+
+      in′ : inWord (e .number) < 2 ^ 32
+      in′ = omega (arith, n)
+
+      go : (a o : Bool) → All Word ((a ⇒ (outWord (e .number) ∷ []) else []) ++ (o ⇒ (inWord (e .number) ∷ []) else []))
+      go true true = more out (more in′ done)
+      go true false = more out done
+      go false true = more in′ done
+      go false false = done
+
+  words-of : (v : ℕ) (es : List Edge) → all (soundEdge b g) es ≡ true → All Word (wordsAt es v)
+  unfolding wordsAt
+  words-of v [] s = done
+  words-of v (e ∷ es) s = let a = and-true (soundEdge b g e) (all (soundEdge b g) es) s in all-append (word-of v e (a .0)) (words-of v es (a .1))
+
+  vertex-small : (v : Vertex) → soundVertex b g v ≡ true → All Word (vertexRecord v)
+  vertex-small v s =
+      let f = vertex-facts b g v s in
+      word (v .number) (omega (arith, within-le (b .vertices) (v .number) (f .number) .1, u .vertices))
+      (word (v .type) (omega (arith, ltb-true (v .type) (b .types) (f .type), u .types)) (more (ltb-true (v .value) (2 ^ 32) (f .value)) done))
+
+  list-small : (v : Vertex) → soundVertex b g v ≡ true → All Word (v .incidences)
+  list-small v s =
+      all-counted (v .incidences)
+      (λ n c. counted-all (words-of (v .number) (g .eseq) (formed b g h .edges-sound)) n (omega (arith, vertex-facts b g v s .words n)))
+
+  vertex-known : (n : ℕ) → hasVertex g n ≡ true → n ≤ 1000
+  vertex-known n e = go (g .vseq) (formed b g h .vertices-sound) e
+    where
+      go : (vs : List Vertex) → all (soundVertex b g) vs ≡ true → any (isVertex n) vs ≡ true → n ≤ 1000
+      go [] s e = ft e
+      go (v ∷ vs) s e = pick (λ x. go vs (a .1) x) (v .number == n) refl e
+        where
+          a : (soundVertex b g v ≡ true) × (all (soundVertex b g) vs ≡ true)
+          a = and-true (soundVertex b g v) (all (soundVertex b g) vs) s
+
+          pick : (any (isVertex n) vs ≡ true → n ≤ 1000) → (t : Bool) → (v .number == n) ≡ t → (t || any (isVertex n) vs) ≡ true → n ≤ 1000
+          pick ih true q r = omega (arith, eqb-true (v .number) n q, within-le (b .vertices) (v .number) (vertex-facts b g v (a .0) .number) .1, u .vertices)
+          pick ih false q r = ih r
+
+  edge-small : (e : Edge) → soundEdge b g e ≡ true → All Word (edgeRecord e)
+  edge-small e s =
+      let f = edge-facts b g e s in
+      let r = reading-range (e .reading) (f .reading) in
+      word (e .number) (omega (arith, within-le (b .edges) (e .number) (f .number) .1, u .edges))
+      (word (e .alpha) (omega (arith, vertex-known (e .alpha) (f .starts)))
+      (word (e .omega) (omega (arith, vertex-known (e .omega) (f .stops)))
+      (word (e .type) (omega (arith, ltb-true (e .type) (b .types) (f .type), u .types))
+      (word (readingKind (e .reading)) (omega (arith, r .0)) (word (decimetres (e .reading)) (omega (arith, r .1)) done)))))
+
+  pub image-small : All Word (save g)
+  unfolding save
+  image-small =
+      let v = length (g .vseq) in
+      let e = length (g .eseq) in
+      let fv : v ≤ 1000 = omega (arith, few-vertices b g h, u .vertices) in
+      let fe : e ≤ 4000 = omega (arith, few-edges b g h, u .edges) in
+      word v (omega arith)
+      (word e (omega arith)
+      (word vertexOffset (omega arith)
+      (word (edgeOffset v) (omega arith)
+      (word (incidenceOffset v e) (omega arith)
+      (word (imageLength v e) (omega arith)
+      (all-append (all-each vertexRecord (all-bool (soundVertex b g) vertex-small (g .vseq) (formed b g h .vertices-sound)))
+      (all-append (all-each edgeRecord (all-bool (soundEdge b g) edge-small (g .eseq) (formed b g h .edges-sound)))
+      (all-each incidencesOf (all-bool (soundVertex b g) list-small (g .vseq) (formed b g h .vertices-sound))))))))))
+
+  pub image-words : (i : ℕ) → getD (save g) i 0 < 2 ^ 32
+  image-words = all-at (omega arith) image-small

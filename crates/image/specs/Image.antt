@@ -1,0 +1,118 @@
+-- The image of a graph (document 01: the saved chart): the words that it saves as, and the graph that words say.
+use Prim.Native.Nat.{ℕ, zero, suc, _+_, _*_}
+use mathlib.Core.Bool.{Bool, true, false, not, _&&_}
+use mathlib.Core.List.{List, [], _∷_, _++_}
+use lib.ListN.{length, getD, take, drop}
+use Rattle.lists.specs.Choice.{_⇒_else_, _==_}
+use Rattle.lists.specs.Lists.{each, same}
+use Rattle.graph.specs.Graph.{Vertex, Edge, Graph, readingKind, decimetres, readingOf}
+use Rattle.graph.specs.WellFormed.{Bounds, wordsAt, wellFormed}
+
+-- ---- saving
+
+-- "Vertex part, in Vseq order: number, type, value."
+abbrev pub vertexSize : ℕ
+vertexSize = 3
+
+abbrev pub vertexRecord : Vertex → List ℕ
+vertexRecord v = v .number ∷ v .type ∷ v .value ∷ []
+
+-- "Edge part, in Eseq order: number, alpha, omega, type, reading kind, decimetres."
+abbrev pub edgeSize : ℕ
+edgeSize = 6
+
+abbrev pub edgeRecord : Edge → List ℕ
+edgeRecord e = e .number ∷ e .alpha ∷ e .omega ∷ e .type ∷ readingKind (e .reading) ∷ decimetres (e .reading) ∷ []
+
+-- "Incidence part: each vertex's list, in Vseq order."
+abbrev pub incidencesOf : Vertex → List ℕ
+incidencesOf v = v .incidences
+
+-- "The offsets are 6, 6 + 3V, 6 + 3V + 6E; the total is 6 + 3V + 8E"
+abbrev pub vertexOffset : ℕ
+vertexOffset = 6
+
+abbrev pub edgeOffset : ℕ → ℕ
+edgeOffset v = vertexOffset + vertexSize * v
+
+abbrev pub incidenceOffset : ℕ → ℕ → ℕ
+incidenceOffset v e = edgeOffset v + edgeSize * e
+
+abbrev pub imageLength : ℕ → ℕ → ℕ
+imageLength v e = edgeOffset v + 8 * e
+
+-- "vertex count V, edge count E, offsets of the vertex, edge and incidence parts, total"
+abbrev pub headerOf : ℕ → ℕ → List ℕ
+headerOf v e = v ∷ e ∷ vertexOffset ∷ edgeOffset v ∷ incidenceOffset v e ∷ imageLength v e ∷ []
+
+unfoldable pub save : Graph → List ℕ
+save g =
+    headerOf (length (g .vseq)) (length (g .eseq))
+    ++ (each vertexRecord (g .vseq) ++ (each edgeRecord (g .eseq) ++ each incidencesOf (g .vseq)))
+
+-- ---- the header and the parts
+
+abbrev pub vertexCount : List ℕ → ℕ
+vertexCount ws = getD ws 0 0
+
+abbrev pub edgeCount : List ℕ → ℕ
+edgeCount ws = getD ws 1 0
+
+-- "a sound header (length, offsets, total)", "the total .. equals the length"
+unfoldable pub soundHeader : List ℕ → Bool
+soundHeader ws =
+    same (take 6 ws) (headerOf (vertexCount ws) (edgeCount ws)) && (length ws == imageLength (vertexCount ws) (edgeCount ws))
+
+abbrev pub vertexPart : List ℕ → List ℕ
+vertexPart ws = take (vertexSize * vertexCount ws) (drop vertexOffset ws)
+
+abbrev pub edgePart : List ℕ → List ℕ
+edgePart ws = take (edgeSize * edgeCount ws) (drop (edgeOffset (vertexCount ws)) ws)
+
+abbrev pub incidencePart : List ℕ → List ℕ
+incidencePart ws = drop (incidenceOffset (vertexCount ws) (edgeCount ws)) ws
+
+-- "Part 1, 2 or 3 of words with a sound header (length, offsets, total) can be had as that very part of the caller's words; else the part is empty."
+unfoldable pub part : ℕ → List ℕ → List ℕ
+unfolding soundHeader
+part k ws =
+    not (soundHeader ws) ⇒ [] else (k == 1) ⇒ vertexPart ws else (k == 2) ⇒ edgePart ws else (k == 3) ⇒ incidencePart ws else []
+
+-- ---- loading: the only graph that can have saved as these words
+
+-- the edges of k records
+unfoldable pub edgesFrom : ℕ → List ℕ → List Edge
+edgesFrom zero ws = []
+edgesFrom (suc k) ws =
+    record {
+      number = getD ws 0 0;
+      alpha = getD ws 1 0;
+      omega = getD ws 2 0;
+      type = getD ws 3 0;
+      reading = readingOf (getD ws 4 0) (getD ws 5 0);
+    }
+    ∷ edgesFrom k (drop edgeSize ws)
+
+-- the vertices of k records of size words; the list of each is as long as the edges have ends at it
+unfoldable pub verticesFrom : ℕ → List Edge → ℕ → List ℕ → List ℕ → List Vertex
+unfolding wordsAt
+verticesFrom size es zero vs ws = []
+verticesFrom size es (suc k) vs ws =
+    record {
+      number = getD vs 0 0;
+      type = getD vs 1 0;
+      value = getD vs 2 0;
+      incidences = take (length (wordsAt es (getD vs 0 0))) ws;
+    }
+    ∷ verticesFrom size es k (drop size vs) (drop (length (wordsAt es (getD vs 0 0))) ws)
+
+unfoldable pub load : List ℕ → Graph
+unfolding edgesFrom verticesFrom
+load ws =
+    let es = edgesFrom (edgeCount ws) (edgePart ws) in
+    record { vseq = verticesFrom vertexSize es (vertexCount ws) (vertexPart ws) (incidencePart ws); eseq = es }
+
+-- "Loading takes exactly the words that some chart within the capacities and types saves as." (proofs/Loads: loads)
+unfoldable pub loadable : Bounds → List ℕ → Bool
+unfolding soundHeader load save wellFormed
+loadable b ws = soundHeader ws && wellFormed b (load ws) && same ws (save (load ws))

@@ -1,0 +1,1 @@
+// The image of a graph (document 01: the saved chart).

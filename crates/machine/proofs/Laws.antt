@@ -1,0 +1,88 @@
+-- Short laws of the machine: undo, redo and commit.
+use Prim.Native.Nat.{ℕ, zero, suc, _+_, _-_, _<_}
+use mathlib.Core.Path.{_≡_, refl, sym, ap, _∙_}
+use mathlib.Core.Logic.{_↔_}
+use mathlib.Core.Bool.{Bool, true, false, not, _&&_, _||_}
+use mathlib.Core.List.{List, [], _∷_}
+use native.Mathlib.Omega.{arith}
+use lib.Dec.{ltb}
+use lib.ListN.{length}
+use borrow.Author.Tests.{eqb-true, eq-eqb, ne-eqb, ltb-true, lt-ltb}
+use Rattle.lists.specs.Choice.{_⇒_else_, _==_}
+use Rattle.lists.proofs.Bools.{tf, ft}
+use Rattle.graph.specs.Changes.{cost}
+use Rattle.history.specs.Machine.{Machine, moves, fresh, present}
+use Rattle.machine.specs.Calls.{Call, World, known, isChange, changeOf}
+use Rattle.machine.specs.Codes.{
+  numberOutside,
+  numberInUse,
+  vertexMissing,
+  edgeMissing,
+  typeOutside,
+  notReading,
+  thisDiffers,
+  sameTwice,
+  noRoom,
+  markOutside,
+  markStands,
+  markMissing,
+  atAnEnd,
+  sideOutside,
+  nothingToRange,
+  free,
+  refusal,
+}
+use Rattle.machine.specs.Machine.{Answer, sortOf, numberBy, nextBy, answer, step}
+
+abbrev accepts : ℕ → Answer
+accepts n = record { code = 0; number = n }
+
+module _ (w : World) (m : Machine) (a b c d : ℕ) where
+  abbrev undo : Call
+  undo = record { kind = 19; a = a; b = b; c = c; d = d }
+
+  abbrev redo : Call
+  redo = record { kind = 20; a = a; b = b; c = c; d = d }
+
+  abbrev commit : Call
+  commit = record { kind = 22; a = a; b = b; c = c; d = d }
+
+  -- ---- undo: refused exactly where p is 0, else it answers 1 and gives the graph before
+
+  pub undo-refused : (m .line .place ≡ 0) ↔ (refusal w m undo ≡ 14)
+  unfolding refusal
+  undo-refused = (λ e. rw (eq-eqb (m .line .place) 0 e), λ e. go (m .line .place == 0) refl e)
+    where
+      go : (t : Bool) → (m .line .place == 0) ≡ t → _≡_ {A = ℕ} ((t || false) ⇒ 14 else 0) 14 → m .line .place ≡ 0
+      go true f e = eqb-true (m .line .place) 0 f
+      go false f e = absurd (omega arith)
+
+  pub undo-made : (p : ℕ) → m .line .place ≡ suc p → (answer w m undo ≡ accepts 1) × (step w m undo ≡ moves p m)
+  unfolding answer step refusal sortOf numberBy nextBy
+  undo-made p e =
+      let f : (m .line .place == 0) ≡ false = ne-eqb (m .line .place) 0 (omega arith) in
+      let q : m .line .place - 1 ≡ p = omega arith in
+      (rw f, rw (f, q))
+
+  -- ---- redo: refused exactly where p is m, else it answers 1 and gives the graph after
+
+  pub redo-refused : (m .line .place ≡ length (m .line .steps)) ↔ (refusal w m redo ≡ 14)
+  unfolding refusal
+  redo-refused =
+      (λ e. rw (eq-eqb (m .line .place) (length (m .line .steps)) e), λ e. go (m .line .place == length (m .line .steps)) refl e)
+    where
+      go : (t : Bool) → (m .line .place == length (m .line .steps)) ≡ t → _≡_ {A = ℕ} (t ⇒ 14 else 0) 14 → m .line .place ≡ length (m .line .steps)
+      go true f e = eqb-true (m .line .place) (length (m .line .steps)) f
+      go false f e = absurd (omega arith)
+
+  pub redo-made : (m .line .place ≡ length (m .line .steps) → ⊥) → (answer w m redo ≡ accepts 1) × (step w m redo ≡ moves (suc (m .line .place)) m)
+  unfolding answer step refusal sortOf numberBy nextBy
+  redo-made e =
+      let f : (m .line .place == length (m .line .steps)) ≡ false = ne-eqb (m .line .place) (length (m .line .steps)) e in
+      (rw f, rw f)
+
+  -- ---- commit: always accepted; it answers p, keeps the graph and gives back everything
+
+  pub commit-made : (answer w m commit ≡ accepts (m .line .place)) × (step w m commit ≡ fresh (present m)) × (free w (step w m commit) ≡ w .changes)
+  unfolding answer step refusal sortOf numberBy nextBy free
+  commit-made = (refl, refl, omega arith)

@@ -1,0 +1,16 @@
+pub mod Sorts
+pub mod Stands
+pub mod MarkLaws
+pub mod CodeRows
+pub mod Paid
+pub mod Cases
+pub mod Whole
+pub mod Allowed
+pub mod Laws
+pub mod Graphs
+pub mod GraphBounds
+pub mod Invariant
+pub mod ListRows
+pub mod AnswerBounds
+pub mod Ends
+pub mod Lowest

@@ -1,0 +1,155 @@
+-- A mark stands exactly where it was set and kept since.
+use Prim.Native.Nat.{ℕ, zero, suc, _≤_, _<_}
+use mathlib.Core.Path.{_≡_, refl, sym, ap, _∙_, subst}
+use mathlib.Core.Logic.{_↔_, _⊎_, inl, inr}
+use mathlib.Core.Bool.{Bool, true, false, _&&_, _||_}
+use mathlib.Core.List.{List, [], _∷_, _++_}
+use lib.Seq.{length-take-le}
+use native.Mathlib.Omega.{arith}
+use lib.Dec.{ltb}
+use lib.ListN.{length, take, length-append}
+use borrow.Author.Tests.{ltb-true, ltb-false, eqb-true, eqb-false}
+use Rattle.lists.specs.Choice.{_⇒_else_, _==_, within}
+use Rattle.lists.specs.Lists.{any}
+use Rattle.lists.proofs.Bools.{tf, ft, and-true}
+use Rattle.graph.specs.Graph.{Graph}
+use Rattle.history.specs.Machine.{Step, Machine, Standing, gone, at, cut, placeOr, graphAt, distance, fresh, present}
+use Rattle.machine.specs.Calls.{Call, World, isChange}
+use Rattle.machine.specs.Codes.{refusal}
+use Rattle.machine.specs.Machine.{Answer, Sort, changes, sets, drops, undoes, redoes, goes, commits, asks, sortOf, answer, step, last, nextBy, numberBy}
+use Rattle.machine.specs.Marks.{Event, eventOf, events, setsBy, setsMark, endsBy, endsMark, Kept, set-here, set-later, goTo, MarkSentence}
+use Rattle.machine.proofs.Sorts.{code-is, accepted-step, refused-step, not-refused, Kind, kind-of, ofKind, call-is}
+
+-- mark k stands at q after a call of sort s at place p: the call set it there, or it stood there before and the call did not end it
+After : Sort → Machine → Call → ℕ → ℕ → Type 0
+After s m x k q = ((setsBy s k x ≡ true) × (m .line .place ≡ q)) ⊎ ((m .marks k ≡ at q) × (endsBy s k q (m .line .place) x ≡ false))
+
+pub gone-at {ℓ} : {X : Type ℓ} {q : ℕ} → gone ≡ at q → X
+gone-at e = absurd (let z : _≡_ {A = ℕ} 0 1 = cc in omega arith)
+
+pub at-at : {p q : ℕ} → at p ≡ at q → p ≡ q
+at-at e = cc
+
+pub cut-at : (p q : ℕ) (s : Standing) → cut p s ≡ at q → (s ≡ at q) × (ltb p q ≡ false)
+cut-at p q gone e = gone-at e
+cut-at p q (at r) e = go (ltb p r) refl e
+  where
+    go : (t : Bool) → ltb p r ≡ t → (t ⇒ gone else at r) ≡ at q → (at r ≡ at q) × (ltb p q ≡ false)
+    go true f h = gone-at h
+    go false f h = (h, ap (λ (n : ℕ). ltb p n) (sym (at-at h)) ∙ f)
+
+at-cut : (p q : ℕ) (s : Standing) → s ≡ at q → ltb p q ≡ false → cut p s ≡ at q
+at-cut p q s e f = ap (cut p) e ∙ ap (λ (t : Bool). t ⇒ gone else at q) f
+
+pub set-to : (t : Bool) (p q : ℕ) (s : Standing) → (t ⇒ at p else s) ≡ at q → ((t ≡ true) × (p ≡ q)) ⊎ ((s ≡ at q) × (t ≡ false))
+set-to true p q s e = inl (refl, at-at e)
+set-to false p q s e = inr (e, refl)
+
+set-from : (t : Bool) (p q : ℕ) (s : Standing) → ((t ≡ true) × (p ≡ q)) ⊎ ((s ≡ at q) × (t ≡ false)) → (t ⇒ at p else s) ≡ at q
+set-from true p q s (inl h) = ap at (h .1)
+set-from true p q s (inr h) = tf (h .1)
+set-from false p q s (inl h) = ft (h .0)
+set-from false p q s (inr h) = h .0
+
+pub drop-to : (t : Bool) (q : ℕ) (s : Standing) → (t ⇒ gone else s) ≡ at q → (s ≡ at q) × (t ≡ false)
+drop-to true q s e = gone-at e
+drop-to false q s e = (e, refl)
+
+next-to : (s : Sort) (m : Machine) (x : Call) (k q : ℕ) → nextBy s m x .marks k ≡ at q → After s m x k q
+unfolding nextBy After
+next-to changes m x k q e = inr (cut-at (m .line .place) q (m .marks k) e)
+next-to sets m x k q e = set-to (k == x .a) (m .line .place) q (m .marks k) e
+next-to drops m x k q e = inr (drop-to (k == x .a) q (m .marks k) e)
+next-to undoes m x k q e = inr (e, refl)
+next-to redoes m x k q e = inr (e, refl)
+next-to goes m x k q e = inr (e, refl)
+next-to commits m x k q e = gone-at e
+next-to asks m x k q e = inr (e, refl)
+
+next-from : (s : Sort) (m : Machine) (x : Call) (k q : ℕ) → After s m x k q → nextBy s m x .marks k ≡ at q
+unfolding nextBy After
+next-from changes m x k q (inl h) = ft (h .0)
+next-from changes m x k q (inr h) = at-cut (m .line .place) q (m .marks k) (h .0) (h .1)
+next-from sets m x k q h = set-from (k == x .a) (m .line .place) q (m .marks k) h
+next-from drops m x k q (inl h) = ft (h .0)
+next-from drops m x k q (inr h) = ap (λ (t : Bool). t ⇒ gone else m .marks k) (h .1) ∙ h .0
+next-from undoes m x k q (inl h) = ft (h .0)
+next-from undoes m x k q (inr h) = h .0
+next-from redoes m x k q (inl h) = ft (h .0)
+next-from redoes m x k q (inr h) = h .0
+next-from goes m x k q (inl h) = ft (h .0)
+next-from goes m x k q (inr h) = h .0
+next-from commits m x k q (inl h) = ft (h .0)
+next-from commits m x k q (inr h) = tf (h .1)
+next-from asks m x k q (inl h) = ft (h .0)
+next-from asks m x k q (inr h) = h .0
+
+-- the same after one call, accepted or refused
+AfterCall : World → Machine → Call → ℕ → ℕ → Type 0
+AfterCall w m x k q =
+    ((setsMark k (eventOf w m x) ≡ true) × (m .line .place ≡ q)) ⊎ ((m .marks k ≡ at q) × (endsMark k q (eventOf w m x) ≡ false))
+
+step-to : (w : World) (m : Machine) (x : Call) (k q : ℕ) → step w m x .marks k ≡ at q → AfterCall w m x k q
+unfolding AfterCall After
+step-to w m x k q e = go (refusal w m x == 0) refl
+  where
+    go : (t : Bool) → (refusal w m x == 0) ≡ t → AfterCall w m x k q
+    go true f = rw (code-is w m x true f) (next-to (sortOf (present m) x) m x k q (rw (accepted-step w m x f) at e))
+    go false f = rw (code-is w m x false f) (inr (rw (refused-step w m x f) at e, refl))
+
+refused-from : {P Q : Type 0} → ((false ≡ true) × P) ⊎ (Q × (false ≡ false)) → Q
+refused-from (inl h) = ft (h .0)
+refused-from (inr h) = h .0
+
+step-from : (w : World) (m : Machine) (x : Call) (k q : ℕ) → AfterCall w m x k q → step w m x .marks k ≡ at q
+unfolding AfterCall After
+step-from w m x k q e = go (refusal w m x == 0) refl
+  where
+    go : (t : Bool) → (refusal w m x == 0) ≡ t → step w m x .marks k ≡ at q
+    go true f = rw (accepted-step w m x f) (next-from (sortOf (present m) x) m x k q (rw (code-is w m x true f) at e))
+    go false f = rw (refused-step w m x f) (refused-from (rw (code-is w m x false f) at e))
+
+-- ---- the first sentence, from any machine
+
+-- set among the events and kept, or standing before them and not ended
+unfoldable pub Stood : World → Machine → List Call → ℕ → ℕ → Type 0
+Stood w m xs k q =
+    ((h : Graph) × Kept k q h (events w m xs)) ⊎ ((m .marks k ≡ at q) × (any (endsMark k q) (events w m xs) ≡ false))
+
+no-more : {a b : Bool} → a ≡ false → b ≡ false → (a || b) ≡ false
+no-more e f = rw e f
+
+pub no-head : (a b : Bool) → (a || b) ≡ false → a ≡ false
+no-head true b e = e
+no-head false b e = refl
+
+pub no-tail : (a b : Bool) → (a || b) ≡ false → b ≡ false
+no-tail true b e = tf e
+no-tail false b e = e
+
+pub last-to : (w : World) (m : Machine) (xs : List Call) (k q : ℕ) → last w m xs .marks k ≡ at q → Stood w m xs k q
+unfolding last events Stood AfterCall
+last-to w m [] k q e = inr (e, refl)
+last-to w m (x ∷ xs) k q e = go (last-to w (step w m x) xs k q e)
+  where
+    one : any (endsMark k q) (events w (step w m x) xs) ≡ false → AfterCall w m x k q → Stood w m (x ∷ xs) k q
+    one nz (inl h) = inl (present m, set-here (h .0) (h .1) refl nz)
+    one nz (inr h) = inr (h .0, no-more (h .1) nz)
+
+    go : Stood w (step w m x) xs k q → Stood w m (x ∷ xs) k q
+    go (inl h) = inl (h .0, set-later (h .1))
+    go (inr h) = one (h .1) (step-to w m x k q (h .0))
+
+stay-from : (w : World) (m : Machine) (xs : List Call) (k q : ℕ) → m .marks k ≡ at q → any (endsMark k q) (events w m xs) ≡ false →
+    last w m xs .marks k ≡ at q
+unfolding last events AfterCall
+stay-from w m [] k q e nz = e
+stay-from w m (x ∷ xs) k q e nz =
+    stay-from w (step w m x) xs k q
+    (step-from w m x k q (inr (e, no-head (endsMark k q (eventOf w m x)) _ nz)))
+    (no-tail (endsMark k q (eventOf w m x)) _ nz)
+
+pub kept-from : (w : World) (m : Machine) (xs : List Call) (k q : ℕ) (h : Graph) → Kept k q h (events w m xs) → last w m xs .marks k ≡ at q
+unfolding last events AfterCall
+kept-from w m (x ∷ xs) k q h (set-here s p c nz) = stay-from w (step w m x) xs k q (step-from w m x k q (inl (s, p))) nz
+kept-from w m (x ∷ xs) k q h (set-later r) = kept-from w (step w m x) xs k q h r

@@ -1,0 +1,90 @@
+-- A run: what is lent, the refusals of a list, the result and the lent words after it.
+use Prim.Native.Nat.{ℕ, _+_, _*_, _/_, _%_}
+use mathlib.Core.Bool.{Bool, true, false, not, _&&_}
+use mathlib.Core.List.{List, [], _∷_}
+use lib.ListN.{length}
+use lib.Dec.{ltb}
+use Rattle.lists.specs.Choice.{_⇒_else_, _==_, within}
+use Rattle.lists.specs.Lists.{over}
+use Rattle.types.specs.Rows.{goodRows}
+use Rattle.image.specs.Image.{save, load, loadable}
+use Rattle.history.specs.Machine.{fresh, present}
+use Rattle.machine.specs.Calls.{Call, World, boundsIn, callsOf}
+use Rattle.machine.specs.Codes.{Row, row, lowest}
+use Rattle.machine.specs.Machine.{Answer, answers, last}
+
+-- "Lent: start chart, type rows, calls, tables .., answers, end chart." Of the tables only the lengths matter
+pub record Lent : Type 0 where
+  pub start : List ℕ
+  pub rows : List ℕ
+  pub calls : List ℕ
+  pub vertexTable : ℕ
+  pub edgeTable : ℕ
+  pub changeTable : ℕ
+  pub answers : List ℕ
+  pub end : List ℕ
+
+-- "The result has a code, the calls done and the words of end chart", and the two lent slices that a run writes, as it ends
+pub record Ran : Type 0 where
+  pub code : ℕ
+  pub done : ℕ
+  pub words : ℕ
+  pub answers : List ℕ
+  pub end : List ℕ
+
+-- "Capacities are lengths ÷ 8, 12, 12, rounded down"
+abbrev pub worldOf : Lent → World
+worldOf l = record { rows = l .rows; vertices = l .vertexTable / 8; edges = l .edgeTable / 12; changes = l .changeTable / 12 }
+
+-- 106 asks for "6 + 3 × vertices + 8 × edges of capacity"
+abbrev pub imageRoom : World → ℕ
+imageRoom w = 6 + 3 * w .vertices + 8 * w .edges
+
+-- 101 to 106
+unfoldable pub listTable : Lent → List Row
+unfolding goodRows loadable
+listTable l =
+    row 101 (not (length (l .calls) % 5 == 0)) ∷
+    row 102 (ltb (length (l .answers)) (2 * (length (l .calls) / 5))) ∷
+    row 103 (not (within 1 1000 (w .vertices) && within 1 4000 (w .edges) && within 1 20000 (w .changes))) ∷
+    row 104 (not (goodRows (l .rows))) ∷
+    row 105 (not (loadable (boundsIn w) (l .start))) ∷
+    row 106 (ltb (length (l .end)) (imageRoom w)) ∷
+    []
+  where
+    w : World
+    w = worldOf l
+
+-- the lowest that applies, 0 where none does
+unfoldable pub listRefusal : Lent → ℕ
+unfolding listTable
+listRefusal l = lowest (listTable l)
+
+-- "Answers take two words a call, code and number"
+abbrev pub answerWords : List Answer → List ℕ
+answerWords [] = []
+answerWords (x ∷ xs) = x .code ∷ x .number ∷ answerWords xs
+
+-- "An accepted list has code 0 and all its calls done, refused ones counted"; "words beyond those, and beyond the end
+-- chart, stay"
+unfoldable pub accepted : Lent → Ran
+unfolding load save answers last
+accepted l =
+    let m = fresh (load (l .start)) in
+    let calls = callsOf (l .calls) in
+    let image = save (present (last (worldOf l) m calls)) in
+    record {
+      code = 0;
+      done = length calls;
+      words = length image;
+      answers = over (answerWords (answers (worldOf l) m calls)) (l .answers);
+      end = over image (l .end);
+    }
+
+-- "A refused list returns its code, 0, 0 and writes nowhere."
+unfoldable pub refused : ℕ → Lent → Ran
+refused code l = record { code = code; done = 0; words = 0; answers = l .answers; end = l .end }
+
+unfoldable pub run : Lent → Ran
+unfolding listRefusal accepted refused
+run l = let r = listRefusal l in (r == 0) ⇒ accepted l else refused r l

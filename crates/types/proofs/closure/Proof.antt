@@ -1,0 +1,54 @@
+use Prim.Native.Nat.{ℕ, _≤_, _-_}
+use mathlib.Core.Path.{_≡_, ap, _∙_}
+use native.Mathlib.Omega.{arith}
+use lib.ListN.{length}
+use Rattle.types.specs.Types.{below, belowBy}
+use Rattle.types.specs.Closure.{wordsOf}
+use Rattle.types.proofs.closure.Statement.{statement}
+use Rattle.types.proofs.closure.Tie as tie
+
+abbrev Inv-loop : tie.InvT-loop
+Inv-loop rows words₀ k₀ words k = (k ≤ length rows) × (words ≡ wordsOf (length rows) (belowBy rows k))
+
+abbrev μ-loop : tie.MeasureT-loop
+μ-loop rows words₀ k₀ words k = length rows - k
+
+direct-words-requires : tie.Need-direct-words-requires Inv-loop μ-loop
+direct-words-requires c κs = c .before .pre
+
+loop-holds : tie.Need-loop-holds Inv-loop μ-loop
+loop-holds c = (omega arith, c .direct-words .ensures)
+
+chain-over-requires : tie.Need-chain-over-requires Inv-loop μ-loop
+chain-over-requires c κs = (c .before .before .before .before .before .pre, (c .before .loop-test .taken, c .before .before .loop .inv .1))
+
+add-k : tie.Need-add-k Inv-loop μ-loop
+add-k c = omega arith
+
+loop-less : tie.Need-loop-less Inv-loop μ-loop
+loop-less c = omega arith
+
+loop-again : tie.Need-loop-again Inv-loop μ-loop
+loop-again c = (omega arith, c .chain-over .ensures)
+
+returns : tie.Need-returns Inv-loop μ-loop
+unfolding below
+returns c =
+    let l = c .before .loop in
+    let rows = c .before .before .before .before .args .rows .now in
+    let e : l .k ≡ length rows = omega arith in
+    l .inv .1 ∙ ap (λ (k : ℕ). wordsOf (length rows) (belowBy rows k)) e
+
+pub closure-spec : {M : Type 1} → statement M
+closure-spec =
+    tie.close
+    (tie.spec
+    Inv-loop
+    μ-loop
+    direct-words-requires
+    loop-holds
+    chain-over-requires
+    add-k
+    loop-less
+    loop-again
+    returns)

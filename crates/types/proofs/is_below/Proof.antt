@@ -1,0 +1,31 @@
+use mathlib.Core.Path.{sym, _∙_}
+use mathlib.Core.Logic.{inl, inr}
+use native.Mathlib.Omega.{arith}
+use borrow.Author.Needs.{needs}
+use Rattle.types.proofs.RowLaws.{good-facts}
+use Rattle.types.proofs.Closing.{not-below, closed-below}
+use Rattle.types.proofs.is_below.Statement.{statement}
+use Rattle.types.proofs.is_below.Tie as tie
+
+returns : tie.Need-returns
+returns c = λ rows good e. sym (not-below rows _ _ (inl (omega (arith, good-facts rows good .few, c .if1 .taken))))
+
+returns-2 : tie.Need-returns-2
+returns-2 c = λ rows good e. sym (not-below rows _ _ (inr (omega (arith, good-facts rows good .few, c .if2 .taken))))
+
+mul-has-bit : tie.Need-mul-has-bit
+mul-has-bit c = search needs
+
+element-copy-out-has-bit : tie.Need-element-copy-out-has-bit
+element-copy-out-has-bit c = search needs
+
+has-bit-requires : tie.Need-has-bit-requires
+has-bit-requires c κs = search needs
+
+returns-3 : tie.Need-returns-3
+returns-3 c = λ rows good e. c .has-bit .ensures ∙ closed-below rows _ _ _ e (omega (arith, c .before .before .before .if1 .left))
+
+pub is-below-spec : {M : Type 1} → statement M
+is-below-spec =
+    tie.close
+    (tie.spec returns returns-2 mul-has-bit element-copy-out-has-bit has-bit-requires returns-3)

@@ -1,0 +1,27 @@
+-- Which lent type rows are taken, in document 01's sections "The chart" and "A run".
+use Prim.Native.Nat.{ℕ, _^_}
+use mathlib.Core.Bool.{Bool, _&&_}
+use mathlib.Core.List.{List}
+use lib.Dec.{ltb}
+use lib.ListN.{length}
+use Rattle.lists.specs.Choice.{_⇒_else_, within}
+use Rattle.lists.specs.Lists.{all}
+use Rattle.types.specs.declared.RowsVerdict.{RowsVerdict}
+use Rattle.types.specs.declared.RowsVerdict.the-variants.{Good, Bad}
+
+-- a row that has no bit n or above
+abbrev pub rowFits : ℕ → ℕ → Bool
+rowFits n row = ltb row (2 ^ n)
+
+-- "Types are 0 to n − 1, n from 1 to 64. One lent 64-bit row per type", and no row with a "bit n or above"
+unfoldable pub goodRows : List ℕ → Bool
+goodRows rows = within 1 64 (length rows) && all (rowFits (length rows)) rows
+
+-- 104: "no row, over 64, bit n or above"; 0 where the rows are taken
+abbrev pub rowsCode : List ℕ → ℕ
+rowsCode rows = goodRows rows ⇒ 0 else 104
+
+-- the code of each verdict
+abbrev pub codeOf : RowsVerdict → ℕ
+codeOf Good = 0
+codeOf Bad = 104
