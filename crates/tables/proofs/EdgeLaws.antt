@@ -1,0 +1,314 @@
+-- An edge's words set, its place in eseq changed, an edge put into eseq and taken out: what the tables then hold.
+use Prim.Native.Nat.{ℕ, _+_, _-_, _*_, _/_, _%_, _≤_, _<_}
+use mathlib.Core.Path.{_≡_, refl, sym, ap, _∙_}
+use mathlib.Core.Logic.{_≢_}
+use mathlib.Core.List.{List, [], _∷_, map}
+use native.Mathlib.Omega.{arith}
+use lib.ListN.{length, getD, set, length-set}
+use lib.Seq.{getD-set-same, getD-set-other}
+use Rattle.ring.specs.declared.Lane.{Lane}
+use Rattle.ring.specs.declared.Ends.{Ends}
+use Rattle.ring.specs.Links.{Inside, Held, unlinkT, unlinkE, insertT, insertE, CanUnlink, CanInsert}
+use Rattle.graph.specs.declared.Reading.{Reading}
+use Rattle.graph.specs.declared.Reading.the-variants.{Untested}
+use Rattle.lists.specs.Choice.{pick, is}
+use Rattle.lists.proofs.Picks.{pick-yes, pick-no, Same, same, differ, same?, is-yes, is-no, is-le}
+use Rattle.lists.specs.Keyed.{countBy, ins, rem, find, upd}
+use Rattle.lists.proofs.KeyedLaws.{count-ins, count-rem, count-upd, find-upd, find-upd-other, find-ins, find-ins-other, find-rem-other, find-none}
+use Rattle.graph.specs.Graph.{Vertex, Edge, vn, en, wd, noVertex, noEdge, outWord, inWord, vertexIn, edgeIn, listIn, thisIn, readingKind, decimetres}
+use Rattle.graph.specs.Changes.{withEdge}
+use Rattle.graph.specs.Edits.{Fits, Placed}
+use Rattle.graph.specs.WellFormed.{Ordered}
+use Rattle.graph.proofs.Orders.{find-kept, key-find, find-move, count-move}
+use Rattle.graph.proofs.Incidence.{this-out, this-into, Word, out-word, in-word, other-word, word?}
+use Rattle.tables.specs.Tables.{State, st, vlane, elane, ilane, vat, eat, wat, EIn, vends, eends, endsAt, rowET, thisET, moveT, moveE, CanMove, setEdgeS, moveEdgeS, placeEdgeS, CanPlaceEdge, dropEdgeS, CanDropEdge}
+use Rattle.tables.specs.Holds.{VRow, ERow, VRows, ERows, Thises, Lists, Alone, Core}
+use Rattle.tables.proofs.Keys.{keys-count, keys-upd, keys-rem, keys-ins, length-upd, length-ins, length-rem, can-rem, held-rem, can-ins, held-ins}
+use Rattle.tables.proofs.MoveLaws.{can-move, held-move, move-len, move-e, keys-move, keys-there, keys-after}
+use Rattle.tables.proofs.Frames.{fair-e, Keeps, EOrder, EData, EThis, ELinks, keep-eseq, keep-erows, keep-this, keep-lists, unlink-e, unlink-len, insert-e, insert-len, set-keeps, row-e, in-lane, real}
+
+-- ---- the four words of an edge
+
+module _ (n live t : ℕ) (r : Reading) (et : List ℕ) where
+  pub row-len : length (rowET n live t r et) ≡ length et
+  unfolding rowET
+  row-len = simp length-set
+
+  pub row-keep : (P : ℕ → Type 0) → (P (eat 3 n) → ⊥) → (P (eat 4 n) → ⊥) → (P (eat 5 n) → ⊥) → (P (eat 9 n) → ⊥) → Keeps P et (rowET n live t r et)
+  unfolding rowET
+  row-keep P a b c d i h =
+      set-keeps P (set (set (set et (eat 3 n) live) (eat 4 n) t) (eat 5 n) (readingKind r)) (eat 9 n) (decimetres r) d i h
+      ∙ set-keeps P (set (set et (eat 3 n) live) (eat 4 n) t) (eat 5 n) (readingKind r) c i h
+      ∙ set-keeps P (set et (eat 3 n) live) (eat 4 n) t b i h ∙ set-keeps P et (eat 3 n) live a i h
+
+  pub row-other : (u f : ℕ) → 1 ≤ n → 1 ≤ u → n ≢ u → f < 12 → getD (rowET n live t r et) (eat f u) 0 ≡ getD et (eat f u) 0
+  row-other u f a b m l =
+      row-keep (λ i. (12 * u - 12 ≤ i) × (i < 12 * u)) (λ q. omega arith) (λ q. omega arith) (λ q. omega arith) (λ q. omega arith) (eat f u) (omega arith, omega arith)
+
+  pub row-new : EIn et n → (x : Edge) → x .type ≡ t → x .reading ≡ r → ERow (rowET n live t r et) n live x
+  unfolding rowET
+  row-new i x p q =
+      let t₁ = set et (eat 3 n) live in
+      let t₂ = set t₁ (eat 4 n) t in
+      let t₃ = set t₂ (eat 5 n) (readingKind r) in
+      record {
+        live = getD-set-other t₃ (eat 9 n) (eat 3 n) (decimetres r) 0 (λ z. omega arith) ∙ getD-set-other t₂ (eat 5 n) (eat 3 n) (readingKind r) 0 (λ z. omega arith)
+            ∙ getD-set-other t₁ (eat 4 n) (eat 3 n) t 0 (λ z. omega arith) ∙ getD-set-same et (eat 3 n) live 0 (omega arith);
+        type = getD-set-other t₃ (eat 9 n) (eat 4 n) (decimetres r) 0 (λ z. omega arith) ∙ getD-set-other t₂ (eat 5 n) (eat 4 n) (readingKind r) 0 (λ z. omega arith)
+            ∙ getD-set-same t₁ (eat 4 n) t 0 (simp length-set (omega arith)) ∙ sym p;
+        kind = getD-set-other t₃ (eat 9 n) (eat 5 n) (decimetres r) 0 (λ z. omega arith) ∙ getD-set-same t₂ (eat 5 n) (readingKind r) 0 (simp length-set (omega arith)) ∙ ap readingKind (sym q);
+        decimetres = getD-set-same t₃ (eat 9 n) (decimetres r) 0 (simp length-set (omega arith)) ∙ ap decimetres (sym q);
+      }
+
+module _ (n live t : ℕ) (r : Reading) (et : List ℕ) (es es′ : List Edge) (h : ERows et es) (i : EIn et n)
+    (c : countBy en n es′ ≡ live) (ct : (edgeIn es′ n) .type ≡ t) (cr : (edgeIn es′ n) .reading ≡ r)
+    (oc : (u : ℕ) → n ≢ u → countBy en u es′ ≡ countBy en u es) (oe : (u : ℕ) → n ≢ u → edgeIn es′ u ≡ edgeIn es u) where
+  pub rows-new : ERows (rowET n live t r et) es′
+  rows-new u k = elim (same? n u) [
+    | same p q ↦ rw (q, c) (row-new n live t r et i (edgeIn es′ n) ct cr)
+    | differ p q ↦
+        let o = h u k in
+        record {
+          live = row-other n live t r et u 3 (i .0) k p (omega arith) ∙ o .live ∙ sym (oc u p);
+          type = row-other n live t r et u 4 (i .0) k p (omega arith) ∙ o .type ∙ ap (λ (y : Edge). y .type) (sym (oe u p));
+          kind = row-other n live t r et u 5 (i .0) k p (omega arith) ∙ o .kind ∙ ap (λ (y : Edge). readingKind (y .reading)) (sym (oe u p));
+          decimetres = row-other n live t r et u 9 (i .0) k p (omega arith) ∙ o .decimetres ∙ ap (λ (y : Edge). decimetres (y .reading)) (sym (oe u p));
+        }
+  ]
+
+-- ---- the two ends of an edge
+
+module _ (n a z : ℕ) (et : List ℕ) where
+  pub ends-len : length (thisET n a z et) ≡ length et
+  unfolding thisET
+  ends-len = simp length-set
+
+  pub ends-keep : (P : ℕ → Type 0) → (P (wat 2 (2 * n)) → ⊥) → (P (wat 2 (2 * n + 1)) → ⊥) → Keeps P et (thisET n a z et)
+  unfolding thisET
+  ends-keep P b c i h = set-keeps P (set et (wat 2 (2 * n)) a) (wat 2 (2 * n + 1)) z c i h ∙ set-keeps P et (wat 2 (2 * n)) a b i h
+
+  module _ (i : EIn et n) where
+    seen-out : getD (thisET n a z et) (wat 2 (2 * n)) 0 ≡ a
+    unfolding thisET
+    seen-out = getD-set-other (set et (wat 2 (2 * n)) a) (wat 2 (2 * n + 1)) (wat 2 (2 * n)) z 0 (λ q. omega arith) ∙ getD-set-same et (wat 2 (2 * n)) a 0 (omega arith)
+
+    seen-into : getD (thisET n a z et) (wat 2 (2 * n + 1)) 0 ≡ z
+    unfolding thisET
+    seen-into = getD-set-same (set et (wat 2 (2 * n)) a) (wat 2 (2 * n + 1)) z 0 (simp length-set (omega arith))
+
+    seen-other : (w : ℕ) → 2 ≤ w → outWord n ≢ w → inWord n ≢ w → getD (thisET n a z et) (wat 2 w) 0 ≡ getD et (wat 2 w) 0
+    unfolding thisET
+    seen-other w r p q = getD-set-other (set et (wat 2 (2 * n)) a) (wat 2 (2 * n + 1)) (wat 2 w) z 0 (λ e. omega arith) ∙ getD-set-other et (wat 2 (2 * n)) (wat 2 w) a 0 (λ e. omega arith)
+
+    pub this-new : (es es′ : List Edge) → Thises et es → (edgeIn es′ n) .alpha ≡ a → (edgeIn es′ n) .omega ≡ z → ((u : ℕ) → n ≢ u → edgeIn es′ u ≡ edgeIn es u) → Thises (thisET n a z et) es′
+    this-new es es′ h ca cz oe w r = go (word? n w)
+      where
+        go : Word n w → getD (thisET n a z et) (wat 2 w) 0 ≡ thisIn es′ w
+        go (out-word e) = rw e (seen-out ∙ sym ca ∙ sym (this-out es′ n))
+        go (in-word e) = rw e (seen-into ∙ sym cz ∙ sym (this-into es′ n))
+        go (other-word d e f) = seen-other w r e f ∙ h w r ∙ ap (λ (x : Edge). pick (w % 2) 0 (x .alpha) (x .omega)) (sym (oe (w / 2) d))
+
+-- ---- type and reading
+
+module _ (n t : ℕ) (r : Reading) (s : State) (vs : List Vertex) (es : List Edge) (c : Core s vs es) (hn : countBy en n es ≡ 1) where
+  pub set-row : EIn (s .et) n
+  set-row = row-e (s .et) (eends (s .head)) es (c .eseq) n (omega arith)
+
+  set-found : edgeIn (upd en n (withEdge t r) es) n ≡ withEdge t r (edgeIn es n)
+  set-found = find-upd en (withEdge t r) (λ y. refl) noEdge n es (omega arith)
+
+  set-this : (et : List ℕ) → Thises et es → Thises et (upd en n (withEdge t r) es)
+  set-this et h w k = h w k ∙ sym (find-kept en noEdge (λ (x : Edge). pick (w % 2) 0 (x .alpha) (x .omega)) (withEdge t r) (w / 2) n es (λ y. refl) (λ y. refl))
+
+  pub core-set-edge : Core (setEdgeS n t r s) vs (upd en n (withEdge t r) es)
+  unfolding setEdgeS
+  core-set-edge =
+      let et′ = rowET n 1 t r (s .et) in
+      let k = row-keep n 1 t r (s .et) in
+      record {
+        vseq = c .vseq;
+        eseq = rw (keys-upd en (withEdge t r) (λ y. refl) n es) (keep-eseq (s .et) et′ (k EOrder (λ z. omega (arith, set-row)) (λ z. omega (arith, set-row)) (λ z. omega (arith, set-row)) (λ z. omega (arith, set-row)))
+            (row-len n 1 t r (s .et)) (eends (s .head)) (map en es) (c .eseq));
+        vrows = c .vrows;
+        erows = rows-new n 1 t r (s .et) es (upd en n (withEdge t r) es) (c .erows) set-row (count-upd en (withEdge t r) (λ y. refl) n n es ∙ hn)
+            (ap (λ (y : Edge). y .type) set-found) (ap (λ (y : Edge). y .reading) set-found)
+            (λ u m. count-upd en (withEdge t r) (λ y. refl) u n es) (λ u m. find-upd-other en (withEdge t r) (λ y. refl) noEdge n u es m);
+        this = set-this et′ (keep-this (s .et) et′ (k EThis (λ z. omega (arith, set-row)) (λ z. omega (arith, set-row)) (λ z. omega (arith, set-row)) (λ z. omega (arith, set-row))) es (c .this));
+        lists = keep-lists (s .vt) (s .vt) (s .et) et′ (λ i h. refl) (k ELinks (λ z. omega (arith, set-row)) (λ z. omega (arith, set-row)) (λ z. omega (arith, set-row)) (λ z. omega (arith, set-row)))
+            (row-len n 1 t r (s .et)) vs (c .lists);
+        alone = c .alone;
+        vertices = c .vertices;
+        edges = c .edges ∙ sym (length-upd en (withEdge t r) n es);
+      }
+
+-- ---- an edge moved in eseq
+
+module _ (n p : ℕ) (s : State) (vs : List Vertex) (es : List Edge) (c : Core s vs es) (o : Ordered en es) (hn : countBy en n es ≡ 1) (hp : 1 ≤ is 0 p + countBy en p (rem en n es)) where
+  num : 1 ≤ n
+  num = real en elane (s .et) (eends (s .head)) es fair-e (c .eseq) n (omega arith)
+
+  pub can-move-edge : CanMove elane n p (s .et) (eends (s .head))
+  can-move-edge = can-move elane (s .et) (eends (s .head)) (map en es) fair-e (c .eseq) n p num (keys-there en noEdge n p es hn) (keys-after en noEdge n p es hn hp)
+
+  abbrev moved : List Edge
+  moved = ins en 0 p (edgeIn es n) (rem en n es)
+
+  moved-found : (u : ℕ) → edgeIn moved u ≡ edgeIn es u
+  moved-found u = find-move en noEdge u n p es o hn
+
+  moved-rows : (et : List ℕ) → ERows et es → ERows et moved
+  moved-rows et h u r =
+      let w = h u r in
+      record {
+        live = w .live ∙ sym (count-move en noEdge u n p es hn);
+        type = w .type ∙ ap (λ (x : Edge). x .type) (sym (moved-found u));
+        kind = w .kind ∙ ap (λ (x : Edge). readingKind (x .reading)) (sym (moved-found u));
+        decimetres = w .decimetres ∙ ap (λ (x : Edge). decimetres (x .reading)) (sym (moved-found u));
+      }
+
+  moved-this : (et : List ℕ) → Thises et es → Thises et moved
+  moved-this et h w r = h w r ∙ ap (λ (x : Edge). pick (w % 2) 0 (x .alpha) (x .omega)) (sym (moved-found (w / 2)))
+
+  pub core-move-edge : Core (moveEdgeS n p s) vs moved
+  unfolding moveEdgeS
+  core-move-edge =
+      let e = eends (s .head) in
+      let et′ = moveT elane n p (s .et) e in
+      record {
+        vseq = c .vseq;
+        eseq = rw (keys-move en noEdge n p es hn) (held-move elane (s .et) e (map en es) fair-e (c .eseq) n p num (keys-there en noEdge n p es hn) (keys-after en noEdge n p es hn hp));
+        vrows = c .vrows;
+        erows = moved-rows et′ (keep-erows (s .et) et′ (λ i h. move-e n p (s .et) e i (omega arith)) es (c .erows));
+        this = moved-this et′ (keep-this (s .et) et′ (λ i h. move-e n p (s .et) e i (omega arith)) es (c .this));
+        lists = keep-lists (s .vt) (s .vt) (s .et) et′ (λ i h. refl) (λ i h. move-e n p (s .et) e i (omega arith)) (move-len n p (s .et) e elane) vs (c .lists);
+        alone = c .alone;
+        vertices = c .vertices;
+        edges = omega (arith, c .edges, length-ins en 0 p (edgeIn es n) (rem en n es), length-rem en n es (omega arith));
+      }
+
+-- ---- a new row, and a new place: what both ways share
+
+module _ (n live t : ℕ) (r : Reading) (a z : ℕ) (et t₁ : List ℕ) (i : EIn t₁ n) (keep : Keeps (λ j. j % 12 < 10) et t₁) (len : length t₁ ≡ length et) where
+  abbrev full : List ℕ
+  full = thisET n a z (rowET n live t r t₁)
+
+  row-in : EIn (rowET n live t r t₁) n
+  row-in = (i .0, rw (row-len n live t r t₁) (i .1))
+
+  full-len : length full ≡ length t₁
+  full-len = ends-len n a z (rowET n live t r t₁) ∙ row-len n live t r t₁
+
+  pub full-order : (e : Ends) (l : List ℕ) → Held elane t₁ e l → Held elane full e l
+  full-order e l h = keep-eseq t₁ full
+      (λ j q. ends-keep n a z (rowET n live t r t₁) EOrder (λ x. omega arith) (λ x. omega arith) j q ∙ row-keep n live t r t₁ EOrder (λ x. omega arith) (λ x. omega arith) (λ x. omega arith) (λ x. omega arith) j q)
+      full-len e l h
+
+  pub full-lists : (vt : List ℕ) (vs : List Vertex) → Lists vt et vs → Lists vt full vs
+  full-lists vt vs h = keep-lists vt vt et full (λ j q. refl)
+      (λ j q. ends-keep n a z (rowET n live t r t₁) ELinks (λ x. omega arith) (λ x. omega arith) j q
+      ∙ row-keep n live t r t₁ ELinks (λ x. omega arith) (λ x. omega arith) (λ x. omega arith) (λ x. omega arith) j q ∙ keep j (omega arith))
+      (full-len ∙ len) vs h
+
+  module _ (es es′ : List Edge) (c : countBy en n es′ ≡ live) (ct : (edgeIn es′ n) .type ≡ t) (cr : (edgeIn es′ n) .reading ≡ r) (ca : (edgeIn es′ n) .alpha ≡ a) (cz : (edgeIn es′ n) .omega ≡ z)
+      (oc : (u : ℕ) → n ≢ u → countBy en u es′ ≡ countBy en u es) (oe : (u : ℕ) → n ≢ u → edgeIn es′ u ≡ edgeIn es u) where
+    pub full-rows : ERows et es → ERows full es′
+    full-rows h = keep-erows (rowET n live t r t₁) full (ends-keep n a z (rowET n live t r t₁) EData (λ x. omega arith) (λ x. omega arith)) es′
+        (rows-new n live t r t₁ es es′ (keep-erows et t₁ (λ j q. keep j (omega arith)) es h) i c ct cr oc oe)
+
+    pub full-this : Thises et es → Thises full es′
+    full-this h = this-new n a z (rowET n live t r t₁) row-in es es′
+        (keep-this t₁ (rowET n live t r t₁) (row-keep n live t r t₁ EThis (λ x. omega arith) (λ x. omega arith) (λ x. omega arith) (λ x. omega arith)) es
+        (keep-this et t₁ (λ j q. keep j (omega arith)) es h)) ca cz oe
+
+-- ---- an edge put into eseq
+
+module _ (n a z t : ℕ) (r : Reading) (p : ℕ) (s : State) (vs : List Vertex) (es : List Edge) (c : Core s vs es) (f : Fits en es n p) (i : EIn (s .et) n) where
+  abbrev new : Edge
+  new = record { number = n; alpha = a; omega = z; type = t; reading = r }
+
+  in-row : Inside elane (length (s .et)) n
+  in-row q = (omega arith, omega arith)
+
+  fresh-key : countBy wd n (map en es) ≡ 0
+  fresh-key = keys-count en n es ∙ f .fresh
+
+  after-key : 1 ≤ is 0 p + countBy wd p (map en es)
+  after-key = rw (keys-count en p es) (f .after)
+
+  pub can-put-edge : CanInsert elane (s .et) (eends (s .head)) p n
+  can-put-edge = can-ins elane (s .et) (eends (s .head)) (map en es) fair-e (c .eseq) p n (f .real) fresh-key in-row after-key
+
+  new-found : edgeIn (ins en 0 p new es) n ≡ new
+  new-found = find-ins en noEdge 0 p new es (f .fresh)
+
+  pub core-place-edge : Core (placeEdgeS n a z t r p s) vs (ins en 0 p new es)
+  unfolding placeEdgeS
+  core-place-edge =
+      let e = eends (s .head) in
+      let es′ = ins en 0 p new es in
+      let t₁ = insertT elane (s .et) e p n in
+      let i₁ : EIn t₁ n = (i .0, rw (insert-len (s .et) e n elane p) (i .1)) in
+      let k = insert-e (s .et) e n p in
+      let l = insert-len (s .et) e n elane p in
+      let oc : (u : ℕ) → n ≢ u → countBy en u es′ ≡ countBy en u es = λ u m. omega (arith, count-ins en u 0 p new es, is-no n u m) in
+      let oe : (u : ℕ) → n ≢ u → edgeIn es′ u ≡ edgeIn es u = λ u m. find-ins-other en noEdge 0 p u new es m in
+      let one : countBy en n es′ ≡ 1 = omega (arith, count-ins en n 0 p new es, is-yes n n refl, f .fresh) in
+      record {
+        vseq = c .vseq;
+        eseq = rw (keys-ins en 0 p new es) (full-order n 1 t r a z (s .et) t₁ i₁ k l (insertE elane (s .et) e p n) (ins wd 0 p n (map en es))
+            (held-ins elane (s .et) e (map en es) fair-e (c .eseq) p n (f .real) fresh-key in-row after-key));
+        vrows = c .vrows;
+        erows = full-rows n 1 t r a z (s .et) t₁ i₁ k l es es′ one (ap (λ (y : Edge). y .type) new-found) (ap (λ (y : Edge). y .reading) new-found)
+            (ap (λ (y : Edge). y .alpha) new-found) (ap (λ (y : Edge). y .omega) new-found) oc oe (c .erows);
+        this = full-this n 1 t r a z (s .et) t₁ i₁ k l es es′ one (ap (λ (y : Edge). y .type) new-found) (ap (λ (y : Edge). y .reading) new-found)
+            (ap (λ (y : Edge). y .alpha) new-found) (ap (λ (y : Edge). y .omega) new-found) oc oe (c .this);
+        lists = full-lists n 1 t r a z (s .et) t₁ i₁ k l (s .vt) vs (c .lists);
+        alone = c .alone;
+        vertices = c .vertices;
+        edges = omega (arith, c .edges, length-ins en 0 p new es);
+      }
+
+-- ---- an edge taken out of eseq
+
+module _ (n : ℕ) (s : State) (vs : List Vertex) (es : List Edge) (c : Core s vs es) (hn : countBy en n es ≡ 1) where
+  old-row : EIn (s .et) n
+  old-row = row-e (s .et) (eends (s .head)) es (c .eseq) n (omega arith)
+
+  old-key : 1 ≤ countBy wd n (map en es)
+  old-key = omega (arith, keys-count en n es)
+
+  pub can-drop-edge : CanDropEdge n s
+  can-drop-edge = record {
+    row = old-row;
+    some = omega (arith, c .edges, length-rem en n es (omega arith));
+    out = can-rem elane (s .et) (eends (s .head)) (map en es) fair-e (c .eseq) n old-key;
+  }
+
+  old-found : edgeIn (rem en n es) n ≡ noEdge
+  old-found = find-none en noEdge n (rem en n es) (omega (arith, count-rem en n n es, is-yes n n refl))
+
+  pub core-drop-edge : Core (dropEdgeS n s) vs (rem en n es)
+  unfolding dropEdgeS
+  core-drop-edge =
+      let e = eends (s .head) in
+      let es′ = rem en n es in
+      let t₁ = unlinkT elane (s .et) e n in
+      let i₁ : EIn t₁ n = (old-row .0, rw (unlink-len (s .et) e n elane) (old-row .1)) in
+      let k = unlink-e (s .et) e n in
+      let l = unlink-len (s .et) e n elane in
+      let oc : (u : ℕ) → n ≢ u → countBy en u es′ ≡ countBy en u es = λ u m. omega (arith, count-rem en u n es, is-no n u m) in
+      let oe : (u : ℕ) → n ≢ u → edgeIn es′ u ≡ edgeIn es u = λ u m. find-rem-other en noEdge u n es m in
+      let no : countBy en n es′ ≡ 0 = omega (arith, count-rem en n n es, is-yes n n refl) in
+      record {
+        vseq = c .vseq;
+        eseq = rw (keys-rem en n es) (full-order n 0 0 Untested 0 0 (s .et) t₁ i₁ k l (unlinkE elane (s .et) e n) (rem wd n (map en es)) (held-rem elane (s .et) e (map en es) fair-e (c .eseq) n old-key));
+        vrows = c .vrows;
+        erows = full-rows n 0 0 Untested 0 0 (s .et) t₁ i₁ k l es es′ no (ap (λ (y : Edge). y .type) old-found) (ap (λ (y : Edge). y .reading) old-found)
+            (ap (λ (y : Edge). y .alpha) old-found) (ap (λ (y : Edge). y .omega) old-found) oc oe (c .erows);
+        this = full-this n 0 0 Untested 0 0 (s .et) t₁ i₁ k l es es′ no (ap (λ (y : Edge). y .type) old-found) (ap (λ (y : Edge). y .reading) old-found)
+            (ap (λ (y : Edge). y .alpha) old-found) (ap (λ (y : Edge). y .omega) old-found) oc oe (c .this);
+        lists = full-lists n 0 0 Untested 0 0 (s .et) t₁ i₁ k l (s .vt) vs (c .lists);
+        alone = c .alone;
+        vertices = c .vertices;
+        edges = omega (arith, c .edges, length-rem en n es (omega arith));
+      }

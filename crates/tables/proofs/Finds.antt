@@ -1,0 +1,51 @@
+-- A look-up finds a number exactly where the graph has it.
+use Prim.Native.Nat.{ℕ, _+_, _-_, _*_, _≤_, _<_}
+use mathlib.Core.Path.{_≡_, refl, sym, ap, _∙_}
+use mathlib.Core.List.{List, [], _∷_, map}
+use mathlib.Core.Bool.{Bool, true, false}
+use native.Mathlib.Omega.{arith}
+use lib.ListN.{length, getD}
+use lib.Dec.{eqb, ltb}
+use Rattle.lists.specs.Choice.{_⇒_else_, _==_}
+use borrow.Author.Tests.{eq-eqb, ne-eqb, le-ltb, eqb-false}
+use Rattle.lists.specs.Keyed.{countBy}
+use Rattle.graph.specs.Graph.{Graph, vn, en}
+use Rattle.tables.specs.declared.Found.{Found}
+use Rattle.tables.specs.declared.Found.the-variants.{At, Missing}
+use Rattle.tables.specs.Tables.{State, vat, eat, vends, eends, foundV, foundE}
+use Rattle.tables.specs.Holds.{Holds}
+use Rattle.tables.proofs.Frames.{row-v, row-e}
+
+positive : (n : ℕ) → eqb n 0 ≡ false → 1 ≤ n
+positive n p = omega (arith, eqb-false n 0 p)
+
+module _ (s : State) (g : Graph) (h : Holds s g) (n : ℕ) where
+  pub vertex-found : countBy vn n (g .vseq) ≡ 1 → foundV (s .vt) n ≡ At (8 * n - 8)
+  unfolding foundV
+  vertex-found c =
+      let r = row-v (s .vt) (vends (s .head)) (g .vseq) (h .core .vseq) n (omega arith) in
+      simp (ne-eqb n 0 (λ q. omega arith), le-ltb (length (s .vt)) (8 * n) (r .1), h .core .vrows n (r .0) .live, c)
+
+  pub edge-found : countBy en n (g .eseq) ≡ 1 → foundE (s .et) n ≡ At (12 * n - 12)
+  unfolding foundE
+  edge-found c =
+      let r = row-e (s .et) (eends (s .head)) (g .eseq) (h .core .eseq) n (omega arith) in
+      simp (ne-eqb n 0 (λ q. omega arith), le-ltb (length (s .et)) (12 * n) (r .1), h .core .erows n (r .0) .live, c)
+
+  pub vertex-missing : countBy vn n (g .vseq) ≡ 0 → foundV (s .vt) n ≡ Missing
+  unfolding foundV
+  vertex-missing c = go (eqb n 0) (ltb (length (s .vt)) (8 * n)) refl
+    where
+      go : (b d : Bool) → eqb n 0 ≡ b → (b ⇒ Missing else d ⇒ Missing else (getD (s .vt) (vat 0 n) 0 == 0) ⇒ Missing else At (8 * n - 8)) ≡ Missing
+      go true d p = refl
+      go false true p = refl
+      go false false p = simp (eq-eqb (getD (s .vt) (vat 0 n) 0) 0 (h .core .vrows n (positive n p) .live ∙ c))
+
+  pub edge-missing : countBy en n (g .eseq) ≡ 0 → foundE (s .et) n ≡ Missing
+  unfolding foundE
+  edge-missing c = go (eqb n 0) (ltb (length (s .et)) (12 * n)) refl
+    where
+      go : (b d : Bool) → eqb n 0 ≡ b → (b ⇒ Missing else d ⇒ Missing else (getD (s .et) (eat 3 n) 0 == 0) ⇒ Missing else At (12 * n - 12)) ≡ Missing
+      go true d p = refl
+      go false true p = refl
+      go false false p = simp (eq-eqb (getD (s .et) (eat 3 n) 0) 0 (h .core .erows n (positive n p) .live ∙ c))

@@ -1,0 +1,69 @@
+-- The graph that the tables hold is the one that is read off them.
+use Prim.Native.Nat.{ℕ, _+_, _-_, _*_, _/_, _≤_, _<_}
+use mathlib.Core.Path.{_≡_, refl, sym, ap, _∙_}
+use mathlib.Core.List.{List, [], _∷_, map}
+use native.Mathlib.Omega.{arith}
+use lib.ListN.{length, getD}
+use Rattle.ring.specs.Links.{Held, nodes}
+use Rattle.ring.proofs.Model.{held-nodes}
+use Rattle.lists.proofs.Picks.{pick-yes, pick-no, pick-self, Same, same, differ, same?, is-yes, is-no, is-zero}
+use Rattle.lists.specs.Choice.{is}
+use Rattle.lists.specs.Keyed.{countBy, find}
+use Rattle.graph.specs.Graph.{Vertex, Edge, Graph, vn, en, wd, noVertex, noEdge, outWord, inWord, vertexIn, edgeIn, listIn, readingKind, decimetres, readingOf}
+use Rattle.graph.specs.WellFormed.{Ordered}
+use Rattle.graph.proofs.Orders.{key-find}
+use Rattle.graph.proofs.Incidence.{this-out, this-into}
+use Rattle.tables.specs.Tables.{State, vlane, elane, ilane, vends, eends, endsAt, vat, eat, wat}
+use Rattle.tables.specs.Holds.{Holds, Core}
+use Rattle.tables.specs.Read.{vertexAt, edgeAt, graphOf}
+use Rattle.tables.proofs.Frames.{row-v, row-e}
+use Rattle.tables.proofs.PlanLaws.{reading-back}
+
+-- a function of the key that gives each element gives the list
+module _ {A : Type 0} (key : A → ℕ) (d : A) (f : ℕ → A) where
+  list-of : (l : List A) → ((n : ℕ) → countBy key n l ≤ 1) → ((n : ℕ) → 1 ≤ countBy key n l → f n ≡ find key d n l) → map f (map key l) ≡ l
+  list-of [] u h = refl
+  list-of (y ∷ l) u h =
+      let k = is-yes (key y) (key y) refl in
+      let first : f (key y) ≡ y = h (key y) (omega arith) ∙ pick-self (key y) y _ in
+      let rest : map f (map key l) ≡ l = list-of l (λ n. omega (arith, u n)) (λ n i.
+      h n (omega arith) ∙ pick-no (key y) n _ _ (is-zero (key y) n (omega (arith, u n)))) in
+      λ i. first i ∷ rest i
+
+module _ (s : State) (g : Graph) (h : Holds s g) where
+  read-vertex : (v : ℕ) → 1 ≤ countBy vn v (g .vseq) → vertexAt s v ≡ vertexIn (g .vseq) v
+  read-vertex v c =
+      let r = row-v (s .vt) (vends (s .head)) (g .vseq) (h .core .vseq) v c in
+      let o = h .core .vrows v (r .0) in
+      λ i. record {
+        number = sym (key-find vn noVertex v (g .vseq) c) i;
+        type = o .type i;
+        value = o .value i;
+        incidences = held-nodes ilane (s .et) (endsAt (s .vt) v) (λ x a b. omega arith) (listIn (g .vseq) v) (h .core .lists v (r .0)) i;
+      }
+
+  read-edge : (e : ℕ) → 1 ≤ countBy en e (g .eseq) → edgeAt s e ≡ edgeIn (g .eseq) e
+  read-edge e c =
+      let r = row-e (s .et) (eends (s .head)) (g .eseq) (h .core .eseq) e c in
+      let o = h .core .erows e (r .0) in
+      let q : readingOf (getD (s .et) (eat 5 e) 0) (getD (s .et) (eat 9 e) 0) ≡ (edgeIn (g .eseq) e) .reading = rw (o .kind, o .decimetres) (reading-back ((edgeIn (g .eseq) e) .reading)) in
+      λ i. record {
+        number = sym (key-find en noEdge e (g .eseq) c) i;
+        alpha = (h .core .this (outWord e) (omega (arith, r)) ∙ this-out (g .eseq) e) i;
+        omega = (h .core .this (inWord e) (omega (arith, r)) ∙ this-into (g .eseq) e) i;
+        type = o .type i;
+        reading = q i;
+      }
+
+  pub graph-is : graphOf s ≡ g
+  unfolding graphOf
+  graph-is =
+      let v : nodes vlane (s .vt) (vends (s .head)) ≡ map vn (g .vseq) = held-nodes vlane (s .vt) (vends (s .head)) (λ x a b. omega arith) (map vn (g .vseq)) (h .core .vseq) in
+      let e : nodes elane (s .et) (eends (s .head)) ≡ map en (g .eseq) = held-nodes elane (s .et) (eends (s .head)) (λ x a b. omega arith) (map en (g .eseq)) (h .core .eseq) in
+      let vs : map (vertexAt s) (map vn (g .vseq)) ≡ g .vseq = list-of vn noVertex (vertexAt s) (g .vseq) (λ n. omega (arith, h .sound .vorder n)) read-vertex in
+      let es : map (edgeAt s) (map en (g .eseq)) ≡ g .eseq = list-of en noEdge (edgeAt s) (g .eseq) (λ n. omega (arith, h .sound .eorder n)) read-edge in
+      λ i. record { vseq = (ap (map (vertexAt s)) v ∙ vs) i; eseq = (ap (map (edgeAt s)) e ∙ es) i }
+
+-- no tables hold two graphs
+pub holds-one : (s : State) (g g′ : Graph) → Holds s g → Holds s g′ → g ≡ g′
+holds-one s g g′ h h′ = sym (graph-is s g h) ∙ graph-is s g′ h′

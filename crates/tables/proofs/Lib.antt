@@ -1,0 +1,14 @@
+pub mod Keys
+pub mod Steps
+pub mod Frames
+pub mod WordLaws
+pub mod MoveLaws
+pub mod VertexLaws
+pub mod EdgeLaws
+pub mod Refines
+pub mod Finds
+pub mod Sizes
+pub mod Empty
+pub mod Undo
+pub mod PlanLaws
+pub mod GraphRead

@@ -1,0 +1,55 @@
+use Rattle.tables.specs.Tables.{putEnds}
+use lib.ListN.{length-set}
+use native.Mathlib.Omega.{arith}
+use mathlib.Core.Path.{refl}
+use borrow.Author.Needs.{needs}
+use Rattle.tables.proofs.rows.put_ends.Statement.{statement}
+use Rattle.tables.proofs.rows.put_ends.Tie as tie
+use Rattle.tables.proofs.rows.put_ends.Reads as reads
+use Rattle.tables.proofs.rows.put_ends.Lts as lts
+
+mul-at : tie.Need-mul-at
+mul-at c = search needs
+
+sub-at : tie.Need-sub-at
+sub-at c = search needs
+
+add-vt : tie.Need-add-vt
+add-vt c = search needs
+
+mul-vt : tie.Need-mul-vt
+mul-vt c = search needs
+
+slice-write-vt : tie.Need-slice-write-vt
+slice-write-vt c = search needs
+
+add-vt-2 : tie.Need-add-vt-2
+add-vt-2 c = search needs
+
+mul-vt-2 : tie.Need-mul-vt-2
+mul-vt-2 c = search needs
+
+slice-write-vt-2 : tie.Need-slice-write-vt-2
+slice-write-vt-2 c = simp length-set (omega arith)
+
+same-length : tie.Need-same-length
+same-length c = search needs
+
+returns : tie.Need-returns
+unfolding putEnds
+returns c = refl
+
+pub put-ends-spec : {M : Type 1} → statement M
+put-ends-spec =
+    tie.close
+    (tie.spec
+    mul-at
+    sub-at
+    add-vt
+    mul-vt
+    slice-write-vt
+    add-vt-2
+    mul-vt-2
+    slice-write-vt-2
+    same-length
+    returns)

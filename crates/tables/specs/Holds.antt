@@ -1,0 +1,56 @@
+-- What it is for a head and two tables to hold a graph.
+use Prim.Native.Nat.{ℕ, _+_, _-_, _*_, _≤_, _<_}
+use mathlib.Core.Path.{_≡_}
+use mathlib.Core.Logic.{_≢_}
+use mathlib.Core.List.{List, [], _∷_, map}
+use lib.ListN.{length, getD, set}
+use Rattle.ring.specs.Links.{Held}
+use Rattle.lists.specs.Keyed.{countBy}
+use Rattle.graph.specs.Graph.{Vertex, Edge, Graph, vn, en, wd, vertexIn, edgeIn, listIn, thisIn, readingKind, decimetres}
+use Rattle.graph.specs.WellFormed.{WellFormed}
+use Rattle.tables.specs.declared.Head.{Head}
+use Rattle.tables.specs.Tables.{State, vlane, elane, ilane, vat, eat, wat, vends, eends, endsAt}
+
+-- the words of a vertex, and of an edge; a number that is not in the graph has the words of none, which are 0
+pub record VRow (vt : List ℕ) (v n : ℕ) (x : Vertex) : Type 0 where
+  pub live : getD vt (vat 0 v) 0 ≡ n
+  pub type : getD vt (vat 1 v) 0 ≡ x .type
+  pub value : getD vt (vat 2 v) 0 ≡ x .value
+
+pub record ERow (et : List ℕ) (e n : ℕ) (x : Edge) : Type 0 where
+  pub live : getD et (eat 3 e) 0 ≡ n
+  pub type : getD et (eat 4 e) 0 ≡ x .type
+  pub kind : getD et (eat 5 e) 0 ≡ readingKind (x .reading)
+  pub decimetres : getD et (eat 9 e) 0 ≡ decimetres (x .reading)
+
+abbrev pub VRows : List ℕ → List Vertex → Type 0
+VRows vt vs = (v : ℕ) → 1 ≤ v → VRow vt v (countBy vn v vs) (vertexIn vs v)
+
+abbrev pub ERows : List ℕ → List Edge → Type 0
+ERows et es = (e : ℕ) → 1 ≤ e → ERow et e (countBy en e es) (edgeIn es e)
+
+abbrev pub Thises : List ℕ → List Edge → Type 0
+Thises et es = (w : ℕ) → 2 ≤ w → getD et (wat 2 w) 0 ≡ thisIn es w
+
+abbrev pub Lists : List ℕ → List ℕ → List Vertex → Type 0
+Lists vt et vs = (v : ℕ) → 1 ≤ v → Held ilane et (endsAt vt v) (listIn vs v)
+
+-- no word stands in two lists
+abbrev pub Alone : List Vertex → Type 0
+Alone vs = (u v k : ℕ) → u ≢ v → countBy wd k (listIn vs u) + countBy wd k (listIn vs v) ≤ 1
+
+-- the tables hold these vertices and these edges, whether or not the two fit together
+pub record Core (s : State) (vs : List Vertex) (es : List Edge) : Type 0 where
+  pub vseq : Held vlane (s .vt) (vends (s .head)) (map vn vs)
+  pub eseq : Held elane (s .et) (eends (s .head)) (map en es)
+  pub vrows : VRows (s .vt) vs
+  pub erows : ERows (s .et) es
+  pub this : Thises (s .et) es
+  pub lists : Lists (s .vt) (s .et) vs
+  pub alone : Alone vs
+  pub vertices : s .head .vertices ≡ length vs
+  pub edges : s .head .edges ≡ length es
+
+pub record Holds (s : State) (g : Graph) : Type 0 where
+  pub core : Core s (g .vseq) (g .eseq)
+  pub sound : WellFormed g

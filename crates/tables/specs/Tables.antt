@@ -1,0 +1,215 @@
+-- The tables: where each word of a vertex and of an edge stands, and what each step does to the words.
+use Prim.Native.Nat.{ℕ, _+_, _-_, _*_, _^_, _≤_, _<_}
+use mathlib.Core.Path.{_≡_}
+use mathlib.Core.List.{List, [], _∷_}
+use lib.ListN.{length, getD, set}
+use Rattle.ring.specs.declared.Lane.{Lane}
+use Rattle.ring.specs.declared.Ends.{Ends}
+use Rattle.ring.specs.Links.{prv, linkOf, unlinkT, unlinkE, insertT, insertE, CanUnlink, CanInsert}
+use Rattle.graph.specs.declared.Reading.{Reading}
+use Rattle.graph.specs.declared.Reading.the-variants.{Untested, Silent, Heard}
+use lib.Dec.{ltb}
+use Rattle.lists.specs.Choice.{_⇒_else_, _==_}
+use Rattle.graph.specs.Graph.{readingKind, decimetres}
+use Rattle.tables.specs.declared.Head.{Head}
+use Rattle.tables.specs.declared.Found.{Found}
+use Rattle.tables.specs.declared.Found.the-variants.{At, Missing}
+
+-- the links of vseq, of eseq, and of the incidence lists
+abbrev pub vlane : Lane
+vlane = record { stride = 8; skip = 2 }
+
+abbrev pub elane : Lane
+elane = record { stride = 12; skip = 2 }
+
+abbrev pub ilane : Lane
+ilane = record { stride = 6; skip = 12 }
+
+-- word f of vertex v: 0 live, 1 type, 2 value, 3 first, 4 last, 5 spare, 6 prev, 7 next
+abbrev pub vat : ℕ → ℕ → ℕ
+vat f v = 8 * v - 8 + f
+
+-- word f of edge e: 3 live, 4 type, 5 reading kind, 9 decimetres, 10 prev, 11 next; the rest is in its halves
+abbrev pub eat : ℕ → ℕ → ℕ
+eat f e = 12 * e - 12 + f
+
+-- word f of the oriented word w: 0 prev, 1 next, 2 this
+abbrev pub wat : ℕ → ℕ → ℕ
+wat f w = 6 * w - 12 + f
+
+-- the head and the two tables
+pub record State : Type 0 where
+  pub head : Head
+  pub vt : List ℕ
+  pub et : List ℕ
+
+abbrev pub st : Head → List ℕ → List ℕ → State
+st h vt et = record { head = h; vt = vt; et = et }
+
+abbrev pub vends : Head → Ends
+vends h = record { first = h .vfirst; last = h .vlast }
+
+abbrev pub eends : Head → Ends
+eends h = record { first = h .efirst; last = h .elast }
+
+abbrev pub withV : Ends → Head → Head
+withV e h = record { vfirst = e .first; vlast = e .last; efirst = h .efirst; elast = h .elast; vertices = h .vertices; edges = h .edges }
+
+abbrev pub withE : Ends → Head → Head
+withE e h = record { vfirst = h .vfirst; vlast = h .vlast; efirst = e .first; elast = e .last; vertices = h .vertices; edges = h .edges }
+
+-- vertex v's row is in the table; edge e's
+abbrev pub VIn : List ℕ → ℕ → Type 0
+VIn vt v = (1 ≤ v) × (8 * v ≤ length vt)
+
+abbrev pub EIn : List ℕ → ℕ → Type 0
+EIn et e = (1 ≤ e) × (12 * e ≤ length et)
+
+abbrev pub WIn : List ℕ → ℕ → Type 0
+WIn et w = (2 ≤ w) × (6 * w ≤ length et + 6)
+
+-- the ends of v's incidence list
+abbrev pub endsAt : List ℕ → ℕ → Ends
+endsAt vt v = record { first = getD vt (vat 3 v) 0; last = getD vt (vat 4 v) 0 }
+
+unfoldable pub putEnds : ℕ → Ends → List ℕ → List ℕ
+putEnds v e vt = set (set vt (vat 3 v) (e .first)) (vat 4 v) (e .last)
+
+-- ---- the steps
+
+-- a node taken out and put in after p
+unfoldable pub moveT : Lane → ℕ → ℕ → List ℕ → Ends → List ℕ
+moveT lane n p t e = insertT lane (unlinkT lane t e n) (unlinkE lane t e n) p n
+
+unfoldable pub moveE : Lane → ℕ → ℕ → List ℕ → Ends → Ends
+moveE lane n p t e = insertE lane (unlinkT lane t e n) (unlinkE lane t e n) p n
+
+pub record CanMove (lane : Lane) (n p : ℕ) (t : List ℕ) (e : Ends) : Type 0 where
+  pub out : CanUnlink lane t e n
+  pub back : CanInsert lane (unlinkT lane t e n) (unlinkE lane t e n) p n
+
+unfoldable pub moveVertexS : ℕ → ℕ → State → State
+moveVertexS n p s = st (withV (moveE vlane n p (s .vt) (vends (s .head))) (s .head)) (moveT vlane n p (s .vt) (vends (s .head))) (s .et)
+
+-- word w out of v's list, and into it after p
+unfoldable pub detachS : ℕ → ℕ → State → State
+detachS v w s = st (s .head) (putEnds v (unlinkE ilane (s .et) (endsAt (s .vt) v) w) (s .vt)) (unlinkT ilane (s .et) (endsAt (s .vt) v) w)
+
+pub record CanDetach (v w : ℕ) (s : State) : Type 0 where
+  pub row : VIn (s .vt) v
+  pub out : CanUnlink ilane (s .et) (endsAt (s .vt) v) w
+
+unfoldable pub attachS : ℕ → ℕ → ℕ → State → State
+attachS v p w s = st (s .head) (putEnds v (insertE ilane (s .et) (endsAt (s .vt) v) p w) (s .vt)) (insertT ilane (s .et) (endsAt (s .vt) v) p w)
+
+pub record CanAttach (v p w : ℕ) (s : State) : Type 0 where
+  pub row : VIn (s .vt) v
+  pub back : CanInsert ilane (s .et) (endsAt (s .vt) v) p w
+
+-- this of w
+unfoldable pub setThisS : ℕ → ℕ → State → State
+setThisS w u s = st (s .head) (s .vt) (set (s .et) (wat 2 w) u)
+
+unfoldable pub moveWordS : ℕ → ℕ → ℕ → ℕ → State → State
+moveWordS w v u p s = setThisS w u (attachS u p w (detachS v w s))
+
+pub record CanMoveWord (w v u p : ℕ) (s : State) : Type 0 where
+  pub here : WIn (s .et) w
+  pub this : getD (s .et) (wat 2 w) 0 ≡ v
+  pub out : CanDetach v w s
+  pub back : CanAttach u p w (detachS v w s)
+
+-- ---- rows
+
+unfoldable pub rowVT : ℕ → ℕ → ℕ → ℕ → List ℕ → List ℕ
+rowVT v live t x vt = set (set (set vt (vat 0 v) live) (vat 1 v) t) (vat 2 v) x
+
+unfoldable pub rowET : ℕ → ℕ → ℕ → Reading → List ℕ → List ℕ
+rowET e live t r et = set (set (set (set et (eat 3 e) live) (eat 4 e) t) (eat 5 e) (readingKind r)) (eat 9 e) (decimetres r)
+
+unfoldable pub thisET : ℕ → ℕ → ℕ → List ℕ → List ℕ
+thisET e a z et = set (set et (wat 2 (2 * e)) a) (wat 2 (2 * e + 1)) z
+
+abbrev pub countV : ℕ → Head → Head
+countV n h = record { vfirst = h .vfirst; vlast = h .vlast; efirst = h .efirst; elast = h .elast; vertices = n; edges = h .edges }
+
+abbrev pub countE : ℕ → Head → Head
+countE n h = record { vfirst = h .vfirst; vlast = h .vlast; efirst = h .efirst; elast = h .elast; vertices = h .vertices; edges = n }
+
+-- ---- vertices
+
+unfoldable pub setVertexS : ℕ → ℕ → ℕ → State → State
+setVertexS v t x s = st (s .head) (rowVT v 1 t x (s .vt)) (s .et)
+
+unfoldable pub insertVertexS : ℕ → ℕ → ℕ → ℕ → State → State
+insertVertexS n t x p s =
+    st (countV (s .head .vertices + 1) (withV (insertE vlane (s .vt) (vends (s .head)) p n) (s .head)))
+    (rowVT n 1 t x (insertT vlane (s .vt) (vends (s .head)) p n)) (s .et)
+
+pub record CanInsertVertex (n p : ℕ) (s : State) : Type 0 where
+  pub row : VIn (s .vt) n
+  pub room : s .head .vertices + 1 < 2 ^ 32
+  pub back : CanInsert vlane (s .vt) (vends (s .head)) p n
+
+unfoldable pub removeVertexS : ℕ → State → State
+removeVertexS n s =
+    st (countV (s .head .vertices - 1) (withV (unlinkE vlane (s .vt) (vends (s .head)) n) (s .head)))
+    (rowVT n 0 0 0 (unlinkT vlane (s .vt) (vends (s .head)) n)) (s .et)
+
+pub record CanRemoveVertex (n : ℕ) (s : State) : Type 0 where
+  pub row : VIn (s .vt) n
+  pub some : 1 ≤ s .head .vertices
+  pub out : CanUnlink vlane (s .vt) (vends (s .head)) n
+
+-- ---- edges
+
+unfoldable pub setEdgeS : ℕ → ℕ → Reading → State → State
+setEdgeS e t r s = st (s .head) (s .vt) (rowET e 1 t r (s .et))
+
+unfoldable pub moveEdgeS : ℕ → ℕ → State → State
+moveEdgeS n p s = st (withE (moveE elane n p (s .et) (eends (s .head))) (s .head)) (s .vt) (moveT elane n p (s .et) (eends (s .head)))
+
+-- an edge's row and its place in eseq, without its words in the lists
+unfoldable pub placeEdgeS : ℕ → ℕ → ℕ → ℕ → Reading → ℕ → State → State
+placeEdgeS n a z t r p s =
+    st (countE (s .head .edges + 1) (withE (insertE elane (s .et) (eends (s .head)) p n) (s .head))) (s .vt)
+    (thisET n a z (rowET n 1 t r (insertT elane (s .et) (eends (s .head)) p n)))
+
+pub record CanPlaceEdge (n p : ℕ) (s : State) : Type 0 where
+  pub row : EIn (s .et) n
+  pub room : s .head .edges + 1 < 2 ^ 32
+  pub back : CanInsert elane (s .et) (eends (s .head)) p n
+
+unfoldable pub dropEdgeS : ℕ → State → State
+dropEdgeS n s =
+    st (countE (s .head .edges - 1) (withE (unlinkE elane (s .et) (eends (s .head)) n) (s .head))) (s .vt)
+    (thisET n 0 0 (rowET n 0 0 Untested (unlinkT elane (s .et) (eends (s .head)) n)))
+
+pub record CanDropEdge (n : ℕ) (s : State) : Type 0 where
+  pub row : EIn (s .et) n
+  pub some : 1 ≤ s .head .edges
+  pub out : CanUnlink elane (s .et) (eends (s .head)) n
+
+unfoldable pub insertEdgeS : ℕ → ℕ → ℕ → ℕ → Reading → ℕ → ℕ → ℕ → State → State
+insertEdgeS n a z t r p o i s = attachS z i (2 * n + 1) (attachS a o (2 * n) (placeEdgeS n a z t r p s))
+
+pub record CanInsertEdge (n a z t : ℕ) (r : Reading) (p o i : ℕ) (s : State) : Type 0 where
+  pub place : CanPlaceEdge n p s
+  pub out : CanAttach a o (2 * n) (placeEdgeS n a z t r p s)
+  pub into : CanAttach z i (2 * n + 1) (attachS a o (2 * n) (placeEdgeS n a z t r p s))
+
+unfoldable pub removeEdgeS : ℕ → ℕ → ℕ → State → State
+removeEdgeS n a z s = dropEdgeS n (detachS a (2 * n) (detachS z (2 * n + 1) s))
+
+pub record CanRemoveEdge (n a z : ℕ) (s : State) : Type 0 where
+  pub into : CanDetach z (2 * n + 1) s
+  pub out : CanDetach a (2 * n) (detachS z (2 * n + 1) s)
+  pub row : CanDropEdge n (detachS a (2 * n) (detachS z (2 * n + 1) s))
+
+-- ---- look-ups
+
+unfoldable pub foundV : List ℕ → ℕ → Found
+foundV vt v = (v == 0) ⇒ Missing else ltb (length vt) (8 * v) ⇒ Missing else (getD vt (vat 0 v) 0 == 0) ⇒ Missing else At (8 * v - 8)
+
+unfoldable pub foundE : List ℕ → ℕ → Found
+foundE et e = (e == 0) ⇒ Missing else ltb (length et) (12 * e) ⇒ Missing else (getD et (eat 3 e) 0 == 0) ⇒ Missing else At (12 * e - 12)

@@ -1,0 +1,42 @@
+// A graph in lent tables of words: 8 words a vertex, 12 an edge. Number 0 is none, and so are the words 0 and 1.
+use graph::Reading;
+
+pub mod rows; // the words of one vertex and of one edge
+pub mod incidence; // words put into incidence lists, taken out and moved
+pub mod vertices; // vertices put in, taken out, set and moved
+pub mod edges; // edges put in, taken out, set and moved
+pub mod edits; // the nine edits
+pub mod lookups; // is a number in the graph
+pub mod plans; // the edits that changes ask for
+
+// Ends of the two orders (0 is none), and how many vertices and edges there are.
+pub struct Head {
+    pub vfirst: u32,
+    pub vlast: u32,
+    pub efirst: u32,
+    pub elast: u32,
+    pub vertices: u32,
+    pub edges: u32,
+}
+
+// An edge: its number, its ends, its type and its reading.
+pub struct EdgeRecord {
+    pub number: u32,
+    pub alpha: u32,
+    pub omega: u32,
+    pub sort: u32,
+    pub reading: Reading,
+}
+
+// Where an edge is put in: after which edge of Eseq, and after which words of the two incidence lists.
+pub struct Places {
+    pub order: u32,
+    pub out: u32,
+    pub into: u32,
+}
+
+// Where the row of a number starts.
+pub enum Found {
+    At(usize),
+    Missing,
+}

@@ -1,0 +1,40 @@
+// Is a number in the graph, and where does its row start.
+use crate::Found;
+ghost use mathlib.Core.Path.{_≡_};
+ghost use Rattle.tables.specs.Tables.{foundV, foundE};
+
+// Where v's row starts.
+pub fn find_vertex(vt: &[u32], v: u32) -> Found
+    ensures { λ r. ⌜ r ≡ foundV (now (vt .entry)) v ⌝ }
+{
+    let n = v as usize;
+    if n == 0 {
+        return Found::Missing;
+    }
+    if vt.len() < 8 * n {
+        return Found::Missing;
+    }
+    let at = 8 * n - 8;
+    if vt[at + 0] == 0 {
+        return Found::Missing;
+    }
+    Found::At(at)
+}
+
+// Where e's row starts.
+pub fn find_edge(et: &[u32], e: u32) -> Found
+    ensures { λ r. ⌜ r ≡ foundE (now (et .entry)) e ⌝ }
+{
+    let n = e as usize;
+    if n == 0 {
+        return Found::Missing;
+    }
+    if et.len() < 12 * n {
+        return Found::Missing;
+    }
+    let at = 12 * n - 12;
+    if et[at + 3] == 0 {
+        return Found::Missing;
+    }
+    Found::At(at)
+}

@@ -1,0 +1,114 @@
+// The words of one vertex and of one edge.
+use graph::Reading;
+use ring::Ends;
+ghost use mathlib.Core.Path.{_≡_};
+ghost use lib.ListN.{getD};
+ghost use Rattle.graph.specs.Graph.{readingKind, decimetres, readingOf};
+ghost use Rattle.tables.specs.Tables.{VIn, EIn, WIn, eat, wat, endsAt, putEnds, rowVT, rowET, thisET};
+
+// The ends of v's incidence list.
+pub fn ends_of(vt: &[u32], v: u32) -> Ends
+    requires { ⌜ VIn (now vt) v ⌝ }
+    ensures { λ r. ⌜ r ≡ endsAt (now (vt .entry)) v ⌝ }
+{
+    let at = 8 * (v as usize) - 8;
+    let first = vt[at + 3];
+    let last = vt[at + 4];
+    Ends { first, last }
+}
+
+pub fn put_ends(vt: &mut [u32], v: u32, e: Ends)
+    requires { ⌜ VIn (now vt) v ⌝ }
+    ensures { λ _. ⌜ now (vt .exit) ≡ putEnds v e (now (vt .entry)) ⌝ }
+{
+    let at = 8 * (v as usize) - 8;
+    vt[at + 3] = e.first;
+    vt[at + 4] = e.last;
+}
+
+// Writes v's own words: whether it is there, type and value.
+pub fn put_vertex(vt: &mut [u32], v: u32, live: u32, sort: u32, value: u32)
+    requires { ⌜ VIn (now vt) v ⌝ }
+    ensures { λ _. ⌜ now (vt .exit) ≡ rowVT v live sort value (now (vt .entry)) ⌝ }
+{
+    let at = 8 * (v as usize) - 8;
+    vt[at + 0] = live;
+    vt[at + 1] = sort;
+    vt[at + 2] = value;
+}
+
+pub fn kind_of(r: Reading) -> u32
+    ensures { λ k. ⌜ k ≡ readingKind r ⌝ }
+{
+    match r {
+        Reading::Untested => 0,
+        Reading::Silent => 1,
+        Reading::Heard(_) => 2,
+    }
+}
+
+pub fn decimetres_of(r: Reading) -> u32
+    ensures { λ k. ⌜ k ≡ decimetres r ⌝ }
+{
+    match r {
+        Reading::Untested => 0,
+        Reading::Silent => 0,
+        Reading::Heard(d) => d,
+    }
+}
+
+// The reading of a kind and decimetres that are one.
+pub fn reading_of(k: u32, d: u32) -> Reading
+    ensures { λ r. ⌜ r ≡ readingOf k d ⌝ }
+{
+    if k == 0 {
+        return Reading::Untested;
+    }
+    if k == 1 {
+        return Reading::Silent;
+    }
+    Reading::Heard(d)
+}
+
+// The reading of edge e.
+pub fn reading_at(et: &[u32], e: u32) -> Reading
+    requires { ⌜ EIn (now et) e ⌝ }
+    ensures { λ r. ⌜ r ≡ readingOf (getD (now (et .entry)) (eat 5 e) 0) (getD (now (et .entry)) (eat 9 e) 0) ⌝ }
+{
+    let at = 12 * (e as usize) - 12;
+    let k = et[at + 5];
+    let d = et[at + 9];
+    reading_of(k, d)
+}
+
+// Writes e's own words: whether it is there, type and reading.
+pub fn put_edge(et: &mut [u32], e: u32, live: u32, sort: u32, r: Reading)
+    requires { ⌜ EIn (now et) e ⌝ }
+    ensures { λ _. ⌜ now (et .exit) ≡ rowET e live sort r (now (et .entry)) ⌝ }
+{
+    let k = kind_of(r);
+    let d = decimetres_of(r);
+    let at = 12 * (e as usize) - 12;
+    et[at + 3] = live;
+    et[at + 4] = sort;
+    et[at + 5] = k;
+    et[at + 9] = d;
+}
+
+// The vertex that word w is seen from.
+pub fn this(et: &[u32], w: u32) -> u32
+    requires { ⌜ WIn (now et) w ⌝ }
+    ensures { λ r. ⌜ r ≡ getD (now (et .entry)) (wat 2 w) 0 ⌝ }
+{
+    et[6 * (w as usize) - 12 + 2]
+}
+
+// Writes e's two ends.
+pub fn put_this(et: &mut [u32], e: u32, a: u32, z: u32)
+    requires { ⌜ EIn (now et) e ⌝ }
+    ensures { λ _. ⌜ now (et .exit) ≡ thisET e a z (now (et .entry)) ⌝ }
+{
+    let w = 2 * (e as usize);
+    et[6 * w - 12 + 2] = a;
+    et[6 * (w + 1) - 12 + 2] = z;
+}
