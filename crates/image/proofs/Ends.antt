@@ -13,7 +13,7 @@ use Rattle.graph.specs.Graph.{Vertex, Edge, Graph, vn, isVertex, hasVertex, ver
 use Rattle.graph.specs.WellFormed.{Bounds, wordsOf, wordsAt, soundVertex, soundEdge}
 use Rattle.image.specs.Image.{incidencesOf}
 use Rattle.image.proofs.Formed.{Formed, vertex-facts, edge-facts}
-use Rattle.image.proofs.Records.{Fits}
+use Rattle.image.proofs.RecordWords.{Fits}
 
 count-one : (n : ℕ) (xs : List ℕ) → distinct xs ≡ true → has n xs ≡ true → count n xs ≡ 1
 count-one n xs d e = omega (arith, distinct-count xs d n, has-count n xs e)

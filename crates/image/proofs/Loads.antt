@@ -15,7 +15,7 @@ use Rattle.graph.specs.Graph.{Vertex, Edge, Graph}
 use Rattle.graph.specs.WellFormed.{Bounds, wellFormed}
 use Rattle.image.specs.Image.{vertexSize, vertexRecord, edgeSize, edgeRecord, incidencesOf, edgeOffset, imageLength, headerOf, save, soundHeader, vertexCount, edgeCount, vertexPart, edgePart, incidencePart, edgesFrom, verticesFrom, load, loadable}
 use Rattle.image.proofs.Formed.{Formed, formed}
-use Rattle.image.proofs.Records.{same-eq, same-refl, vertices-length, edges-length, edges-back, Fits, vertices-back}
+use Rattle.image.proofs.RecordWords.{same-eq, same-refl, vertices-length, edges-length, edges-back, Fits, vertices-back}
 use Rattle.image.proofs.Ends.{sound-fits, incidences-length}
 
 -- ---- the parts of saved words
