@@ -17,6 +17,12 @@ reading-back Untested = refl
 reading-back Silent = refl
 reading-back (Heard d) = refl
 
+-- "heard at some decimetres, 0 to 9,999"
+pub reading-range : (r : Reading) → isReading (readingKind r) (decimetres r) ≡ true → (readingKind r ≤ 2) × (decimetres r ≤ 9999)
+reading-range Untested h = (omega arith, omega arith)
+reading-range Silent h = (omega arith, omega arith)
+reading-range (Heard d) h = (omega arith, leb-true d 9999 h)
+
 -- what the two words of a reading can be
 data Kinds (k d : ℕ) : Type 0 where
   none : k ≤ 1 → d ≡ 0 → Kinds k d

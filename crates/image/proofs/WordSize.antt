@@ -1,23 +1,22 @@
 -- Every saved word is below 2^32.
 use Prim.Native.Nat.{ℕ, zero, suc, _+_, _*_, _/_, _^_, _≤_, _<_}
-use mathlib.Core.Path.{_≡_, refl, sym, ap, _∙_, subst}
+use mathlib.Core.Path.{_≡_, refl, sym, ap, _∙_}
 use mathlib.Core.Bool.{Bool, true, false, _&&_, _||_}
 use mathlib.Core.List.{List, [], _∷_, _++_, map}
 use native.Mathlib.Omega.{arith}
-use lib.Dec.{leb, ltb}
+use lib.Dec.{ltb}
 use lib.ListN.{length, getD}
-use borrow.Author.Tests.{ltb-true, leb-true, eqb-true}
-use Rattle.lists.specs.Choice.{_⇒_else_, _==_, bit}
-use Rattle.lists.specs.Lists.{any, all, has, count, each, All, done, more}
+use borrow.Author.Tests.{ltb-true, eqb-true}
+use Rattle.lists.specs.Choice.{_⇒_else_, _==_}
+use Rattle.lists.specs.Lists.{any, all, has, each, All, done, more}
 use Rattle.lists.proofs.Bools.{ft, or-true, and-true}
-use Rattle.lists.proofs.Sums.{all-append, all-bool, sum-append}
-use Rattle.graph.specs.declared.Reading.{Reading}
-use Rattle.graph.specs.declared.Reading.the-variants.{Untested, Silent, Heard}
-use Rattle.graph.specs.Graph.{Vertex, Edge, Graph, isVertex, hasVertex, readingKind, decimetres, isReading, outWord, inWord}
+use Rattle.lists.proofs.Sums.{all-append, all-bool}
+use Rattle.lists.proofs.Members.{all-counted, counted-all}
+use Rattle.graph.specs.Graph.{Vertex, Edge, Graph, isVertex, hasVertex, readingKind, decimetres, outWord, inWord}
 use Rattle.graph.specs.WellFormed.{Bounds, wordsOf, wordsAt, soundVertex, soundEdge, wellFormed}
+use Rattle.graph.proofs.Readings.{reading-range}
 use Rattle.image.specs.Image.{vertexRecord, edgeRecord, incidencesOf, vertexOffset, edgeOffset, incidenceOffset, imageLength, save}
 use Rattle.image.proofs.Formed.{Formed, formed, within-le, vertex-facts, edge-facts}
-use Rattle.image.proofs.Counts.{self-one}
 use Rattle.image.proofs.Room.{few-vertices, few-edges}
 
 -- "A word is unsigned, 32 bits."
@@ -34,19 +33,6 @@ pub all-at : {P : ℕ → Type 0} → P 0 → {ws : List ℕ} → All P ws → (
 all-at z done i = z
 all-at z (more p a) zero = p
 all-at z (more p a) (suc i) = all-at z a i
-
--- words that stand in a list only where they stand in another one have its bound
-all-counted : {P : ℕ → Type 0} (xs : List ℕ) → ((n : ℕ) → 1 ≤ count n xs → P n) → All P xs
-all-counted [] h = done
-all-counted (x ∷ xs) h = more (h x (omega (arith, self-one x))) (all-counted xs (λ n c. h n (omega arith)))
-
-counted-all : {P : ℕ → Type 0} {xs : List ℕ} → All P xs → (n : ℕ) → 1 ≤ count n xs → P n
-counted-all done n c = absurd (omega arith)
-counted-all {P = P} (more {x = x} {xs = xs} p a) n c = go (λ i. counted-all a n i) (x == n) refl c
-  where
-    go : (1 ≤ count n xs → P n) → (t : Bool) → (x == n) ≡ t → 1 ≤ bit t + count n xs → P n
-    go ih true e c = subst P (eqb-true x n e) p
-    go ih false e c = ih (omega arith)
 
 word : (w : ℕ) {ws : List ℕ} → w < 2 ^ 32 → All Word ws → All Word (w ∷ ws)
 word w h a = more h a
@@ -106,15 +92,10 @@ module _ (b : Bounds) (u : InRange b) (g : Graph) (h : wellFormed b g ≡ true) 
           pick ih true q r = omega (arith, eqb-true (v .number) n q, within-le (b .vertices) (v .number) (vertex-facts b g v (a .0) .number) .1, u .vertices)
           pick ih false q r = ih r
 
-  reading-small : (r : Reading) → isReading (readingKind r) (decimetres r) ≡ true → (readingKind r ≤ 2) × (decimetres r ≤ 9999)
-  reading-small Untested s = (omega arith, omega arith)
-  reading-small Silent s = (omega arith, omega arith)
-  reading-small (Heard d) s = (omega arith, leb-true d 9999 s)
-
   edge-small : (e : Edge) → soundEdge b g e ≡ true → All Word (edgeRecord e)
   edge-small e s =
       let f = edge-facts b g e s in
-      let r = reading-small (e .reading) (f .reading) in
+      let r = reading-range (e .reading) (f .reading) in
       word (e .number) (omega (arith, within-le (b .edges) (e .number) (f .number) .1, u .edges))
       (word (e .alpha) (omega (arith, vertex-known (e .alpha) (f .starts)))
       (word (e .omega) (omega (arith, vertex-known (e .omega) (f .stops)))

@@ -49,3 +49,11 @@ module _ {A : Type 0} (key : A → ℕ) (P : A → Type 0) where
       let o : key y ≢ n = is-zero (key y) n (omega (arith, u n)) in
       let there : P (pick (key y) n y (find key d n l)) = h n (omega arith) in
       rw (pick-no (key y) n) at there)
+
+  -- with no premise, where it holds of the one taken if there is none
+  pub all-found : (d : A) (k : ℕ) {l : List A} → P d → All P l → P (find key d k l)
+  all-found d k z done = z
+  all-found d k z (more {x = y} i a) = elim (same? (key y) k) [
+    | same e f ↦ rw (pick-yes (key y) k) i
+    | differ e f ↦ rw (pick-no (key y) k) (all-found d k z a)
+  ]

@@ -6,3 +6,4 @@ pub mod Counts
 pub mod KeyedAll
 pub mod Places
 pub mod Firsts
+pub mod Members

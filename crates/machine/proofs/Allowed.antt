@@ -39,7 +39,7 @@ nothing false e = e
 type-named : (n t : ℕ) → (leb n t || false) ≡ false → t < n
 type-named n t e = leb-false n t (nothing (leb n t) e)
 
-in-range : (lo hi n : ℕ) → within lo hi n ≡ true → (lo ≤ n) × (n ≤ hi)
+pub in-range : (lo hi n : ℕ) → within lo hi n ≡ true → (lo ≤ n) × (n ≤ hi)
 in-range lo hi n h = let a = and-true (leb lo n) (leb n hi) h in (leb-true lo n (a .0), leb-true n hi (a .1))
 
 -- the words of a call that a graph may keep have 32 bits

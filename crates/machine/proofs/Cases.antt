@@ -3,6 +3,7 @@ use Prim.Native.Nat.{ℕ}
 use mathlib.Core.Path.{_≡_, refl}
 use mathlib.Core.Bool.{Bool, true, false}
 use mathlib.Core.List.{List, [], _∷_}
+use lib.ListN.{replicate}
 use Rattle.lists.specs.Choice.{pick}
 use Rattle.lists.specs.Lists.{all, All, same}
 use Rattle.lists.proofs.Sums.{all-bool}
@@ -14,6 +15,7 @@ use Rattle.image.proofs.Loads.{one-graph}
 use Rattle.history.specs.Machine.{fresh, present}
 use Rattle.machine.specs.Calls.{boundsIn}
 use Rattle.machine.specs.Machine.{last}
+use Rattle.machine.specs.Run.{listRefusal}
 use Rattle.machine.specs.Seven.{world, seven, making, then, delete, undo, Case, twelve}
 
 computed : all (λ (c : Case). same (c .found) (c .said)) twelve ≡ true
@@ -40,3 +42,17 @@ made = same-graph _ refl refl
 pub case-g : present (then (delete 1 ∷ undo ∷ [])) ≡ seven
 unfolding then save wellFormed pick
 case-g = same-graph _ refl refl
+
+-- lists are accepted: Seven with no calls
+pub accepted-one : listRefusal (record {
+  start = save seven;
+  rows = world .rows;
+  calls = [];
+  vertexTable = 80;
+  edgeTable = 120;
+  changeTable = 240;
+  answers = [];
+  end = replicate 116 0;
+}) ≡ 0
+unfolding listRefusal save wellFormed pick
+accepted-one = refl

@@ -22,11 +22,11 @@ use Rattle.machine.specs.Codes.{
   markMissing,
   atAnEnd,
   sideOutside,
-  silentWay,
+  nothingToRange,
   refusal,
 }
 
-chain-zero : (t : Bool) (n r : ℕ) → ((t ⇒ suc n else r) == 0) ≡ true → (t ≡ false) × ((r == 0) ≡ true)
+pub chain-zero : (t : Bool) (n r : ℕ) → ((t ⇒ suc n else r) == 0) ≡ true → (t ≡ false) × ((r == 0) ≡ true)
 chain-zero true n r h = absurd (omega (arith, eqb-true (suc n) 0 h))
 chain-zero false n r h = (refl, h)
 
@@ -46,7 +46,7 @@ pub record Rows (w : World) (m : Machine) (x : Call) : Type 0 where
   pub row13 : markMissing m x ≡ false
   pub row14 : atAnEnd m x ≡ false
   pub row15 : sideOutside x ≡ false
-  pub row16 : silentWay (present m) x ≡ false
+  pub row16 : nothingToRange (present m) x ≡ false
 
 pub rows : (w : World) (m : Machine) (x : Call) → (refusal w m x == 0) ≡ true → Rows w m x
 unfolding refusal
@@ -66,7 +66,7 @@ rows w m x h =
     let r13 = chain-zero (markMissing m x) 12 _ (r12 .1) in
     let r14 = chain-zero (atAnEnd m x) 13 _ (r13 .1) in
     let r15 = chain-zero (sideOutside x) 14 _ (r14 .1) in
-    let r16 = chain-zero (silentWay (present m) x) 15 _ (r15 .1) in
+    let r16 = chain-zero (nothingToRange (present m) x) 15 _ (r15 .1) in
     record {
       row1 = r1 .0;
       row2 = r2 .0;

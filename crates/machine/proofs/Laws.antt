@@ -1,4 +1,4 @@
--- Short laws of the machine: undo, redo, commit, and the code of a change without room.
+-- Short laws of the machine: undo, redo and commit.
 use Prim.Native.Nat.{ℕ, zero, suc, _+_, _-_, _<_}
 use mathlib.Core.Path.{_≡_, refl, sym, ap, _∙_}
 use mathlib.Core.Logic.{_↔_}
@@ -28,7 +28,7 @@ use Rattle.machine.specs.Codes.{
   markMissing,
   atAnEnd,
   sideOutside,
-  silentWay,
+  nothingToRange,
   free,
   refusal,
 }
@@ -86,80 +86,3 @@ module _ (w : World) (m : Machine) (a b c d : ℕ) where
   pub commit-made : (answer w m commit ≡ accepts (m .line .place)) × (step w m commit ≡ fresh (present m)) × (free w (step w m commit) ≡ w .changes)
   unfolding answer step refusal sortOf numberBy nextBy free
   commit-made = (refl, refl, omega arith)
-
--- ---- 10: the cost exceeds the free changes and no lower code applies
-
--- codes 1 to 9 do not apply
-pub record NoneBelow10 (w : World) (m : Machine) (x : Call) : Type 0 where
-  pub not1 : not (known (x .kind)) ≡ false
-  pub not2 : numberOutside w x ≡ false
-  pub not3 : numberInUse (present m) x ≡ false
-  pub not4 : vertexMissing (present m) x ≡ false
-  pub not5 : edgeMissing (present m) x ≡ false
-  pub not6 : typeOutside w x ≡ false
-  pub not7 : notReading x ≡ false
-  pub not8 : thisDiffers (present m) x ≡ false
-  pub not9 : sameTwice x ≡ false
-
-passes : (t : Bool) (n k r : ℕ) → (n ≡ k → ⊥) → (t ⇒ n else r) ≡ k → (t ≡ false) × (r ≡ k)
-passes true n k r d e = absurd (d e)
-passes false n k r d e = (refl, e)
-
--- what stands behind row 10 never gives 10
-beyond : (t11 t12 t13 t14 t15 t16 : Bool) → _≡_ {A = ℕ} (t11 ⇒ 11 else t12 ⇒ 12 else t13 ⇒ 13 else t14 ⇒ 14 else t15 ⇒ 15 else t16 ⇒ 16 else 0) 10 → ⊥
-beyond true t12 t13 t14 t15 t16 e = omega arith
-beyond false true t13 t14 t15 t16 e = omega arith
-beyond false false true t14 t15 t16 e = omega arith
-beyond false false false true t15 t16 e = omega arith
-beyond false false false false true t16 e = omega arith
-beyond false false false false false true e = omega arith
-beyond false false false false false false e = omega arith
-
-module _ (w : World) (m : Machine) (x : Call) where
-  no-room : (noRoom w m x ≡ true) ↔ ((isChange (x .kind) ≡ true) × (free w m < cost (changeOf x) (present m)))
-  unfolding noRoom
-  no-room = (λ e. go (isChange (x .kind)) refl e, λ h. rw (h .0) (lt-ltb _ _ (h .1)))
-    where
-      go : (t : Bool) → isChange (x .kind) ≡ t → (t && ltb (free w m) (cost (changeOf x) (present m))) ≡ true → (isChange (x .kind) ≡ true) × (free w m < cost (changeOf x) (present m))
-      go true f e = (f, ltb-true _ _ e)
-      go false f e = ft e
-
-  pub ten : (refusal w m x ≡ 10) ↔ (NoneBelow10 w m x × (isChange (x .kind) ≡ true) × (free w m < cost (changeOf x) (present m)))
-  unfolding refusal
-  ten = (to, from)
-    where
-      from : NoneBelow10 w m x × (isChange (x .kind) ≡ true) × (free w m < cost (changeOf x) (present m)) → refusal w m x ≡ 10
-      from h = rw (h .0 .not1, h .0 .not2, h .0 .not3, h .0 .not4, h .0 .not5, h .0 .not6, h .0 .not7, h .0 .not8, h .0 .not9, no-room .1 (h .1, h .2))
-
-      room : (t : Bool) → noRoom w m x ≡ t →
-          _≡_ {A = ℕ} (t ⇒ 10 else markOutside x ⇒ 11 else markStands m x ⇒ 12 else markMissing m x ⇒ 13 else atAnEnd m x ⇒ 14 else sideOutside x ⇒ 15 else silentWay (present m) x ⇒ 16 else 0) 10 →
-          noRoom w m x ≡ true
-      room true f e = f
-      room false f e = absurd (beyond (markOutside x) (markStands m x) (markMissing m x) (atAnEnd m x) (sideOutside x) (silentWay (present m) x) e)
-
-      to : refusal w m x ≡ 10 → NoneBelow10 w m x × (isChange (x .kind) ≡ true) × (free w m < cost (changeOf x) (present m))
-      to e =
-          let r1 = passes (not (known (x .kind))) 1 10 _ (omega arith) e in
-          let r2 = passes (numberOutside w x) 2 10 _ (omega arith) (r1 .1) in
-          let r3 = passes (numberInUse (present m) x) 3 10 _ (omega arith) (r2 .1) in
-          let r4 = passes (vertexMissing (present m) x) 4 10 _ (omega arith) (r3 .1) in
-          let r5 = passes (edgeMissing (present m) x) 5 10 _ (omega arith) (r4 .1) in
-          let r6 = passes (typeOutside w x) 6 10 _ (omega arith) (r5 .1) in
-          let r7 = passes (notReading x) 7 10 _ (omega arith) (r6 .1) in
-          let r8 = passes (thisDiffers (present m) x) 8 10 _ (omega arith) (r7 .1) in
-          let r9 = passes (sameTwice x) 9 10 _ (omega arith) (r8 .1) in
-          let n = no-room .0 (room (noRoom w m x) refl (r9 .1)) in (
-            record {
-              not1 = r1 .0;
-              not2 = r2 .0;
-              not3 = r3 .0;
-              not4 = r4 .0;
-              not5 = r5 .0;
-              not6 = r6 .0;
-              not7 = r7 .0;
-              not8 = r8 .0;
-              not9 = r9 .0;
-            },
-            n .0,
-            n .1,
-          )

@@ -8,3 +8,9 @@ pub mod Whole
 pub mod Allowed
 pub mod Laws
 pub mod Graphs
+pub mod GraphBounds
+pub mod Invariant
+pub mod ListRows
+pub mod AnswerBounds
+pub mod Ends
+pub mod Lowest

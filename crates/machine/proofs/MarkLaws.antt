@@ -4,16 +4,16 @@ use mathlib.Core.Path.{_≡_, refl, sym, ap, _∙_, subst}
 use mathlib.Core.Logic.{_↔_, _⊎_, inl, inr}
 use mathlib.Core.Bool.{Bool, true, false, _&&_, _||_}
 use mathlib.Core.List.{List, [], _∷_, _++_}
-use lib.Seq.{length-take-le}
 use native.Mathlib.Omega.{arith}
 use lib.Dec.{ltb}
-use lib.ListN.{length, take, length-append}
+use lib.ListN.{length}
 use borrow.Author.Tests.{ltb-true, ltb-false, eqb-true, eqb-false}
 use Rattle.lists.specs.Choice.{_⇒_else_, _==_, within}
 use Rattle.lists.specs.Lists.{any}
 use Rattle.lists.proofs.Bools.{tf, ft, and-true}
 use Rattle.graph.specs.Graph.{Graph}
 use Rattle.history.specs.Machine.{Step, Machine, Standing, gone, at, cut, placeOr, graphAt, distance, fresh, present}
+use Rattle.history.proofs.Timelines.{length-cut, graph-kept}
 use Rattle.machine.specs.Calls.{Call, World, isChange}
 use Rattle.machine.specs.Codes.{refusal}
 use Rattle.machine.specs.Machine.{Answer, Sort, changes, sets, drops, undoes, redoes, goes, commits, asks, sortOf, answer, step, last, nextBy, numberBy}
@@ -21,7 +21,7 @@ use Rattle.machine.specs.Marks.{Event, eventOf, events, setsBy, setsMark
 use Rattle.machine.proofs.Sorts.{code-is, accepted-step, refused-step, not-refused, Kind, kind-of, ofKind, call-is}
 use Rattle.machine.proofs.Stands.{gone-at, at-at, cut-at, set-to, drop-to, Stood, no-head, no-tail, last-to, kept-from}
 
--- ---- the places stay within the graphs, and a kept place keeps its chart
+-- ---- the places stay within the graphs, and a kept place keeps its graph
 
 pub record Sane (m : Machine) : Type 0 where
   pub place-in : m .line .place ≤ length (m .line .steps)
@@ -55,15 +55,6 @@ redo-below w m x h f s =
     let f′ : (refusal w m (ofKind 20 x) == 0) ≡ true = subst (λ y. (refusal w m y == 0) ≡ true) (call-is x 20 k) f in
     let ne = eqb-false (m .line .place) (length (m .line .steps)) (redo-room w m x f′) in
     omega (arith, h .place-in, ne)
-
-length-cut : (p : ℕ) (ss : List Step) (st : Step) → p ≤ length ss → length (take p ss ++ (st ∷ [])) ≡ suc p
-length-cut p ss st h = rw (length-append, length-take-le) (omega arith)
-
-graph-kept : (g : Graph) (ss : List Step) (s : Step) (p q : ℕ) → q ≤ p → p ≤ length ss → graphAt q g (take p ss ++ (s ∷ [])) ≡ graphAt q g ss
-graph-kept g ss s p zero a b = refl
-graph-kept g ss s zero (suc q) a b = absurd (omega arith)
-graph-kept g [] s (suc p) (suc q) a b = absurd (omega arith)
-graph-kept g (x ∷ ss) s (suc p) (suc q) a b = graph-kept (x .graph) ss s p q (omega arith) (omega arith)
 
 sane-next : (s : Sort) (m : Machine) (x : Call) → Sane m → (s ≡ redoes → m .line .place < length (m .line .steps)) → Sane (nextBy s m x)
 unfolding nextBy

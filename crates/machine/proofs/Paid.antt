@@ -10,25 +10,16 @@ use borrow.Author.Tests.{ltb-false}
 use Rattle.lists.specs.Choice.{_⇒_else_, _==_}
 use Rattle.graph.specs.Graph.{Graph}
 use Rattle.graph.specs.Changes.{cost}
-use Rattle.history.specs.Machine.{Step, Machine, costs, fresh, present}
+use Rattle.history.specs.Machine.{Machine, costs, fresh, present}
+use Rattle.history.proofs.Timelines.{costs-cut, costs-take}
 use Rattle.machine.specs.Calls.{Call, World, isChange, changeOf}
 use Rattle.machine.specs.Codes.{free, noRoom, refusal}
 use Rattle.machine.specs.Machine.{Sort, changes, sets, drops, undoes, redoes, goes, commits, asks, sortOf, stepBy, nextBy, step, last}
 use Rattle.machine.proofs.CodeRows.{Rows, rows}
 use Rattle.machine.proofs.Sorts.{accepted-step, refused-step, Kind, kind-of}
 
-pub Paid : World → Machine → Type 0
+unfoldable pub Paid : World → Machine → Type 0
 Paid w m = costs (m .line .steps) ≤ w .changes
-
-costs-cut : (p : ℕ) (ss : List Step) (st : Step) → costs (take p ss ++ (st ∷ [])) ≡ costs (take p ss) + st .cost
-costs-cut zero ss st = omega arith
-costs-cut (suc p) [] st = omega arith
-costs-cut (suc p) (s ∷ ss) st = omega (arith, costs-cut p ss st)
-
-costs-take : (p : ℕ) (ss : List Step) → costs (take p ss) ≤ costs ss
-costs-take zero ss = omega arith
-costs-take (suc p) [] = omega arith
-costs-take (suc p) (s ∷ ss) = omega (arith, costs-take p ss)
 
 affordable : (w : World) (m : Machine) (x : Call) → (refusal w m x == 0) ≡ true → sortOf (present m) x ≡ changes → cost (changeOf x) (present m) ≤ free w m
 unfolding noRoom Kind
@@ -48,7 +39,7 @@ paid-next w goes m x h p = p
 paid-next w commits m x h p = omega arith
 paid-next w asks m x h p = p
 
-paid-step : (w : World) (m : Machine) (x : Call) → Paid w m → Paid w (step w m x)
+pub paid-step : (w : World) (m : Machine) (x : Call) → Paid w m → Paid w (step w m x)
 paid-step w m x p = go (refusal w m x == 0) refl
   where
     go : (t : Bool) → (refusal w m x == 0) ≡ t → Paid w (step w m x)
@@ -60,10 +51,14 @@ unfolding last
 paid-last w m [] p = p
 paid-last w m (x ∷ xs) p = paid-last w (step w m x) xs (paid-step w m x p)
 
+pub paid-fresh : (w : World) (g : Graph) → Paid w (fresh g)
+unfolding Paid
+paid-fresh w g = omega arith
+
 -- free and spent are the capacity
 pub exact : (w : World) (g : Graph) (xs : List Call) →
     free w (last w (fresh g) xs) + costs (take (last w (fresh g) xs .line .place) (last w (fresh g) xs .line .steps)) ≡ w .changes
 unfolding free Paid
 exact w g xs =
-    let p = paid-last w (fresh g) xs (omega arith) in
+    let p = paid-last w (fresh g) xs (paid-fresh w g) in
     omega (arith, p, costs-take (last w (fresh g) xs .line .place) (last w (fresh g) xs .line .steps))

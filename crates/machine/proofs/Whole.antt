@@ -1,18 +1,23 @@
 -- Every list that is not refused meets demand 3.
-use Prim.Native.Nat.{ℕ}
+use Prim.Native.Nat.{ℕ, zero, suc, _+_, _*_, _/_, _≤_}
 use mathlib.Core.Path.{_≡_, refl, sym, ap, _∙_}
 use mathlib.Core.Bool.{Bool, true, false}
 use mathlib.Core.List.{List, [], _∷_, _++_, map}
-use borrow.Author.Tests.{eq-eqb}
+use native.Mathlib.Omega.{arith}
+use lib.ListN.{length, length-append, length-drop}
 use Rattle.lists.specs.Choice.{_⇒_else_, _==_}
-use Rattle.history.specs.Machine.{Machine}
-use Rattle.image.specs.Image.{load}
+use Rattle.lists.specs.Lists.{All, over}
+use Rattle.history.specs.Machine.{Machine, present}
+use Rattle.image.specs.Image.{save, load}
+use Rattle.image.proofs.WordSize.{Word}
 use Rattle.machine.specs.Calls.{Call, World, callsOf}
 use Rattle.machine.specs.Machine.{Answer, answer, answers, step, last}
 use Rattle.machine.specs.Marks.{Event, events, MarkSentence}
-use Rattle.machine.specs.Run.{Lent, Ran, worldOf, listRefusal, accepted, run}
+use Rattle.machine.specs.Run.{Lent, Ran, worldOf, listRefusal, answerWords, accepted, run}
 use Rattle.machine.specs.Demand.{begins, after, Demand3}
 use Rattle.machine.proofs.MarkLaws.{mark-sentence}
+use Rattle.machine.proofs.ListRows.{passed}
+use Rattle.machine.proofs.Ends.{run-end-fits}
 
 -- the answer to each call of a list is the one on what the calls before it left
 pub answered : (w : World) (m : Machine) (xs ys : List Call) (x : Call) →
@@ -32,7 +37,7 @@ runs : (l : Lent) → listRefusal l ≡ 0 → run l ≡ accepted l
 unfolding run
 runs l e = rw e
 
-pub demand-3 : (l : Lent) → listRefusal l ≡ 0 → Demand3 l
+pub demand-3 : (l : Lent) → listRefusal l ≡ 0 → Demand3 l (run l)
 unfolding accepted
 demand-3 l e = record {
   code = ap (λ (r : Ran). r .code) (runs l e);
@@ -41,5 +46,46 @@ demand-3 l e = record {
   saved = ap (λ (r : Ran). r .end) (runs l e);
   words = ap (λ (r : Ran). r .words) (runs l e);
   each-call = λ xs ys x c. rw (← c) (answered (worldOf l) (begins l) xs ys x);
+  told = λ xs. codes-answered (worldOf l) (begins l) xs;
   every-point = λ xs ys c. mark-sentence (worldOf l) (load (l .start)) xs;
 }
+
+-- ---- the slices keep their lengths
+
+over-length : (ws slice : List ℕ) → length ws ≤ length slice → length (over ws slice) ≡ length slice
+over-length ws slice h = rw (length-append, length-drop) (omega arith)
+
+calls-length : (n : ℕ) (ws : List ℕ) → length ws ≡ 5 * n → length (callsOf ws) ≡ n
+calls-length zero [] e = refl
+calls-length zero (k ∷ ws) e = absurd (omega arith)
+calls-length (suc n) (k ∷ a ∷ b ∷ c ∷ d ∷ ws) e = ap suc (calls-length n ws (omega arith))
+calls-length (suc n) [] e = absurd (omega arith)
+calls-length (suc n) (k ∷ []) e = absurd (omega arith)
+calls-length (suc n) (k ∷ a ∷ []) e = absurd (omega arith)
+calls-length (suc n) (k ∷ a ∷ b ∷ []) e = absurd (omega arith)
+calls-length (suc n) (k ∷ a ∷ b ∷ c ∷ []) e = absurd (omega arith)
+
+pub done-is : (l : Lent) → listRefusal l ≡ 0 → run l .done ≡ length (l .calls) / 5
+done-is l e =
+    let p = passed l e .calls-whole in
+    demand-3 l e .done ∙ calls-length (length (l .calls) / 5) (l .calls) (omega arith)
+
+answers-length : (w : World) (m : Machine) (xs : List Call) → length (answerWords (answers w m xs)) ≡ 2 * length xs
+unfolding answers
+answers-length w m [] = refl
+answers-length w m (x ∷ xs) = omega (arith, answers-length w (step w m x) xs)
+
+pub answers-keep : (l : Lent) → listRefusal l ≡ 0 → length (run l .answers) ≡ length (l .answers)
+answers-keep l e =
+    ap length (demand-3 l e .answered)
+    ∙ over-length (answerWords (answers (worldOf l) (begins l) (callsOf (l .calls)))) (l .answers)
+    (omega (
+      arith,
+      answers-length (worldOf l) (begins l) (callsOf (l .calls)),
+      passed l e .answers-room,
+      done-is l e,
+      demand-3 l e .done,
+    ))
+
+pub end-keeps : (l : Lent) → listRefusal l ≡ 0 → All Word (l .calls) → length (run l .end) ≡ length (l .end)
+end-keeps l e f = ap length (demand-3 l e .saved) ∙ over-length (save (present (after l (callsOf (l .calls))))) (l .end) (run-end-fits l e f)

@@ -1,5 +1,6 @@
 -- The table of codes 1 to 16: when each applies, and the lowest that does.
 use Prim.Native.Nat.{ℕ}
+use mathlib.Core.Path.{_≡_}
 use mathlib.Core.Bool.{Bool, true, false, not, _&&_, _||_}
 use mathlib.Core.List.{List, [], _∷_}
 use lib.ListN.{length}
@@ -76,28 +77,56 @@ abbrev pub sideOutside : Call → Bool
 sideOutside x = (x .kind == 45) && ltb 2 (x .c)
 
 -- 16 "a way has nothing heard"
-unfoldable pub silentWay : Graph → Call → Bool
+unfoldable pub nothingToRange : Graph → Call → Bool
 unfolding nothingHeard
-silentWay g x = (x .kind is (53 ∷ 54 ∷ [])) && nothingHeard g (x .a) (x .b)
+nothingToRange g x = (x .kind is (53 ∷ 54 ∷ [])) && nothingHeard g (x .a) (x .b)
 
--- "The lowest code that applies is given, and no code otherwise." 0 where none applies
+-- ---- the table
+
+-- a code, and whether it applies
+pub record Row : Type 0 where
+  pub code : ℕ
+  pub applies : Bool
+
+-- "The lowest code that applies is given, and no code otherwise.": of rows whose codes rise; 0 where none applies
+abbrev pub lowest : List Row → ℕ
+lowest [] = 0
+lowest (r ∷ rs) = r .applies ⇒ r .code else lowest rs
+
+abbrev pub row : ℕ → Bool → Row
+row k t = record { code = k; applies = t }
+
+unfoldable pub codeTable : World → Machine → Call → List Row
+unfolding noRoom nothingToRange
+codeTable w m x =
+    row 1 (not (known (x .kind))) ∷
+    row 2 (numberOutside w x) ∷
+    row 3 (numberInUse (present m) x) ∷
+    row 4 (vertexMissing (present m) x) ∷
+    row 5 (edgeMissing (present m) x) ∷
+    row 6 (typeOutside w x) ∷
+    row 7 (notReading x) ∷
+    row 8 (thisDiffers (present m) x) ∷
+    row 9 (sameTwice x) ∷
+    row 10 (noRoom w m x) ∷
+    row 11 (markOutside x) ∷
+    row 12 (markStands m x) ∷
+    row 13 (markMissing m x) ∷
+    row 14 (atAnEnd m x) ∷
+    row 15 (sideOutside x) ∷
+    row 16 (nothingToRange (present m) x) ∷
+    []
+
 unfoldable pub refusal : World → Machine → Call → ℕ
-unfolding noRoom silentWay
-refusal w m x =
-    not (known (x .kind)) ⇒ 1 else
-    numberOutside w x ⇒ 2 else
-    numberInUse (present m) x ⇒ 3 else
-    vertexMissing (present m) x ⇒ 4 else
-    edgeMissing (present m) x ⇒ 5 else
-    typeOutside w x ⇒ 6 else
-    notReading x ⇒ 7 else
-    thisDiffers (present m) x ⇒ 8 else
-    sameTwice x ⇒ 9 else
-    noRoom w m x ⇒ 10 else
-    markOutside x ⇒ 11 else
-    markStands m x ⇒ 12 else
-    markMissing m x ⇒ 13 else
-    atAnEnd m x ⇒ 14 else
-    sideOutside x ⇒ 15 else
-    silentWay (present m) x ⇒ 16 else
-    0
+unfolding codeTable
+refusal w m x = lowest (codeTable w m x)
+
+-- k is the code of a row that applies, and no row before it does
+pub data Lowest (k : ℕ) : List Row → Type 0 where
+  found : {r : Row} {rs : List Row} → r .applies ≡ true → r .code ≡ k → Lowest k (r ∷ rs)
+  later : {r : Row} {rs : List Row} → r .applies ≡ false → Lowest k rs → Lowest k (r ∷ rs)
+
+-- no row applies
+pub data NoneApplies : List Row → Type 0 where
+  none : NoneApplies []
+  passed : {r : Row} {rs : List Row} → r .applies ≡ false → NoneApplies rs → NoneApplies (r ∷ rs)

@@ -10,6 +10,7 @@ use Rattle.types.specs.Rows.{goodRows}
 use Rattle.image.specs.Image.{save, load, loadable}
 use Rattle.history.specs.Machine.{fresh, present}
 use Rattle.machine.specs.Calls.{Call, World, boundsIn, callsOf}
+use Rattle.machine.specs.Codes.{Row, row, lowest}
 use Rattle.machine.specs.Machine.{Answer, answers, last}
 
 -- "Lent: start chart, type rows, calls, tables .., answers, end chart." Of the tables only the lengths matter
@@ -39,20 +40,25 @@ worldOf l = record { rows = l .rows; vertices = l .vertexTable / 8; edges = l .e
 abbrev pub imageRoom : World → ℕ
 imageRoom w = 6 + 3 * w .vertices + 8 * w .edges
 
--- 101 to 106, "The lowest code that applies is given"; 0 where none does
-unfoldable pub listRefusal : Lent → ℕ
+-- 101 to 106
+unfoldable pub listTable : Lent → List Row
 unfolding goodRows loadable
-listRefusal l =
-    not (length (l .calls) % 5 == 0) ⇒ 101 else
-    ltb (length (l .answers)) (2 * (length (l .calls) / 5)) ⇒ 102 else
-    not (within 1 1000 (w .vertices) && within 1 4000 (w .edges) && within 1 20000 (w .changes)) ⇒ 103 else
-    not (goodRows (l .rows)) ⇒ 104 else
-    not (loadable (boundsIn w) (l .start)) ⇒ 105 else
-    ltb (length (l .end)) (imageRoom w) ⇒ 106 else
-    0
+listTable l =
+    row 101 (not (length (l .calls) % 5 == 0)) ∷
+    row 102 (ltb (length (l .answers)) (2 * (length (l .calls) / 5))) ∷
+    row 103 (not (within 1 1000 (w .vertices) && within 1 4000 (w .edges) && within 1 20000 (w .changes))) ∷
+    row 104 (not (goodRows (l .rows))) ∷
+    row 105 (not (loadable (boundsIn w) (l .start))) ∷
+    row 106 (ltb (length (l .end)) (imageRoom w)) ∷
+    []
   where
     w : World
     w = worldOf l
+
+-- the lowest that applies, 0 where none does
+unfoldable pub listRefusal : Lent → ℕ
+unfolding listTable
+listRefusal l = lowest (listTable l)
 
 -- "Answers take two words a call, code and number"
 abbrev pub answerWords : List Answer → List ℕ

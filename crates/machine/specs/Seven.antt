@@ -3,7 +3,7 @@ use Prim.Native.Nat.{ℕ}
 use mathlib.Core.List.{List, [], _∷_}
 use Rattle.lists.specs.Choice.{bit}
 use Rattle.graph.specs.declared.Reading.the-variants.{Untested}
-use Rattle.graph.specs.Graph.{Vertex, Edge, Graph, listOf}
+use Rattle.graph.specs.Graph.{Vertex, Edge, Graph, empty, listOf}
 use Rattle.image.specs.Image.{save}
 use Rattle.history.specs.Machine.{Machine, stands, fresh, present}
 use Rattle.machine.specs.Calls.{Call, World}
@@ -17,8 +17,8 @@ world = record { rows = 0 ∷ []; vertices = 10; edges = 10; changes = 20 }
 abbrev pub call : ℕ → ℕ → ℕ → ℕ → ℕ → Call
 call k a b c d = record { kind = k; a = a; b = b; c = c; d = d }
 
-abbrev pub unit : ℕ → List ℕ → Vertex
-unit n ws = record { number = n; type = 0; value = 0; incidences = ws }
+abbrev pub bare : ℕ → List ℕ → Vertex
+bare n ws = record { number = n; type = 0; value = 0; incidences = ws }
 
 abbrev pub untested : ℕ → ℕ → ℕ → Edge
 untested n a o = record { number = n; alpha = a; omega = o; type = 0; reading = Untested }
@@ -26,7 +26,7 @@ untested n a o = record { number = n; alpha = a; omega = o; type = 0; reading = 
 -- "vertices 1 to 4, edges 1 to 7 as 1→1, 1→2, 1→2, 2→1, 4→1, 4→2, 4→4, .. all untested, types and values 0"
 abbrev pub seven : Graph
 seven = record {
-  vseq = unit 1 (2 ∷ 3 ∷ 4 ∷ 6 ∷ 9 ∷ 11 ∷ []) ∷ unit 2 (5 ∷ 7 ∷ 8 ∷ 13 ∷ []) ∷ unit 3 [] ∷ unit 4 (10 ∷ 12 ∷ 14 ∷ 15 ∷ []) ∷ [];
+  vseq = bare 1 (2 ∷ 3 ∷ 4 ∷ 6 ∷ 9 ∷ 11 ∷ []) ∷ bare 2 (5 ∷ 7 ∷ 8 ∷ 13 ∷ []) ∷ bare 3 [] ∷ bare 4 (10 ∷ 12 ∷ 14 ∷ 15 ∷ []) ∷ [];
   eseq = untested 1 1 1 ∷ untested 2 1 2 ∷ untested 3 1 2 ∷ untested 4 2 1 ∷ untested 5 4 1 ∷ untested 6 4 2 ∷ untested 7 4 4 ∷ [];
 }
 
@@ -35,6 +35,11 @@ abbrev pub making : List Call
 making =
     call 1 1 0 0 0 ∷ call 1 2 0 0 0 ∷ call 1 3 0 0 0 ∷ call 1 4 0 0 0 ∷
     call 3 1 1 1 0 ∷ call 3 2 1 2 0 ∷ call 3 3 1 2 0 ∷ call 3 4 2 1 0 ∷ call 3 5 4 1 0 ∷ call 3 6 4 2 0 ∷ call 3 7 4 4 0 ∷ []
+
+-- the list of v as the calls build it from the empty graph
+unfoldable pub builtList : ℕ → List ℕ
+unfolding last
+builtList v = listOf (present (last world (fresh empty) making)) v
 
 -- "On fresh Seven each time": the machine after the calls, and the words of their answers
 unfoldable pub then : List Call → Machine
@@ -85,11 +90,11 @@ row l f s = record { letter = l; found = f; said = s }
 
 -- "A to L"; an answer is a code and a number
 unfoldable pub twelve : List Case
-unfolding then told save
+unfolding builtList then told save
 twelve =
-    row A (listAfter [] 1) (2 ∷ 3 ∷ 4 ∷ 6 ∷ 9 ∷ 11 ∷ []) ∷
-    row B (listAfter [] 2) (5 ∷ 7 ∷ 8 ∷ 13 ∷ []) ∷
-    row C (listAfter [] 4) (10 ∷ 12 ∷ 14 ∷ 15 ∷ []) ∷
+    row A (builtList 1) (2 ∷ 3 ∷ 4 ∷ 6 ∷ 9 ∷ 11 ∷ []) ∷
+    row B (builtList 2) (5 ∷ 7 ∷ 8 ∷ 13 ∷ []) ∷
+    row C (builtList 4) (10 ∷ 12 ∷ 14 ∷ 15 ∷ []) ∷
     row D (told (degree 3 0 ∷ [])) (0 ∷ 0 ∷ []) ∷
     row E (told (degree 1 0 ∷ degree 1 1 ∷ degree 1 2 ∷ [])) (0 ∷ 6 ∷ 0 ∷ 3 ∷ 0 ∷ 3 ∷ []) ∷
     row F (told (delete 1 ∷ [])) (0 ∷ 6 ∷ []) ∷

@@ -2,30 +2,30 @@
 use Prim.Native.Nat.{ℕ, _+_, _-_, _*_, _/_, _%_, _≤_, _<_}
 use mathlib.Core.Path.{_≡_, refl, sym, ap, _∙_}
 use mathlib.Core.Logic.{_≢_}
-use mathlib.Core.List.{List, [], _∷_, map}
+use mathlib.Core.List.{List, map}
 use native.Mathlib.Omega.{arith}
 use lib.ListN.{length, getD, set, length-set}
 use lib.Seq.{getD-set-same, getD-set-other}
-use Rattle.ring.specs.declared.Lane.{Lane}
 use Rattle.ring.specs.declared.Ends.{Ends}
-use Rattle.ring.specs.Links.{Inside, Held, unlinkT, unlinkE, insertT, insertE, CanUnlink, CanInsert}
+use Rattle.ring.specs.Links.{Inside, Held, unlinkT, unlinkE, insertT, insertE, CanInsert}
 use Rattle.graph.specs.declared.Reading.{Reading}
 use Rattle.graph.specs.declared.Reading.the-variants.{Untested}
 use Rattle.lists.specs.Choice.{pick, is}
-use Rattle.lists.proofs.Picks.{pick-yes, pick-no, Same, same, differ, same?, is-yes, is-no, is-le}
-use Rattle.lists.specs.Keyed.{countBy, ins, rem, find, upd}
+use Rattle.lists.proofs.Picks.{same, differ, same?, is-yes, is-no}
+use Rattle.lists.specs.Keyed.{countBy, ins, rem, upd}
 use Rattle.lists.proofs.KeyedLaws.{count-ins, count-rem, count-upd, find-upd, find-upd-other, find-ins, find-ins-other, find-rem-other, find-none}
-use Rattle.graph.specs.Graph.{Vertex, Edge, vn, en, wd, noVertex, noEdge, outWord, inWord, vertexIn, edgeIn, listIn, thisIn, readingKind, decimetres}
+use Rattle.graph.specs.Graph.{Vertex, Edge, en, wd, noEdge, outWord, inWord, edgeIn, thisIn, readingKind, decimetres}
 use Rattle.graph.specs.Changes.{withEdge}
-use Rattle.graph.specs.Edits.{Fits, Placed}
+use Rattle.graph.specs.Edits.{Fits}
 use Rattle.graph.specs.WellFormed.{Ordered}
-use Rattle.graph.proofs.Orders.{find-kept, key-find, find-move, count-move}
+use Rattle.graph.proofs.Orders.{find-kept, find-move, count-move}
 use Rattle.graph.proofs.Incidence.{this-out, this-into, Word, out-word, in-word, other-word, word?}
-use Rattle.tables.specs.Tables.{State, st, vlane, elane, ilane, vat, eat, wat, EIn, vends, eends, endsAt, rowET, thisET, moveT, moveE, CanMove, setEdgeS, moveEdgeS, placeEdgeS, CanPlaceEdge, dropEdgeS, CanDropEdge}
-use Rattle.tables.specs.Holds.{VRow, ERow, VRows, ERows, Thises, Lists, Alone, Core}
-use Rattle.tables.proofs.Keys.{keys-count, keys-upd, keys-rem, keys-ins, length-upd, length-ins, length-rem, can-rem, held-rem, can-ins, held-ins}
+use Rattle.tables.specs.Tables.{State, elane, eat, wat, EIn, eends, rowET, thisET, moveT, CanMove, setEdgeS, moveEdgeS, placeEdgeS, dropEdgeS, CanDropEdge}
+use Rattle.tables.specs.Holds.{ERow, ERows, Thises, Lists, Core}
+use Rattle.ring.proofs.Counted.{can-rem, held-rem, can-ins, held-ins}
+use Rattle.tables.proofs.Keys.{keys-count, keys-upd, keys-rem, keys-ins, length-upd, length-ins, length-rem}
 use Rattle.tables.proofs.MoveLaws.{can-move, held-move, move-len, move-e, keys-move, keys-there, keys-after}
-use Rattle.tables.proofs.Frames.{fair-e, Keeps, EOrder, EData, EThis, ELinks, keep-eseq, keep-erows, keep-this, keep-lists, unlink-e, unlink-len, insert-e, insert-len, set-keeps, row-e, in-lane, real}
+use Rattle.tables.proofs.Frames.{fair-e, Keeps, EOrder, EData, EThis, ELinks, keep-eseq, keep-erows, keep-this, keep-lists, unlink-e, unlink-len, insert-e, insert-len, set-keeps, row-e, real}
 
 -- ---- the four words of an edge
 

@@ -1,23 +1,23 @@
--- Tables of zeros hold the empty graph.
-use Prim.Native.Nat.{ℕ, _+_, _≤_}
+-- Tables of zeros, and tables that were cleared, hold the empty graph.
+use Prim.Native.Nat.{ℕ, zero, suc, _/_}
 use mathlib.Core.Path.{_≡_, refl, sym, ap, _∙_}
-use mathlib.Core.List.{List, [], _∷_}
+use mathlib.Core.List.{List, []}
 use native.Mathlib.Omega.{arith}
-use lib.ListN.{length, getD}
-use Rattle.ring.specs.declared.Ends.{Ends}
+use lib.ListN.{length, getD, replicate, length-replicate}
 use Rattle.ring.proofs.HeldLaws.{held-none}
-use Rattle.lists.specs.Choice.{pick, is}
 use Rattle.lists.proofs.Picks.{pick-both, is-le}
-use Rattle.graph.specs.Graph.{Graph, thisIn}
+use Rattle.graph.specs.Graph.{empty, thisIn}
 use Rattle.tables.specs.declared.Head.{Head}
-use Rattle.tables.specs.Tables.{State, st, vlane, elane, ilane, vat, eat, wat, endsAt}
-use Rattle.tables.specs.Holds.{Holds, Core}
+use Rattle.tables.specs.Tables.{st, noHead, cleared, vlane, elane, ilane, vat, eat, wat, endsAt}
+use Rattle.tables.specs.Holds.{Holds}
+use Rattle.tables.specs.Capacities.{Sized}
+use Rattle.graph.specs.WellFormed.{Bounds}
 
 module _ (vt et : List ℕ) (zv : (i : ℕ) → getD vt i 0 ≡ 0) (ze : (i : ℕ) → getD et i 0 ≡ 0) where
   no-ends : (v : ℕ) → endsAt vt v ≡ record { first = 0; last = 0 }
   no-ends v i = record { first = zv (vat 3 v) i; last = zv (vat 4 v) i }
 
-  pub holds-empty : Holds (st (record { vfirst = 0; vlast = 0; efirst = 0; elast = 0; vertices = 0; edges = 0 }) vt et) (record { vseq = []; eseq = [] })
+  pub holds-empty : Holds (st noHead vt et) empty
   holds-empty = record {
     core = record {
       vseq = held-none vlane vt;
@@ -37,3 +37,22 @@ module _ (vt et : List ℕ) (zv : (i : ℕ) → getD vt i 0 ≡ 0) (ze : (i : �
       ends = λ k q. absurd (omega arith);
     };
   }
+
+zeros : (n i : ℕ) → getD (replicate {A = ℕ} n 0) i 0 ≡ 0
+zeros zero i = refl
+zeros (suc n) zero = refl
+zeros (suc n) (suc i) = zeros n i
+
+pub holds-cleared : (vt et : List ℕ) → Holds (cleared vt et) empty
+unfolding cleared
+holds-cleared vt et = holds-empty (replicate (length vt) 0) (replicate (length et) 0) (zeros (length vt)) (zeros (length et))
+
+-- the lengths stay
+pub sized-cleared : (b : Bounds) (h : Head) (vt et : List ℕ) → Sized b (st h vt et) → Sized b (cleared vt et)
+unfolding cleared
+sized-cleared b h vt et z = record {
+  vertices = z .vertices ∙ ap (λ (n : ℕ). n / 8) (sym (length-replicate (length vt) 0));
+  edges = z .edges ∙ ap (λ (n : ℕ). n / 12) (sym (length-replicate (length et) 0));
+  fewVertices = z .fewVertices;
+  fewEdges = z .fewEdges;
+}

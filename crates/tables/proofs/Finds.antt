@@ -1,7 +1,6 @@
 -- A look-up finds a number exactly where the graph has it.
-use Prim.Native.Nat.{ℕ, _+_, _-_, _*_, _≤_, _<_}
-use mathlib.Core.Path.{_≡_, refl, sym, ap, _∙_}
-use mathlib.Core.List.{List, [], _∷_, map}
+use Prim.Native.Nat.{ℕ, _-_, _*_, _≤_}
+use mathlib.Core.Path.{_≡_, refl, _∙_}
 use mathlib.Core.Bool.{Bool, true, false}
 use native.Mathlib.Omega.{arith}
 use lib.ListN.{length, getD}
@@ -10,7 +9,6 @@ use Rattle.lists.specs.Choice.{_⇒_else_, _==_}
 use borrow.Author.Tests.{eq-eqb, ne-eqb, le-ltb, eqb-false}
 use Rattle.lists.specs.Keyed.{countBy}
 use Rattle.graph.specs.Graph.{Graph, vn, en}
-use Rattle.tables.specs.declared.Found.{Found}
 use Rattle.tables.specs.declared.Found.the-variants.{At, Missing}
 use Rattle.tables.specs.Tables.{State, vat, eat, vends, eends, foundV, foundE}
 use Rattle.tables.specs.Holds.{Holds}

@@ -1,7 +1,7 @@
 -- What a step leaves alone. The words of a table go by their place in a row: a step names the places that it keeps, and each part
 -- of what the tables hold names the places that it reads.
-use Prim.Native.Nat.{ℕ, zero, suc, _+_, _-_, _*_, _/_, _%_, _≤_, _<_}
-use mathlib.Core.Path.{_≡_, refl, sym, ap, _∙_}
+use Prim.Native.Nat.{ℕ, zero, suc, _-_, _%_, _≤_, _<_}
+use mathlib.Core.Path.{_≡_, refl, sym, _∙_}
 use mathlib.Core.Logic.{_≢_}
 use mathlib.Core.List.{List, [], _∷_, map}
 use native.Mathlib.Omega.{arith}
@@ -15,19 +15,20 @@ use Rattle.ring.proofs.Puts.{length-join}
 use Rattle.ring.proofs.Frames.{unlink-word, insert-word, held-agree}
 use Rattle.lists.proofs.Picks.{is-no}
 use Rattle.lists.specs.Keyed.{countBy}
-use Rattle.graph.specs.Graph.{Vertex, Edge, vn, en, wd, vertexIn, edgeIn, listIn}
+use Rattle.graph.specs.Graph.{Vertex, Edge, vn, en, wd, listIn}
 use Rattle.tables.specs.Tables.{vlane, elane, ilane, vat, eat, wat, VIn, EIn, endsAt, putEnds}
-use Rattle.tables.specs.Holds.{VRow, ERow, VRows, ERows, Thises, Lists}
-use Rattle.tables.proofs.Keys.{inside-is, keys-count}
+use Rattle.tables.specs.Holds.{VRows, ERows, Thises, Lists}
+use Rattle.ring.proofs.Counted.{inside-is}
+use Rattle.tables.proofs.Keys.{keys-count}
 
 pub fair-v : Fair vlane
-fair-v = record { two = omega arith; near = omega arith; small = omega arith }
+fair-v = record { two = omega arith; near = omega arith }
 
 pub fair-e : Fair elane
-fair-e = record { two = omega arith; near = omega arith; small = omega arith }
+fair-e = record { two = omega arith; near = omega arith }
 
 pub fair-i : Fair ilane
-fair-i = record { two = omega arith; near = omega arith; small = omega arith }
+fair-i = record { two = omega arith; near = omega arith }
 
 -- t′ agrees with t at the places of P
 abbrev pub Keeps : (ℕ → Type 0) → List ℕ → List ℕ → Type 0

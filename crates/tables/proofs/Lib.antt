@@ -9,6 +9,11 @@ pub mod Refines
 pub mod Finds
 pub mod Sizes
 pub mod Empty
-pub mod Undo
-pub mod PlanLaws
+pub mod Callers
 pub mod GraphRead
+pub mod Removed
+pub mod Answers
+pub mod PlanLaws
+pub mod ListWalks
+pub mod DistinctSums
+pub mod Counts

@@ -1,9 +1,9 @@
 -- A node of a held list taken out and put in elsewhere.
-use Prim.Native.Nat.{ℕ, _+_, _-_, _*_, _%_, _≤_, _<_}
-use mathlib.Core.Path.{_≡_, refl, sym, ap, _∙_}
+use Prim.Native.Nat.{ℕ, _+_, _-_, _%_, _≤_, _<_}
+use mathlib.Core.Path.{_≡_, refl, _∙_}
 use mathlib.Core.List.{List, map}
 use native.Mathlib.Omega.{arith}
-use lib.ListN.{length, getD}
+use lib.ListN.{length}
 use Rattle.ring.specs.declared.Lane.{Lane}
 use Rattle.ring.specs.declared.Ends.{Ends}
 use Rattle.ring.specs.Links.{Fair, Inside, Held, unlinkT, unlinkE}
@@ -14,7 +14,8 @@ use Rattle.lists.proofs.KeyedLaws.{count-rem}
 use Rattle.graph.specs.Graph.{wd}
 use Rattle.graph.proofs.Orders.{key-find}
 use Rattle.tables.specs.Tables.{vlane, elane, moveT, moveE, CanMove}
-use Rattle.tables.proofs.Keys.{keys-count, keys-rem, keys-ins, inside-is, can-rem, held-rem, can-ins, held-ins}
+use Rattle.ring.proofs.Counted.{inside-is, can-rem, held-rem, can-ins, held-ins}
+use Rattle.tables.proofs.Keys.{keys-count, keys-rem, keys-ins}
 use Rattle.tables.proofs.Frames.{Keeps, unlink-v, unlink-e, unlink-len, insert-v, insert-e, insert-len}
 
 module _ (lane : Lane) (t : List ℕ) (e : Ends) (l : List ℕ) (fair : Fair lane) (h : Held lane t e l) (n p : ℕ) (r : 1 ≤ n)

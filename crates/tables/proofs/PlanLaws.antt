@@ -1,155 +1,173 @@
--- The edits read off the tables apply to the graph that the tables hold.
-use Prim.Native.Nat.{ℕ, zero, suc, _+_, _-_, _*_, _/_, _%_, _≤_, _<_}
+-- The edits read off the tables are those of the graph that the tables hold.
+use Prim.Native.Nat.{ℕ, _+_, _-_, _^_, _≤_, _<_}
 use mathlib.Core.Path.{_≡_, refl, sym, ap, _∙_}
 use mathlib.Core.Logic.{_≢_}
-use mathlib.Core.List.{List, [], _∷_, map}
-use mathlib.Core.Bool.{Bool, true, false}
+use mathlib.Core.List.{[], _∷_, _++_}
 use native.Mathlib.Omega.{arith}
-use lib.ListN.{length, getD}
-use borrow.Author.Tests.{eq-eqb, ne-eqb}
-use Rattle.ring.specs.Links.{prv, linkOf, Held}
-use Rattle.graph.specs.declared.Reading.{Reading}
-use Rattle.graph.specs.declared.Reading.the-variants.{Untested, Silent, Heard}
 use Rattle.lists.specs.Choice.{pick, is}
-use Rattle.lists.proofs.Picks.{pick-yes, pick-no, pick-self, Same, same, differ, same?, is-yes, is-no, is-zero}
-use Rattle.lists.specs.Keyed.{countBy, rem, prev}
-use Rattle.lists.proofs.KeyedLaws.{prev-in, count-rem}
-use Rattle.graph.specs.Graph.{Vertex, Edge, Graph, vn, en, wd, noEdge, outWord, inWord, edgeIn, listIn, thisIn, readingKind, decimetres, readingOf}
-use Rattle.graph.specs.Changes.{onList, detach}
-use Rattle.graph.specs.Edits.{Applies}
-use Rattle.graph.specs.WellFormed.{WellFormed}
-use Rattle.graph.specs.declared.Edit.the-variants.{RemoveEdge}
-use Rattle.graph.proofs.Orders.{key-find}
-use Rattle.graph.proofs.Incidence.{list-upd, this-out, this-into, out-half, into-half}
-use Rattle.graph.proofs.Lists.{held, ordered-list, ends-at}
-use Rattle.tables.specs.Tables.{State, elane, ilane, vends, eends, endsAt, eat, wat, VIn}
-use Rattle.tables.specs.Holds.{Holds, Core}
-use Rattle.tables.specs.Edits.{Small}
-use Rattle.tables.specs.Plans.{thisAt, wordBefore, planRemoveEdge, CanPlanRemoveEdge}
-use Rattle.tables.proofs.Keys.{keys-count, prev-is}
-use Rattle.tables.proofs.Frames.{fair-e, fair-i, row-v, row-e}
+use Rattle.lists.specs.Keyed.{countBy, rem, prev, lastBy}
+use Rattle.lists.proofs.Picks.{pick-yes, pick-no, same, differ, same?, is-no}
+use Rattle.lists.proofs.Places.{prev-there}
+use Rattle.graph.specs.declared.Edit.the-variants.{InsertVertex, RemoveVertex, InsertEdge, RemoveEdge, SetVertex, SetEdge, MoveVertex, MoveEdge, MoveWord}
+use Rattle.graph.specs.declared.Reading.the-variants.{Untested}
+use Rattle.graph.specs.declared.Change.{Change}
+use Rattle.graph.specs.declared.Change.the-variants.{CreateVertex, DeleteVertex, CreateEdge, DeleteEdge, RetypeVertex, RetypeEdge, SetValue, SetReading, SetAlpha, SetOmega, VertexBefore, VertexAfter, EdgeBefore, EdgeAfter, WordBefore, WordAfter}
+use Rattle.graph.specs.Graph.{Graph, vn, en, wd, edge, edgeOf, outWord, inWord, this, listIn, listOf, readingOf}
+use Rattle.graph.specs.WellFormed.{Bounds}
+use Rattle.graph.specs.Changes.{VertexThere, EdgeThere, Allowed, append, detach}
+use Rattle.graph.specs.Plans.{removal, vertexRemoval, wordMove, listWithout, moveLast, plan}
+use Rattle.graph.proofs.Incidence.{list-upd, out-half, into-half, this-out, this-into}
+use Rattle.graph.proofs.Lists.{ordered-list}
+use Rattle.tables.specs.Tables.{State, vlast, wprev}
+use Rattle.tables.specs.Holds.{Holds}
+use Rattle.tables.specs.Capacities.{Sized}
+use Rattle.tables.specs.Plans.{unless, planRemoveEdge, planWordLast, planS, CanPlan}
+use Rattle.tables.proofs.Removed.{prev-rem, last-rem, last-other, last-append}
+use Rattle.tables.proofs.Answers.{last-vertex, last-edge, vertex-row, vertex-type, vertex-value, last-word, vertex-prev, edge-row, edge-type, reading-at, alpha-is, omega-is, edge-prev, word-row, word-this, word-vertex, word-listed, word-prev}
 
-pub reading-back : (r : Reading) → readingOf (readingKind r) (decimetres r) ≡ r
-reading-back Untested = refl
-reading-back Silent = refl
-reading-back (Heard d) = refl
+-- `unless` of equal parts
+unless-by : (a : ℕ) {p p′ x x′ : ℕ} → p ≡ p′ → x ≡ x′ → unless a p x ≡ unless a p′ x′
+unless-by a p q i = unless a (p i) (q i)
 
-keys-prev : {A : Type 0} (key : A → ℕ) (q k : ℕ) (l : List A) → prev wd q k (map key l) ≡ prev key q k l
-keys-prev key q k [] = refl
-keys-prev key q k (y ∷ l) = ap (λ (t : ℕ). pick (key y) k q t) (keys-prev key (key y) k l)
+module _ (s : State) (g : Graph) (h : Holds s g) where
+  -- a word that leaves its list: what stands before another, and what stands last, in any list
+  module _ (w : ℕ) (c : EdgeThere g (edgeOf w)) where
+    real : 2 ≤ w
+    real = word-row s g h w c .0
 
--- ---- who stands before b once a is out: the one before a, if a stood there
+    -- w is in no other list
+    elsewhere : (u : ℕ) → this g w ≢ u → countBy wd w (listOf g u) ≡ 0
+    elsewhere u d = h .sound .lists u w ∙ pick-no (this g w) u _ _ d
 
-prev-here : (q k : ℕ) (l : List ℕ) → 1 ≤ countBy wd k l → 1 ≤ is q (prev wd q k l) + countBy wd (prev wd q k l) l
-prev-here q k l h = omega (arith, prev-in wd q k l h, count-rem wd (prev wd q k l) k l)
+    list-out : (u : ℕ) → this g w ≡ u → listWithout w u g ≡ rem wd w (listOf g u)
+    list-out u e = list-upd (g .vseq) (this g w) u (rem wd w) (word-vertex s g h w c) ∙ pick-yes (this g w) u _ _ e
 
-prev-head : (q y b : ℕ) (l : List ℕ) → 1 ≤ countBy wd b l → ((n : ℕ) → is y n + countBy wd n l ≤ 1) → prev wd q b l ≡ pick (prev wd y b l) y q (prev wd y b l)
-prev-head q y b [] h d = absurd (omega arith)
-prev-head q y b (c ∷ l) h d = elim (same? c b) [
-  | same e f ↦ simp pick-yes
-  | differ e f ↦
-      let i : 1 ≤ countBy wd b l = omega (arith, is-no c b e) in
-      let a : y ≢ prev wd c b l = is-zero y (prev wd c b l) (omega (arith, prev-here c b l i, d (prev wd c b l))) in
-      let a′ : prev wd c b l ≢ y = λ z. a (sym z) in
-      simp pick-no
-]
+    list-kept : (u : ℕ) → this g w ≢ u → listWithout w u g ≡ listOf g u
+    list-kept u d = list-upd (g .vseq) (this g w) u (rem wd w) (word-vertex s g h w c) ∙ pick-no (this g w) u _ _ d
 
-prev-rem : (q a b : ℕ) (l : List ℕ) → a ≢ b → 1 ≤ countBy wd a l → 1 ≤ countBy wd b l → ((n : ℕ) → is q n + countBy wd n l ≤ 1) → prev wd q b (rem wd a l) ≡ pick (prev wd q b l) a (prev wd q a l) (prev wd q b l)
-prev-rem q a b [] n h i d = absurd (omega arith)
-prev-rem q a b (y ∷ l) n h i d = elim (same? y a) [
-  | same e f ↦
-      let o : y ≢ b = λ z. n (f ∙ z) in
-      simp (pick-yes, pick-no) (rw f (prev-head q y b l (omega (arith, is-no y b o)) (λ m. omega (arith, d m))))
-  | differ e f ↦ elim (same? y b) [
-    | same j k ↦
-        let o : q ≢ a = is-zero q a (omega (arith, d a)) in
-        simp (pick-yes, pick-no)
-    | differ j k ↦ simp pick-no (prev-rem y a b l n (omega (arith, is-no y a e)) (omega (arith, is-no y b j)) (λ m. omega (arith, d m)))
-  ]
-]
+    prev-out : (u b : ℕ) → w ≢ b → 1 ≤ countBy wd b (listOf g u) →
+        unless w (prev wd 0 w (listOf g (this g w))) (prev wd 0 b (listOf g u)) ≡ prev wd 0 b (listWithout w u g)
+    prev-out u b n i = elim (same? (this g w) u) [
+      | same e f ↦
+          let l = listOf g u in
+          let j : countBy wd w l ≡ 1 = rw e at (word-listed s g h w c) in
+          unless-by w (ap (λ (v : ℕ). prev wd 0 w (listOf g v)) e) refl
+          ∙ sym (prev-rem wd 0 w b l n (omega arith) i (ordered-list g (h .sound) u))
+          ∙ ap (prev wd 0 b) (sym (list-out u e))
+      | differ e f ↦
+          let l = listOf g u in
+          let o : prev wd 0 b l ≢ w =
+          λ q. omega (arith, prev-there wd 0 b l i, elsewhere u e, ap (λ (k : ℕ). is 0 k + countBy wd k l) q, is-no 0 w (λ r. omega (arith, real))) in
+          pick-no (prev wd 0 b l) w _ _ o ∙ ap (prev wd 0 b) (sym (list-kept u e))
+    ]
 
-module _ (n : ℕ) (s : State) (g : Graph) (h : Holds s g) (m : Small s) (c : countBy en n (g .eseq) ≡ 1) where
-  abbrev a : ℕ
-  a = thisAt s (outWord n)
+    last-out : (u : ℕ) → unless w (prev wd 0 w (listOf g (this g w))) (lastBy wd 0 (listOf g u)) ≡ lastBy wd 0 (listWithout w u g)
+    last-out u = elim (same? (this g w) u) [
+      | same e f ↦
+          let l = listOf g u in
+          let j : countBy wd w l ≡ 1 = rw e at (word-listed s g h w c) in
+          unless-by w (ap (λ (v : ℕ). prev wd 0 w (listOf g v)) e) refl
+          ∙ sym (last-rem wd 0 w l (omega arith) (ordered-list g (h .sound) u))
+          ∙ ap (lastBy wd 0) (sym (list-out u e))
+      | differ e f ↦
+          let l = listOf g u in
+          let o : lastBy wd 0 l ≢ w = last-other wd 0 w l (omega (arith, elsewhere u e, is-no 0 w (λ r. omega (arith, real)))) in
+          pick-no (lastBy wd 0 l) w _ _ o ∙ ap (lastBy wd 0) (sym (list-kept u e))
+    ]
 
-  abbrev z : ℕ
-  z = thisAt s (inWord n)
+    pub last-move : (u : ℕ) → VertexThere g u → planWordLast (s .vt) (s .et) w u ≡ moveLast w u g
+    unfolding wordMove
+    last-move u cu =
+        let t = word-this s g h w c in
+        let p = word-prev s g h w c in
+        let q = unless-by w p (last-word s g h u cu) ∙ last-out u in
+        λ i. MoveWord w (t i) (p i) u (q i)
 
-  row : (1 ≤ n) × (12 * n ≤ length (s .et))
-  row = row-e (s .et) (eends (s .head)) (g .eseq) (h .core .eseq) n (omega arith)
+  there-out : (e : ℕ) → EdgeThere g e → EdgeThere g (edgeOf (outWord e))
+  there-out e c = rw (out-half e) c
 
-  seen-a : thisIn (g .eseq) (outWord n) ≡ a
-  seen-a = sym (h .core .this (outWord n) (omega (arith, row)))
+  there-in : (e : ℕ) → EdgeThere g e → EdgeThere g (edgeOf (inWord e))
+  there-in e c = rw (into-half e) c
 
-  seen-z : thisIn (g .eseq) (inWord n) ≡ z
-  seen-z = sym (h .core .this (inWord n) (omega (arith, row)))
+  -- the removal of an edge
+  pub removal-is : (n : ℕ) → EdgeThere g n → planRemoveEdge (s .et) n ≡ removal n g
+  unfolding removal
+  removal-is n c =
+      let ci = there-in n c in
+      let co = there-out n c in
+      let a = alpha-is s g h n c in
+      let z = omega-is s g h n c in
+      let t = edge-type s g h n c in
+      let r = reading-at s g h n c in
+      let p = edge-prev s g h n c in
+      let i = word-prev s g h (inWord n) ci in
+      let i′ : wprev (s .et) (inWord n) ≡ prev wd 0 (inWord n) (listOf g (edge g n .omega)) = i ∙ ap (λ (v : ℕ). prev wd 0 (inWord n) (listOf g v)) (this-into (g .eseq) n) in
+      let o = word-prev s g h (outWord n) co in
+      let q : unless (inWord n) (wprev (s .et) (inWord n)) (wprev (s .et) (outWord n)) ≡ prev wd 0 (outWord n) (listIn (detach (g .vseq) (edge g n .omega) (inWord n)) (edge g n .alpha)) =
+      unless-by (inWord n) i o
+      ∙ prev-out (inWord n) ci (this g (outWord n)) (outWord n) (omega arith) (omega (arith, word-listed s g h (outWord n) co))
+      ∙ (λ k. prev wd 0 (outWord n) (listIn (detach (g .vseq) (this-into (g .eseq) n k) (inWord n)) (this-out (g .eseq) n k))) in
+      λ k. RemoveEdge n (a k) (z k) (t k) (r k) (p k) (q k) (i′ k)
 
-  there-o : countBy en (outWord n / 2) (g .eseq) ≡ 1
-  there-o = rw (out-half n) c
+  -- the last word of omega's list, once the out word is last in alpha's
+  into-last : (n a o : ℕ) → VertexThere g a → VertexThere g o → pick a o (outWord n) (vlast (s .vt) o) ≡ lastBy wd 0 (listIn (append (g .vseq) a (outWord n)) o)
+  into-last n a o ca co =
+      let l = list-upd (g .vseq) a o (λ ws. ws ++ (outWord n ∷ [])) ca in
+      elim (same? a o) [
+        | same e f ↦ pick-yes a o _ _ e ∙ sym (ap (lastBy wd 0) (l ∙ pick-yes a o _ _ e) ∙ last-append wd 0 (listOf g o) (outWord n))
+        | differ e f ↦ pick-no a o _ _ e ∙ last-word s g h o co ∙ sym (ap (lastBy wd 0) (l ∙ pick-no a o _ _ e))
+      ]
 
-  there-i : countBy en (inWord n / 2) (g .eseq) ≡ 1
-  there-i = rw (into-half n) c
+  pub plan-is : (b : Bounds) (c : Change) → Allowed b g c → planS c s ≡ plan c g
+  unfolding plan removal vertexRemoval wordMove
+  plan-is b (CreateVertex n t x) a = ap (λ (p : ℕ). InsertVertex n t x p) (last-vertex s g h)
+  plan-is b (DeleteVertex v) a = λ i. RemoveVertex v (vertex-type s g h v a i) (vertex-value s g h v a i) (vertex-prev s g h v a i)
+  plan-is b (CreateEdge n x o t) a = λ i. InsertEdge n x o t Untested (last-edge s g h i) (last-word s g h x (a .3) i) (into-last n x o (a .3) (a .4) i)
+  plan-is b (DeleteEdge n) a = removal-is n a
+  plan-is b (RetypeVertex v t) a = λ i. SetVertex v (vertex-type s g h v (a .0) i) (vertex-value s g h v (a .0) i) t (vertex-value s g h v (a .0) i)
+  plan-is b (RetypeEdge e t) a = λ i. SetEdge e (edge-type s g h e (a .0) i) (reading-at s g h e (a .0) i) t (reading-at s g h e (a .0) i)
+  plan-is b (SetValue v x) a = λ i. SetVertex v (vertex-type s g h v (a .0) i) (vertex-value s g h v (a .0) i) (vertex-type s g h v (a .0) i) x
+  plan-is b (SetReading e k d) a = λ i. SetEdge e (edge-type s g h e (a .0) i) (reading-at s g h e (a .0) i) (edge-type s g h e (a .0) i) (readingOf k d)
+  plan-is b (SetAlpha e v) a = last-move (outWord e) (there-out e (a .0)) v (a .1)
+  plan-is b (SetOmega e v) a = last-move (inWord e) (there-in e (a .0)) v (a .1)
+  plan-is b (VertexBefore x y) a =
+      let p = vertex-prev s g h x (a .0) in
+      let q = unless-by x p (vertex-prev s g h y (a .1)) ∙ sym (prev-rem vn 0 x y (g .vseq) (a .2) (omega (arith, a .0)) (omega (arith, a .1)) (h .sound .vorder)) in
+      λ i. MoveVertex x (p i) (q i)
+  plan-is b (VertexAfter x y) a = λ i. MoveVertex x (vertex-prev s g h x (a .0) i) y
+  plan-is b (EdgeBefore x y) a =
+      let p = edge-prev s g h x (a .0) in
+      let q = unless-by x p (edge-prev s g h y (a .1)) ∙ sym (prev-rem en 0 x y (g .eseq) (a .2) (omega (arith, a .0)) (omega (arith, a .1)) (h .sound .eorder)) in
+      λ i. MoveEdge x (p i) (q i)
+  plan-is b (EdgeAfter x y) a = λ i. MoveEdge x (edge-prev s g h x (a .0) i) y
+  plan-is b (WordBefore x y) a =
+      let v = word-this s g h x (a .0) in
+      let p = word-prev s g h x (a .0) in
+      let same-list : countBy wd y (listOf g (this g x)) ≡ 1 = rw (a .2) (word-listed s g h y (a .1)) in
+      let q = unless-by x p (word-prev s g h y (a .1) ∙ ap (λ (k : ℕ). prev wd 0 y (listOf g k)) (sym (a .2)))
+      ∙ prev-out x (a .0) (this g x) y (a .3) (omega (arith, same-list)) in
+      λ i. MoveWord x (v i) (p i) (v i) (q i)
+  plan-is b (WordAfter x y) a = λ i. MoveWord x (word-this s g h x (a .0) i) (word-prev s g h x (a .0) i) (word-this s g h x (a .0) i) y
 
-  a-in : VIn (s .vt) a
-  a-in = row-v (s .vt) (vends (s .head)) (g .vseq) (h .core .vseq) a (omega (arith, ends-at g (h .sound) (outWord n) a there-o seen-a))
+-- the rows that a plan reads are there
+module _ (b : Bounds) (s : State) (z : Sized b s) (g : Graph) (h : Holds s g) where
+  short : (n : ℕ) → EdgeThere g n → n < 2 ^ 31
+  short n c = omega (arith, edge-row s g h n c, z .edges, z .fewEdges)
 
-  z-there : countBy vn z (g .vseq) ≡ 1
-  z-there = ends-at g (h .sound) (inWord n) z there-i seen-z
-
-  z-in : VIn (s .vt) z
-  z-in = row-v (s .vt) (vends (s .head)) (g .vseq) (h .core .vseq) z (omega (arith, z-there))
-
-  pub can-plan-remove-edge : CanPlanRemoveEdge n s
-  can-plan-remove-edge = record { row = row; small = omega (arith, m .et, row); alpha = a-in; omega = z-in }
-
-  has-o : countBy wd (outWord n) (listIn (g .vseq) a) ≡ 1
-  has-o = held g (h .sound) (outWord n) a there-o seen-a
-
-  has-i : countBy wd (inWord n) (listIn (g .vseq) z) ≡ 1
-  has-i = held g (h .sound) (inWord n) z there-i seen-z
-
-  before-o : wordBefore s (outWord n) ≡ prev wd 0 (outWord n) (listIn (g .vseq) a)
-  before-o = prev-is ilane (s .et) (endsAt (s .vt) a) (listIn (g .vseq) a) fair-i (h .core .lists a (a-in .0)) (outWord n) (omega (arith, has-o))
-
-  before-i : wordBefore s (inWord n) ≡ prev wd 0 (inWord n) (listIn (g .vseq) z)
-  before-i = prev-is ilane (s .et) (endsAt (s .vt) z) (listIn (g .vseq) z) fair-i (h .core .lists z (z-in .0)) (inWord n) (omega (arith, has-i))
-
-  -- the in word is not in another vertex's list
-  not-there : z ≢ a → countBy wd (inWord n) (listIn (g .vseq) a) ≡ 0
-  not-there d = h .sound .lists a (inWord n) ∙ pick-no (thisIn (g .eseq) (inWord n)) a _ _ (λ q. d (sym seen-z ∙ q))
-
-  out-place : Same z a → prev wd 0 (outWord n) (listIn (detach (g .vseq) z (inWord n)) a) ≡ pick (wordBefore s (outWord n)) (inWord n) (wordBefore s (inWord n)) (wordBefore s (outWord n))
-  out-place (same e f) =
-      let l = listIn (g .vseq) a in
-      let i : countBy wd (inWord n) l ≡ 1 = rw e at has-i in
-      ap (prev wd 0 (outWord n)) (list-upd (g .vseq) z a (rem wd (inWord n)) z-there ∙ pick-yes z a _ _ e)
-      ∙ prev-rem 0 (inWord n) (outWord n) l (omega arith) (omega arith) (omega (arith, has-o)) (ordered-list g (h .sound) a)
-      ∙ rw (before-o, before-i, e)
-  out-place (differ e f) =
-      let l = listIn (g .vseq) a in
-      let d : wordBefore s (outWord n) ≢ inWord n = λ q. omega (arith, prev-here 0 (outWord n) l (omega (arith, has-o)), not-there e, ap (λ (k : ℕ). is 0 k + countBy wd k l) (sym before-o ∙ q), is-no 0 (inWord n) (λ r. omega arith)) in
-      ap (prev wd 0 (outWord n)) (list-upd (g .vseq) z a (rem wd (inWord n)) z-there ∙ pick-no z a _ _ e) ∙ sym before-o ∙ sym (pick-no (wordBefore s (outWord n)) (inWord n) _ _ d)
-
-  record-is : edgeIn (g .eseq) n ≡ record { number = n; alpha = a; omega = z; type = getD (s .et) (eat 4 n) 0; reading = readingOf (getD (s .et) (eat 5 n) 0) (getD (s .et) (eat 9 n) 0) }
-  record-is =
-      let o = h .core .erows n (row .0) in
-      let r : readingOf (getD (s .et) (eat 5 n) 0) (getD (s .et) (eat 9 n) 0) ≡ (edgeIn (g .eseq) n) .reading = rw (o .kind, o .decimetres) (reading-back ((edgeIn (g .eseq) n) .reading)) in
-      λ i. record {
-        number = key-find en noEdge n (g .eseq) (omega arith) i;
-        alpha = (sym (this-out (g .eseq) n) ∙ seen-a) i;
-        omega = (sym (this-into (g .eseq) n) ∙ seen-z) i;
-        type = sym (o .type) i;
-        reading = sym r i;
-      }
-
-  pub plan-remove-edge-applies : Applies (planRemoveEdge n s) g
-  unfolding planRemoveEdge
-  plan-remove-edge-applies = (
-    record {
-      there = c;
-      before = sym (prev-is elane (s .et) (eends (s .head)) (map en (g .eseq)) fair-e (h .core .eseq) n (omega (arith, keys-count en n (g .eseq))) ∙ keys-prev en 0 n (g .eseq));
-    },
-    record-is,
-    sym before-i,
-    out-place (same? z a),
-  )
+  pub can-plan : (c : Change) → Allowed b g c → CanPlan c s
+  can-plan (CreateVertex n t x) a = tt
+  can-plan (DeleteVertex v) a = vertex-row s g h v a
+  can-plan (CreateEdge n x o t) a = (omega (arith, a .1, z .fewEdges), vertex-row s g h x (a .3), vertex-row s g h o (a .4))
+  can-plan (DeleteEdge n) a = (short n a, edge-row s g h n a)
+  can-plan (RetypeVertex v t) a = vertex-row s g h v (a .0)
+  can-plan (RetypeEdge e t) a = edge-row s g h e (a .0)
+  can-plan (SetValue v x) a = vertex-row s g h v (a .0)
+  can-plan (SetReading e k d) a = edge-row s g h e (a .0)
+  can-plan (SetAlpha e v) a = (short e (a .0), edge-row s g h e (a .0), vertex-row s g h v (a .1))
+  can-plan (SetOmega e v) a = (short e (a .0), edge-row s g h e (a .0), vertex-row s g h v (a .1))
+  can-plan (VertexBefore x y) a = (vertex-row s g h x (a .0), vertex-row s g h y (a .1))
+  can-plan (VertexAfter x y) a = vertex-row s g h x (a .0)
+  can-plan (EdgeBefore x y) a = (edge-row s g h x (a .0), edge-row s g h y (a .1))
+  can-plan (EdgeAfter x y) a = edge-row s g h x (a .0)
+  can-plan (WordBefore x y) a = (word-row s g h x (a .0), word-row s g h y (a .1))
+  can-plan (WordAfter x y) a = word-row s g h x (a .0)

@@ -1,31 +1,25 @@
 -- Each edit: where it applies to the graph that the tables hold, the tables can take it, and hold the changed graph after it.
-use Prim.Native.Nat.{ℕ, _+_, _-_, _*_, _/_, _%_, _^_, _≤_, _<_}
-use mathlib.Core.Path.{_≡_, refl, sym, ap, _∙_}
-use mathlib.Core.Logic.{_≢_}
+use Prim.Native.Nat.{ℕ, _-_, _/_, _^_, _≤_, _<_}
+use mathlib.Core.Path.{_≡_, refl, ap, _∙_}
 use mathlib.Core.List.{List, [], _∷_, map}
 use native.Mathlib.Omega.{arith}
-use lib.ListN.{length, getD}
-use Rattle.ring.specs.declared.Ends.{Ends}
-use Rattle.ring.specs.Links.{Held}
+use lib.ListN.{length}
 use Rattle.ring.proofs.Pigeon.{held-length}
 use Rattle.graph.specs.declared.Reading.{Reading}
-use Rattle.lists.specs.Choice.{is}
-use Rattle.lists.proofs.Picks.{is-yes, is-no}
+use Rattle.lists.proofs.Picks.{is-yes}
 use Rattle.lists.specs.Keyed.{countBy, ins, rem, upd}
 use Rattle.lists.proofs.KeyedLaws.{count-ins}
 use Rattle.graph.specs.declared.Edit.{Edit}
 use Rattle.graph.specs.declared.Edit.the-variants.{InsertVertex, RemoveVertex, InsertEdge, RemoveEdge, SetVertex, SetEdge, MoveVertex, MoveEdge, MoveWord}
-use Rattle.graph.specs.Graph.{Vertex, Edge, Graph, vn, en, wd, outWord, inWord, listIn, thisIn}
-use Rattle.graph.specs.Changes.{onList, withVertex, withEdge, withEnd, detach}
+use Rattle.graph.specs.Graph.{Vertex, Edge, Graph, vn, en, wd, outWord, inWord, listIn}
+use Rattle.graph.specs.Changes.{withEnd, detach}
 use Rattle.graph.specs.Edits.{attach, apply, Applies}
-use Rattle.graph.specs.WellFormed.{WellFormed}
 use Rattle.graph.proofs.Keeps.{keeps-formed}
 use Rattle.graph.proofs.Lists.{held, unheld, gone, ends-at, free-out, out-at, into-at, a-there, z-there}
 use Rattle.graph.proofs.Incidence.{count-list, count-attach-other, count-detach-other, out-half, into-half, apart, apart′}
-use Rattle.tables.specs.Tables.{State, vlane, elane, vends, eends, VIn, EIn, WIn, detachS, attachS, setThisS, placeEdgeS, dropEdgeS, moveWordS, CanMoveWord, CanInsertVertex, CanPlaceEdge, CanDropEdge, insertEdgeS, CanInsertEdge, removeEdgeS, CanRemoveEdge}
+use Rattle.tables.specs.Tables.{State, vlane, elane, vends, eends, EIn, WIn, detachS, attachS, placeEdgeS, moveWordS, CanMoveWord, insertEdgeS, CanInsertEdge, removeEdgeS, CanRemoveEdge}
 use Rattle.tables.specs.Holds.{Core, Holds}
 use Rattle.tables.specs.Edits.{applyS, Can, Small, Room}
-use Rattle.tables.proofs.Keys.{keys-count}
 use Rattle.tables.proofs.Frames.{row-v, row-e}
 use Rattle.tables.proofs.WordLaws.{can-detach, core-detach, can-attach, core-attach, core-this}
 use Rattle.tables.proofs.VertexLaws.{core-set-vertex, can-move-vertex, core-move-vertex, can-put-vertex, core-insert-vertex, can-remove-vertex, core-remove-vertex}

@@ -1,19 +1,13 @@
--- No edit changes the length of a table, and an edit that was carried out leaves room for its inverse.
-use Prim.Native.Nat.{ℕ, _+_, _-_, _*_, _^_, _≤_, _<_}
-use mathlib.Core.Path.{_≡_, refl, sym, ap, _∙_}
-use mathlib.Core.List.{List, [], _∷_, map}
-use native.Mathlib.Omega.{arith}
+-- No edit changes the length of a table.
+use Prim.Native.Nat.{ℕ, _+_, _-_, _*_}
+use mathlib.Core.Path.{_≡_, refl, _∙_}
 use lib.ListN.{length, length-set}
-use Rattle.ring.specs.Links.{unlinkT, unlinkE, insertT, insertE}
 use Rattle.graph.specs.declared.Reading.{Reading}
 use Rattle.graph.specs.declared.Edit.{Edit}
 use Rattle.graph.specs.declared.Edit.the-variants.{InsertVertex, RemoveVertex, InsertEdge, RemoveEdge, SetVertex, SetEdge, MoveVertex, MoveEdge, MoveWord}
-use Rattle.graph.specs.Graph.{Graph}
-use Rattle.graph.specs.Edits.{inverse, Applies}
-use Rattle.tables.specs.Tables.{State, vlane, elane, ilane, vends, eends, endsAt, VIn, EIn, putEnds, detachS, attachS, setThisS, placeEdgeS, dropEdgeS, moveWordS, insertEdgeS, removeEdgeS, setVertexS, moveVertexS, insertVertexS, removeVertexS, setEdgeS, moveEdgeS, rowVT, rowET, thisET, moveT}
-use Rattle.tables.specs.Holds.{Holds}
-use Rattle.tables.specs.Edits.{applyS, Small, Room}
-use Rattle.tables.proofs.Frames.{unlink-len, insert-len, ends-len, row-v, row-e}
+use Rattle.tables.specs.Tables.{State, vlane, elane, ilane, vends, eends, endsAt, detachS, attachS, setThisS, placeEdgeS, dropEdgeS, moveWordS, insertEdgeS, removeEdgeS, setVertexS, moveVertexS, insertVertexS, removeVertexS, setEdgeS, moveEdgeS}
+use Rattle.tables.specs.Edits.{applyS}
+use Rattle.tables.proofs.Frames.{unlink-len, insert-len, ends-len}
 use Rattle.tables.proofs.MoveLaws.{move-len}
 use Rattle.tables.proofs.VertexLaws.{row-len as vrow-len}
 use Rattle.tables.proofs.EdgeLaws.{row-len as erow-len, ends-len as this-len}
@@ -66,24 +60,3 @@ same-size (MoveWord w v old u new) s =
     let s₁ = detachS v w s in
     let s₂ = attachS u new w s₁ in
     then s s₁ _ (detach-len v w s) (then s₁ s₂ _ (attach-len u new w s₁) (this-set-len w u s₂))
-
-pub small-edit : (e : Edit) (s : State) → Small s → Small (applyS e s)
-small-edit e s m = let q = same-size e s in record { vt = rw (q .vt) (m .vt); et = rw (q .et) (m .et) }
-
-module _ (s : State) (g : Graph) (h : Holds s g) where
-  keep-v : (e : Edit) (n : ℕ) → VIn (s .vt) n → VIn ((applyS e s) .vt) n
-  keep-v e n i = (i .0, rw (same-size e s .vt) (i .1))
-
-  keep-e : (e : Edit) (n : ℕ) → EIn (s .et) n → EIn ((applyS e s) .et) n
-  keep-e e n i = (i .0, rw (same-size e s .et) (i .1))
-
-  pub room-back : (e : Edit) → Applies e g → Room (inverse e) (applyS e s)
-  room-back (InsertVertex n t v p) a = tt
-  room-back (RemoveVertex n t v p) a = keep-v (RemoveVertex n t v p) n (row-v (s .vt) (vends (s .head)) (g .vseq) (h .core .vseq) n (omega (arith, a .0 .there)))
-  room-back (InsertEdge n x z t r p o i) a = tt
-  room-back (RemoveEdge n x z t r p o i) a = keep-e (RemoveEdge n x z t r p o i) n (row-e (s .et) (eends (s .head)) (g .eseq) (h .core .eseq) n (omega (arith, a .0 .there)))
-  room-back (SetVertex n t v t′ v′) a = tt
-  room-back (SetEdge n t r t′ r′) a = tt
-  room-back (MoveVertex n old new) a = tt
-  room-back (MoveEdge n old new) a = tt
-  room-back (MoveWord w v old u new) a = tt

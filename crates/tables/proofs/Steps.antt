@@ -6,11 +6,13 @@ use Rattle.graph.specs.declared.Edit.the-variants.{RemoveEdge}
 use Rattle.graph.specs.declared.Reading.{Reading}
 use Rattle.lists.specs.Choice.{pick}
 use Rattle.tables.specs.Edits.{applyS, Can}
+use Rattle.tables.specs.Plans.{CanPlan, planS}
+use Rattle.graph.specs.declared.Change.{Change}
 use mathlib.Core.List.{List}
 use Rattle.ring.specs.declared.Lane.{Lane}
 use Rattle.ring.specs.declared.Ends.{Ends}
 use Rattle.ring.specs.Links.{CanUnlink, CanInsert}
-use Rattle.tables.specs.Tables.{State, CanDropEdge, CanAttach, CanDetach, detachS, attachS, setThisS, moveWordS}
+use Rattle.tables.specs.Tables.{State, CanDropEdge, CanAttach, CanDetach}
 
 pub unlink-by : (lane : Lane) (t : List ℕ) {e e′ : Ends} (x : ℕ) → e ≡ e′ → CanUnlink lane t e′ x → CanUnlink lane t e x
 unlink-by lane t x q h = rw q h
@@ -42,8 +44,16 @@ pub did-by : (s : State) {s′ : State} {e e′ : Edit} → e ≡ e′ → s′ 
 did-by s q h = h ∙ ap (λ (x : Edit). applyS x s) (sym q)
 
 -- the parts of a removal
-pub removal-by : (n : ℕ) {a a′ z z′ t p p′ o o′ i i′ q : ℕ} {r r′ : Reading} → a ≡ a′ → z ≡ z′ → r ≡ r′ → p ≡ p′ → i ≡ i′ → o ≡ o′ → q ≡ pick o (2 * n + 1) i o
-    → RemoveEdge n a z t r p q i ≡ RemoveEdge n a′ z′ t r′ p′ (pick o′ (2 * n + 1) i′ o′) i′
-removal-by n {t = t} {o′ = o′} {i′ = i′} {q = q} ea ez er ep ei eo eq =
+pub removal-by : (n : ℕ) {a a′ z z′ t t′ p p′ o o′ i i′ q : ℕ} {r r′ : Reading} →
+    a ≡ a′ → z ≡ z′ → t ≡ t′ → r ≡ r′ → p ≡ p′ → i ≡ i′ → o ≡ o′ → q ≡ pick o (2 * n + 1) i o →
+    RemoveEdge n a z t r p q i ≡ RemoveEdge n a′ z′ t′ r′ p′ (pick o′ (2 * n + 1) i′ o′) i′
+removal-by n {o′ = o′} {i′ = i′} {q = q} ea ez et er ep ei eo eq =
     let w : q ≡ pick o′ (2 * n + 1) i′ o′ = eq ∙ (λ k. pick (eo k) (2 * n + 1) (ei k) (eo k)) in
-    λ k. RemoveEdge n (ea k) (ez k) t (er k) (ep k) (w k) (ei k)
+    λ k. RemoveEdge n (ea k) (ez k) (et k) (er k) (ep k) (w k) (ei k)
+
+-- an arm of the match on a change
+pub asks-by : (s : State) {c c′ : Change} → c ≡ c′ → CanPlan c s → CanPlan c′ s
+asks-by s q h = subst (λ (x : Change). CanPlan x s) q h
+
+pub plans-by : (s : State) {c c′ : Change} {r : Edit} → c ≡ c′ → r ≡ planS c′ s → r ≡ planS c s
+plans-by s q h = h ∙ ap (λ (x : Change). planS x s) (sym q)

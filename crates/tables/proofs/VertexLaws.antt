@@ -1,29 +1,28 @@
 -- A vertex's words set, its place in vseq changed, a vertex put in and taken out: what the tables then hold.
-use Prim.Native.Nat.{ℕ, _+_, _-_, _*_, _/_, _%_, _≤_, _<_}
+use Prim.Native.Nat.{ℕ, _+_, _-_, _*_, _≤_, _<_}
 use mathlib.Core.Path.{_≡_, refl, sym, ap, _∙_}
 use mathlib.Core.Logic.{_≢_}
-use mathlib.Core.List.{List, [], _∷_, map}
+use mathlib.Core.List.{List, [], map}
 use native.Mathlib.Omega.{arith}
 use lib.ListN.{length, getD, set, length-set}
 use lib.Seq.{getD-set-same, getD-set-other}
-use Rattle.ring.specs.declared.Lane.{Lane}
-use Rattle.ring.specs.declared.Ends.{Ends}
-use Rattle.ring.specs.Links.{Inside, Held, unlinkT, unlinkE, insertT, insertE, CanUnlink, CanInsert}
-use Rattle.lists.specs.Choice.{pick, is}
-use Rattle.lists.proofs.Picks.{pick-yes, pick-no, Same, same, differ, same?, is-yes, is-no, is-le}
-use Rattle.lists.specs.Keyed.{countBy, ins, rem, find, upd}
+use Rattle.ring.specs.Links.{Inside, unlinkT, unlinkE, insertT, insertE, CanInsert}
+use Rattle.lists.specs.Choice.{is}
+use Rattle.lists.proofs.Picks.{same, differ, same?, is-yes, is-no}
+use Rattle.lists.specs.Keyed.{countBy, ins, rem, upd}
 use Rattle.lists.proofs.KeyedLaws.{count-ins, count-rem, count-upd, find-upd, find-upd-other, find-ins, find-ins-other, find-rem-other, find-none}
-use Rattle.graph.specs.Edits.{Placed, Fits}
-use Rattle.graph.specs.Graph.{Vertex, Edge, vn, en, wd, noVertex, noEdge, vertexIn, edgeIn, listIn, thisIn}
+use Rattle.graph.specs.Edits.{Fits}
+use Rattle.graph.specs.Graph.{Vertex, Edge, vn, wd, noVertex, vertexIn, listIn}
 use Rattle.graph.specs.Changes.{withVertex}
 use Rattle.graph.specs.WellFormed.{Ordered}
-use Rattle.graph.proofs.Orders.{find-kept, key-find, find-move, count-move}
+use Rattle.graph.proofs.Orders.{find-kept, find-move, count-move}
 use Rattle.graph.proofs.Incidence.{list-ins, list-rem}
-use Rattle.tables.specs.Tables.{State, st, vlane, elane, ilane, vat, eat, wat, VIn, WIn, vends, eends, endsAt, rowVT, moveT, moveE, CanMove, setVertexS, moveVertexS, insertVertexS, CanInsertVertex, removeVertexS, CanRemoveVertex}
-use Rattle.tables.specs.Holds.{VRow, ERow, VRows, ERows, Thises, Lists, Alone, Core}
-use Rattle.tables.proofs.Keys.{keys-count, keys-upd, keys-rem, keys-ins, length-upd, length-ins, length-rem, can-rem, held-rem, can-ins, held-ins}
-use Rattle.tables.proofs.MoveLaws.{can-move, held-move, move-len, move-v, keys-move, keys-there, keys-after}
-use Rattle.tables.proofs.Frames.{fair-v, Keeps, VOrder, VData, VEnds, EOrder, EData, EThis, ELinks, keep-vseq, keep-eseq, keep-vrows, keep-erows, keep-this, keep-lists, unlink-v, unlink-len, insert-v, insert-len, set-keeps, row-v, row-e, in-lane, real}
+use Rattle.tables.specs.Tables.{State, vlane, vat, VIn, vends, rowVT, moveT, CanMove, setVertexS, moveVertexS, insertVertexS, removeVertexS, CanRemoveVertex}
+use Rattle.tables.specs.Holds.{VRows, Lists, Alone, Core}
+use Rattle.ring.proofs.Counted.{can-rem, held-rem, can-ins, held-ins}
+use Rattle.tables.proofs.Keys.{keys-count, keys-upd, keys-rem, keys-ins, length-upd, length-ins, length-rem}
+use Rattle.tables.proofs.MoveLaws.{can-move, held-move, move-v, keys-move, keys-there, keys-after}
+use Rattle.tables.proofs.Frames.{fair-v, Keeps, VOrder, VEnds, keep-vseq, keep-vrows, keep-lists, unlink-v, unlink-len, insert-v, insert-len, set-keeps, row-v, real}
 
 -- ---- the three words of a row
 

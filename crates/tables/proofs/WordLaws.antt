@@ -1,27 +1,28 @@
 -- A word taken out of a list, put into one, and seen from another vertex: what the tables then hold.
-use Prim.Native.Nat.{ℕ, _+_, _-_, _*_, _/_, _%_, _≤_, _<_}
-use mathlib.Core.Path.{_≡_, refl, sym, ap, _∙_}
+use Prim.Native.Nat.{ℕ, _+_, _-_, _/_, _%_, _≤_}
+use mathlib.Core.Path.{_≡_, refl, sym, _∙_}
 use mathlib.Core.Logic.{_≢_}
-use mathlib.Core.List.{List, [], _∷_, map}
+use mathlib.Core.List.{List, map}
 use native.Mathlib.Omega.{arith}
-use lib.ListN.{length, getD, set, length-set}
+use lib.ListN.{length, set, length-set}
 use lib.Seq.{getD-set-same, getD-set-other}
 use Rattle.ring.specs.declared.Lane.{Lane}
 use Rattle.ring.specs.declared.Ends.{Ends}
 use Rattle.ring.specs.Links.{Inside, Held, unlinkT, unlinkE, insertT, insertE}
-use Rattle.lists.specs.Choice.{pick, is}
-use Rattle.lists.proofs.Picks.{pick-yes, pick-no, Same, same, differ, same?, is-yes, is-no, is-le}
+use Rattle.lists.specs.Choice.{is}
+use Rattle.lists.proofs.Picks.{pick-yes, pick-no, same, differ, same?, is-no, is-le}
 use Rattle.lists.specs.Keyed.{countBy, ins, rem, upd}
 use Rattle.lists.proofs.KeyedLaws.{count-ins, count-rem, count-upd}
-use Rattle.graph.specs.Graph.{Vertex, Edge, vn, en, wd, noVertex, noEdge, vertexIn, edgeIn, listIn, thisIn, readingKind, decimetres}
+use Rattle.graph.specs.Graph.{Vertex, Edge, vn, en, wd, noVertex, noEdge, listIn, readingKind, decimetres}
 use Rattle.graph.specs.Changes.{onList, withEnd, detach}
 use Rattle.graph.specs.Edits.{attach}
 use Rattle.graph.proofs.Incidence.{list-upd, count-list, this-set, this-other}
 use Rattle.graph.proofs.Orders.{find-kept}
-use Rattle.tables.specs.Tables.{State, st, vlane, elane, ilane, vat, eat, wat, VIn, WIn, vends, eends, endsAt, putEnds, detachS, CanDetach, attachS, CanAttach, setThisS}
-use Rattle.tables.specs.Holds.{VRow, ERow, VRows, ERows, Thises, Lists, Alone, Core}
-use Rattle.tables.proofs.Keys.{keys-upd, length-upd, can-rem, held-rem, can-ins, held-ins, frame-rem, frame-ins}
-use Rattle.tables.proofs.Frames.{fair-i, Keeps, VOrder, VData, VEnds, EOrder, EData, EThis, ELinks, keep-vseq, keep-eseq, keep-vrows, keep-erows, keep-this, keep-lists, unlink-i, unlink-len, insert-i, insert-len, set-keeps, ends-len, ends-keep, ends-same, ends-other, row-v, row-e}
+use Rattle.tables.specs.Tables.{State, st, ilane, wat, VIn, WIn, vends, eends, endsAt, putEnds, detachS, CanDetach, attachS, CanAttach, setThisS}
+use Rattle.tables.specs.Holds.{VRows, ERows, Thises, Alone, Core}
+use Rattle.ring.proofs.Counted.{can-rem, held-rem, can-ins, held-ins, frame-rem, frame-ins}
+use Rattle.tables.proofs.Keys.{keys-upd, length-upd}
+use Rattle.tables.proofs.Frames.{fair-i, Keeps, VOrder, VData, EOrder, EData, ELinks, keep-vseq, keep-eseq, keep-vrows, keep-erows, keep-this, keep-lists, unlink-i, unlink-len, insert-i, insert-len, set-keeps, ends-len, ends-keep, ends-same, ends-other, row-v}
 
 held-by : (lane : Lane) (t : List ℕ) {e e′ : Ends} {l l′ : List ℕ} → e′ ≡ e → l′ ≡ l → Held lane t e l → Held lane t e′ l′
 held-by lane t p q h = rw (p, q) h

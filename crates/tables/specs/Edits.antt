@@ -1,7 +1,6 @@
 -- What each edit does to the tables, what it asks of them, and what room it takes.
-use Prim.Native.Nat.{ℕ, _+_, _*_, _^_, _≤_, _<_}
+use Prim.Native.Nat.{_^_, _<_}
 use lib.ListN.{length}
-use Rattle.graph.specs.declared.Reading.{Reading}
 use Rattle.graph.specs.declared.Edit.{Edit}
 use Rattle.graph.specs.declared.Edit.the-variants.{InsertVertex, RemoveVertex, InsertEdge, RemoveEdge, SetVertex, SetEdge, MoveVertex, MoveEdge, MoveWord}
 use Rattle.tables.specs.Tables.{State, vlane, elane, vends, eends, VIn, EIn, CanMove, setVertexS, moveVertexS, insertVertexS, CanInsertVertex, removeVertexS, CanRemoveVertex, setEdgeS, moveEdgeS, insertEdgeS, CanInsertEdge, removeEdgeS, CanRemoveEdge, moveWordS, CanMoveWord}

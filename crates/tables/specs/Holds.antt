@@ -1,14 +1,13 @@
 -- What it is for a head and two tables to hold a graph.
-use Prim.Native.Nat.{ℕ, _+_, _-_, _*_, _≤_, _<_}
+use Prim.Native.Nat.{ℕ, _+_, _≤_}
 use mathlib.Core.Path.{_≡_}
 use mathlib.Core.Logic.{_≢_}
-use mathlib.Core.List.{List, [], _∷_, map}
-use lib.ListN.{length, getD, set}
+use mathlib.Core.List.{List, map}
+use lib.ListN.{length, getD}
 use Rattle.ring.specs.Links.{Held}
 use Rattle.lists.specs.Keyed.{countBy}
 use Rattle.graph.specs.Graph.{Vertex, Edge, Graph, vn, en, wd, vertexIn, edgeIn, listIn, thisIn, readingKind, decimetres}
 use Rattle.graph.specs.WellFormed.{WellFormed}
-use Rattle.tables.specs.declared.Head.{Head}
 use Rattle.tables.specs.Tables.{State, vlane, elane, ilane, vat, eat, wat, vends, eends, endsAt}
 
 -- the words of a vertex, and of an edge; a number that is not in the graph has the words of none, which are 0

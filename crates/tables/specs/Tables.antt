@@ -1,16 +1,16 @@
 -- The tables: where each word of a vertex and of an edge stands, and what each step does to the words.
 use Prim.Native.Nat.{ℕ, _+_, _-_, _*_, _^_, _≤_, _<_}
 use mathlib.Core.Path.{_≡_}
-use mathlib.Core.List.{List, [], _∷_}
-use lib.ListN.{length, getD, set}
+use mathlib.Core.List.{List}
+use lib.ListN.{length, getD, set, replicate}
 use Rattle.ring.specs.declared.Lane.{Lane}
 use Rattle.ring.specs.declared.Ends.{Ends}
-use Rattle.ring.specs.Links.{prv, linkOf, unlinkT, unlinkE, insertT, insertE, CanUnlink, CanInsert}
+use Rattle.ring.specs.Links.{unlinkT, unlinkE, insertT, insertE, CanUnlink, CanInsert}
 use Rattle.graph.specs.declared.Reading.{Reading}
-use Rattle.graph.specs.declared.Reading.the-variants.{Untested, Silent, Heard}
+use Rattle.graph.specs.declared.Reading.the-variants.{Untested}
 use lib.Dec.{ltb}
 use Rattle.lists.specs.Choice.{_⇒_else_, _==_}
-use Rattle.graph.specs.Graph.{readingKind, decimetres}
+use Rattle.graph.specs.Graph.{readingKind, decimetres, readingOf}
 use Rattle.tables.specs.declared.Head.{Head}
 use Rattle.tables.specs.declared.Found.{Found}
 use Rattle.tables.specs.declared.Found.the-variants.{At, Missing}
@@ -36,6 +36,53 @@ eat f e = 12 * e - 12 + f
 -- word f of the oriented word w: 0 prev, 1 next, 2 this
 abbrev pub wat : ℕ → ℕ → ℕ
 wat f w = 6 * w - 12 + f
+
+-- the words by name
+abbrev pub vtype : List ℕ → ℕ → ℕ
+vtype vt v = getD vt (vat 1 v) 0
+
+abbrev pub vvalue : List ℕ → ℕ → ℕ
+vvalue vt v = getD vt (vat 2 v) 0
+
+abbrev pub vfirst : List ℕ → ℕ → ℕ
+vfirst vt v = getD vt (vat 3 v) 0
+
+abbrev pub vlast : List ℕ → ℕ → ℕ
+vlast vt v = getD vt (vat 4 v) 0
+
+abbrev pub vprev : List ℕ → ℕ → ℕ
+vprev vt v = getD vt (vat 6 v) 0
+
+abbrev pub vnext : List ℕ → ℕ → ℕ
+vnext vt v = getD vt (vat 7 v) 0
+
+abbrev pub etype : List ℕ → ℕ → ℕ
+etype et e = getD et (eat 4 e) 0
+
+abbrev pub ekind : List ℕ → ℕ → ℕ
+ekind et e = getD et (eat 5 e) 0
+
+abbrev pub edecimetres : List ℕ → ℕ → ℕ
+edecimetres et e = getD et (eat 9 e) 0
+
+abbrev pub eprev : List ℕ → ℕ → ℕ
+eprev et e = getD et (eat 10 e) 0
+
+abbrev pub enext : List ℕ → ℕ → ℕ
+enext et e = getD et (eat 11 e) 0
+
+abbrev pub wprev : List ℕ → ℕ → ℕ
+wprev et w = getD et (wat 0 w) 0
+
+abbrev pub wnext : List ℕ → ℕ → ℕ
+wnext et w = getD et (wat 1 w) 0
+
+abbrev pub wthis : List ℕ → ℕ → ℕ
+wthis et w = getD et (wat 2 w) 0
+
+-- the reading of edge e
+abbrev pub readingAt : List ℕ → ℕ → Reading
+readingAt et e = readingOf (ekind et e) (edecimetres et e)
 
 -- the head and the two tables
 pub record State : Type 0 where
@@ -74,6 +121,15 @@ endsAt vt v = record { first = getD vt (vat 3 v) 0; last = getD vt (vat 4 v) 0 }
 
 unfoldable pub putEnds : ℕ → Ends → List ℕ → List ℕ
 putEnds v e vt = set (set vt (vat 3 v) (e .first)) (vat 4 v) (e .last)
+
+-- ---- nothing held
+
+abbrev pub noHead : Head
+noHead = record { vfirst = 0; vlast = 0; efirst = 0; elast = 0; vertices = 0; edges = 0 }
+
+-- tables of as many words, all 0
+unfoldable pub cleared : List ℕ → List ℕ → State
+cleared vt et = st noHead (replicate (length vt) 0) (replicate (length et) 0)
 
 -- ---- the steps
 

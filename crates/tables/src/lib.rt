@@ -1,6 +1,7 @@
 // A graph in lent tables of words: 8 words a vertex, 12 an edge. Number 0 is none, and so are the words 0 and 1.
 use graph::Reading;
 
+pub mod clear; // the empty graph
 pub mod rows; // the words of one vertex and of one edge
 pub mod incidence; // words put into incidence lists, taken out and moved
 pub mod vertices; // vertices put in, taken out, set and moved
@@ -8,6 +9,7 @@ pub mod edges; // edges put in, taken out, set and moved
 pub mod edits; // the nine edits
 pub mod lookups; // is a number in the graph
 pub mod plans; // the edits that changes ask for
+pub mod questions; // answers that need more than one word
 
 // Ends of the two orders (0 is none), and how many vertices and edges there are.
 pub struct Head {

@@ -2,9 +2,120 @@
 use graph::Reading;
 use ring::Ends;
 ghost use mathlib.Core.Path.{_≡_};
-ghost use lib.ListN.{getD};
 ghost use Rattle.graph.specs.Graph.{readingKind, decimetres, readingOf};
-ghost use Rattle.tables.specs.Tables.{VIn, EIn, WIn, eat, wat, endsAt, putEnds, rowVT, rowET, thisET};
+ghost use Rattle.tables.specs.Tables.{VIn, EIn, WIn, vtype, vvalue, vfirst, vlast, vprev, vnext, etype, ekind, edecimetres, eprev, enext, wprev, wnext, wthis, readingAt, endsAt, putEnds, rowVT, rowET, thisET};
+
+// The type of vertex v.
+pub fn vertex_type(vt: &[u32], v: u32) -> u32
+    requires { ⌜ VIn (now vt) v ⌝ }
+    ensures { λ r. ⌜ r ≡ vtype (now (vt .entry)) v ⌝ }
+{
+    vt[8 * (v as usize) - 8 + 1]
+}
+
+// The value of vertex v.
+pub fn vertex_value(vt: &[u32], v: u32) -> u32
+    requires { ⌜ VIn (now vt) v ⌝ }
+    ensures { λ r. ⌜ r ≡ vvalue (now (vt .entry)) v ⌝ }
+{
+    vt[8 * (v as usize) - 8 + 2]
+}
+
+// The first word of v's incidence list.
+pub fn first_word(vt: &[u32], v: u32) -> u32
+    requires { ⌜ VIn (now vt) v ⌝ }
+    ensures { λ r. ⌜ r ≡ vfirst (now (vt .entry)) v ⌝ }
+{
+    vt[8 * (v as usize) - 8 + 3]
+}
+
+// The last word of v's incidence list.
+pub fn last_word(vt: &[u32], v: u32) -> u32
+    requires { ⌜ VIn (now vt) v ⌝ }
+    ensures { λ r. ⌜ r ≡ vlast (now (vt .entry)) v ⌝ }
+{
+    vt[8 * (v as usize) - 8 + 4]
+}
+
+// The vertex before v in Vseq.
+pub fn vertex_prev(vt: &[u32], v: u32) -> u32
+    requires { ⌜ VIn (now vt) v ⌝ }
+    ensures { λ r. ⌜ r ≡ vprev (now (vt .entry)) v ⌝ }
+{
+    vt[8 * (v as usize) - 8 + 6]
+}
+
+// The vertex after v in Vseq.
+pub fn vertex_next(vt: &[u32], v: u32) -> u32
+    requires { ⌜ VIn (now vt) v ⌝ }
+    ensures { λ r. ⌜ r ≡ vnext (now (vt .entry)) v ⌝ }
+{
+    vt[8 * (v as usize) - 8 + 7]
+}
+
+// The type of edge e.
+pub fn edge_type(et: &[u32], e: u32) -> u32
+    requires { ⌜ EIn (now et) e ⌝ }
+    ensures { λ r. ⌜ r ≡ etype (now (et .entry)) e ⌝ }
+{
+    et[12 * (e as usize) - 12 + 4]
+}
+
+// The kind of e's reading.
+pub fn reading_kind(et: &[u32], e: u32) -> u32
+    requires { ⌜ EIn (now et) e ⌝ }
+    ensures { λ r. ⌜ r ≡ ekind (now (et .entry)) e ⌝ }
+{
+    et[12 * (e as usize) - 12 + 5]
+}
+
+// The decimetres of e's reading.
+pub fn reading_decimetres(et: &[u32], e: u32) -> u32
+    requires { ⌜ EIn (now et) e ⌝ }
+    ensures { λ r. ⌜ r ≡ edecimetres (now (et .entry)) e ⌝ }
+{
+    et[12 * (e as usize) - 12 + 9]
+}
+
+// The edge before e in Eseq.
+pub fn edge_prev(et: &[u32], e: u32) -> u32
+    requires { ⌜ EIn (now et) e ⌝ }
+    ensures { λ r. ⌜ r ≡ eprev (now (et .entry)) e ⌝ }
+{
+    et[12 * (e as usize) - 12 + 10]
+}
+
+// The edge after e in Eseq.
+pub fn edge_next(et: &[u32], e: u32) -> u32
+    requires { ⌜ EIn (now et) e ⌝ }
+    ensures { λ r. ⌜ r ≡ enext (now (et .entry)) e ⌝ }
+{
+    et[12 * (e as usize) - 12 + 11]
+}
+
+// The word before w in its list.
+pub fn word_prev(et: &[u32], w: u32) -> u32
+    requires { ⌜ WIn (now et) w ⌝ }
+    ensures { λ r. ⌜ r ≡ wprev (now (et .entry)) w ⌝ }
+{
+    et[6 * (w as usize) - 12 + 0]
+}
+
+// The word after w in its list.
+pub fn word_next(et: &[u32], w: u32) -> u32
+    requires { ⌜ WIn (now et) w ⌝ }
+    ensures { λ r. ⌜ r ≡ wnext (now (et .entry)) w ⌝ }
+{
+    et[6 * (w as usize) - 12 + 1]
+}
+
+// The vertex that word w is seen from.
+pub fn this(et: &[u32], w: u32) -> u32
+    requires { ⌜ WIn (now et) w ⌝ }
+    ensures { λ r. ⌜ r ≡ wthis (now (et .entry)) w ⌝ }
+{
+    et[6 * (w as usize) - 12 + 2]
+}
 
 // The ends of v's incidence list.
 pub fn ends_of(vt: &[u32], v: u32) -> Ends
@@ -73,11 +184,10 @@ pub fn reading_of(k: u32, d: u32) -> Reading
 // The reading of edge e.
 pub fn reading_at(et: &[u32], e: u32) -> Reading
     requires { ⌜ EIn (now et) e ⌝ }
-    ensures { λ r. ⌜ r ≡ readingOf (getD (now (et .entry)) (eat 5 e) 0) (getD (now (et .entry)) (eat 9 e) 0) ⌝ }
+    ensures { λ r. ⌜ r ≡ readingAt (now (et .entry)) e ⌝ }
 {
-    let at = 12 * (e as usize) - 12;
-    let k = et[at + 5];
-    let d = et[at + 9];
+    let k = reading_kind(et, e);
+    let d = reading_decimetres(et, e);
     reading_of(k, d)
 }
 
@@ -93,14 +203,6 @@ pub fn put_edge(et: &mut [u32], e: u32, live: u32, sort: u32, r: Reading)
     et[at + 4] = sort;
     et[at + 5] = k;
     et[at + 9] = d;
-}
-
-// The vertex that word w is seen from.
-pub fn this(et: &[u32], w: u32) -> u32
-    requires { ⌜ WIn (now et) w ⌝ }
-    ensures { λ r. ⌜ r ≡ getD (now (et .entry)) (wat 2 w) 0 ⌝ }
-{
-    et[6 * (w as usize) - 12 + 2]
 }
 
 // Writes e's two ends.

@@ -17,7 +17,7 @@ rowFits n row = ltb row (2 ^ n)
 unfoldable pub goodRows : List ℕ → Bool
 goodRows rows = within 1 64 (length rows) && all (rowFits (length rows)) rows
 
--- "104: no row, over 64, bit n or above"; 0 where the rows are taken
+-- 104: "no row, over 64, bit n or above"; 0 where the rows are taken
 abbrev pub rowsCode : List ℕ → ℕ
 rowsCode rows = goodRows rows ⇒ 0 else 104
 

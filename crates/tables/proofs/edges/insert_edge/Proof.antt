@@ -1,4 +1,4 @@
-use Rattle.tables.specs.Tables.{insertEdgeS, placeEdgeS, attachS, detachS, dropEdgeS}
+use Rattle.tables.specs.Tables.{insertEdgeS, placeEdgeS, attachS}
 use Rattle.tables.proofs.Steps.{two, attach-by, three}
 use Prim.Native.Nat.{_*_, _+_}
 use borrow.Author.Needs.{needs}

@@ -1,4 +1,4 @@
-use Rattle.tables.specs.Tables.{removeEdgeS, placeEdgeS, attachS, detachS, dropEdgeS}
+use Rattle.tables.specs.Tables.{removeEdgeS, detachS, dropEdgeS}
 use Prim.Native.Nat.{_*_, _+_}
 use Rattle.tables.proofs.Steps.{detach-by, drop-by, two, three}
 use borrow.Author.Needs.{needs}

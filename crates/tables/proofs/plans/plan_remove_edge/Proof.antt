@@ -1,15 +1,15 @@
 use Rattle.tables.proofs.Steps.{removal-by}
-use Rattle.tables.specs.Plans.{planRemoveEdge}
 use borrow.Author.Needs.{needs}
 use Rattle.tables.proofs.plans.plan_remove_edge.Statement.{statement}
 use Rattle.tables.proofs.plans.plan_remove_edge.Tie as tie
 use Rattle.tables.proofs.plans.plan_remove_edge.Reads as reads
 use Rattle.tables.proofs.plans.plan_remove_edge.Lts as lts
-use Rattle.ring.proofs.prev.Reads as prev-reads
 use Rattle.tables.proofs.plans.choose.Reads as choose-reads
-use Rattle.tables.proofs.plans.word_before.Reads as word-before-reads
+use Rattle.tables.proofs.rows.edge_prev.Reads as edge-prev-reads
+use Rattle.tables.proofs.rows.edge_type.Reads as edge-type-reads
 use Rattle.tables.proofs.rows.reading_at.Reads as reading-at-reads
 use Rattle.tables.proofs.rows.this.Reads as this-reads
+use Rattle.tables.proofs.rows.word_prev.Reads as word-prev-reads
 
 mul-this : tie.Need-mul-this
 mul-this c = search needs
@@ -26,41 +26,29 @@ add-this c = search needs
 this-requires-2 : tie.Need-this-requires-2
 this-requires-2 c κs = search needs
 
-mul-t : tie.Need-mul-t
-mul-t c = search needs
-
-sub-t : tie.Need-sub-t
-sub-t c = search needs
-
-add-t : tie.Need-add-t
-add-t c = search needs
-
-mul-t-2 : tie.Need-mul-t-2
-mul-t-2 c = search needs
-
-shared-slice-read-t : tie.Need-shared-slice-read-t
-shared-slice-read-t c = search needs
+edge-type-requires : tie.Need-edge-type-requires
+edge-type-requires c κs = search needs
 
 reading-at-requires : tie.Need-reading-at-requires
 reading-at-requires c κs = search needs
 
-prev-requires : tie.Need-prev-requires
-prev-requires c κs = search needs
+edge-prev-requires : tie.Need-edge-prev-requires
+edge-prev-requires c κs = search needs
 
-mul-word-before : tie.Need-mul-word-before
-mul-word-before c = search needs
+mul-word-prev : tie.Need-mul-word-prev
+mul-word-prev c = search needs
 
-add-word-before : tie.Need-add-word-before
-add-word-before c = search needs
+word-prev-requires : tie.Need-word-prev-requires
+word-prev-requires c κs = search needs
 
-word-before-requires : tie.Need-word-before-requires
-word-before-requires c κs = search needs
+mul-word-prev-2 : tie.Need-mul-word-prev-2
+mul-word-prev-2 c = search needs
 
-mul-word-before-2 : tie.Need-mul-word-before-2
-mul-word-before-2 c = search needs
+add-word-prev : tie.Need-add-word-prev
+add-word-prev c = search needs
 
-word-before-requires-2 : tie.Need-word-before-requires-2
-word-before-requires-2 c κs = search needs
+word-prev-requires-2 : tie.Need-word-prev-requires-2
+word-prev-requires-2 c κs = search needs
 
 mul-choose : tie.Need-mul-choose
 mul-choose c = search needs
@@ -72,11 +60,10 @@ choose-requires : tie.Need-choose-requires
 choose-requires c κs = search needs
 
 returns : tie.Need-returns
-unfolding planRemoveEdge
 returns c =
     removal-by _ (c .before .before .before .before .before .before .before .this .ensures) (c .before .before .before .before .before .before .this2 .ensures)
-    (c .before .before .before .before .reading-at .ensures) (c .before .before .before .prev .ensures) (c .before .before .word-before .ensures)
-    (c .before .word-before2 .ensures) (c .choose .ensures)
+    (c .before .before .before .before .before .edge-type .ensures) (c .before .before .before .before .reading-at .ensures)
+    (c .before .before .before .edge-prev .ensures) (c .before .word-prev2 .ensures) (c .before .before .word-prev .ensures) (c .choose .ensures)
 
 pub plan-remove-edge-spec : {M : Type 1} → statement M
 plan-remove-edge-spec =
@@ -87,18 +74,14 @@ plan-remove-edge-spec =
     mul-this-2
     add-this
     this-requires-2
-    mul-t
-    sub-t
-    add-t
-    mul-t-2
-    shared-slice-read-t
+    edge-type-requires
     reading-at-requires
-    prev-requires
-    mul-word-before
-    add-word-before
-    word-before-requires
-    mul-word-before-2
-    word-before-requires-2
+    edge-prev-requires
+    mul-word-prev
+    word-prev-requires
+    mul-word-prev-2
+    add-word-prev
+    word-prev-requires-2
     mul-choose
     add-choose
     choose-requires

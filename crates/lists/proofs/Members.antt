@@ -1,0 +1,82 @@
+-- The elements of lists of numbers: by count, and those that a list operation picks.
+use Prim.Native.Nat.{ℕ, suc, _+_, _≤_}
+use mathlib.Core.Path.{_≡_, refl, subst}
+use mathlib.Core.Logic.{_⊎_, inl, inr}
+use mathlib.Core.Bool.{Bool, true, false}
+use mathlib.Core.List.{List, [], _∷_, map}
+use native.Mathlib.Omega.{arith}
+use lib.ListN.{length}
+use borrow.Author.Tests.{eqb-true, eq-eqb}
+use Rattle.lists.specs.Choice.{_⇒_else_, _==_, bit}
+use Rattle.lists.specs.Lists.{keep, has, count, first, behind, after, firstsFrom, firsts, All, done, more}
+use Rattle.lists.proofs.Sums.{count-has}
+
+module _ {P : ℕ → Type 0} where
+  -- what holds of each number that stands in a list holds of every element, and the other way round
+  pub all-counted : (xs : List ℕ) → ((n : ℕ) → 1 ≤ count n xs → P n) → All P xs
+  all-counted [] h = done
+  all-counted (x ∷ xs) h =
+      let one : bit (x == x) ≡ 1 = rw (eq-eqb x x refl) in
+      more (h x (omega arith)) (all-counted xs (λ n c. h n (omega arith)))
+
+  pub counted-all : {xs : List ℕ} → All P xs → (n : ℕ) → 1 ≤ count n xs → P n
+  counted-all done n c = absurd (omega arith)
+  counted-all (more {x = x} {xs = xs} p a) n c = go (λ i. counted-all a n i) (x == n) refl c
+    where
+      go : (1 ≤ count n xs → P n) → (t : Bool) → (x == n) ≡ t → 1 ≤ bit t + count n xs → P n
+      go ih true e c = subst P (eqb-true x n e) p
+      go ih false e c = ih (omega arith)
+
+  -- ---- the first, the one after a, and each number once
+
+  pub all-first : P 0 → {xs : List ℕ} → All P xs → P (first xs)
+  all-first z done = z
+  all-first z (more p a) = p
+
+  all-behind : (a : ℕ) {xs : List ℕ} → All P xs → All P (behind a xs)
+  all-behind a done = done
+  all-behind a (more {x = x} {xs = xs} p s) = go (all-behind a s) (x == a)
+    where
+      go : All P (behind a xs) → (t : Bool) → All P (t ⇒ xs else behind a xs)
+      go ih true = s
+      go ih false = ih
+
+  pub all-after : P 0 → (a : ℕ) {xs : List ℕ} → All P xs → P (after a xs)
+  all-after z a s = all-first z (all-behind a s)
+
+  all-from : (seen : List ℕ) {xs : List ℕ} → All P xs → All P (firstsFrom seen xs)
+  all-from seen done = done
+  all-from seen (more {x = x} {xs = xs} p s) = go (all-from seen s) (all-from (x ∷ seen) s) (has x seen)
+    where
+      go : All P (firstsFrom seen xs) → All P (firstsFrom (x ∷ seen) xs) → (t : Bool) → All P (t ⇒ firstsFrom seen xs else (x ∷ firstsFrom (x ∷ seen) xs))
+      go i j true = i
+      go i j false = more p j
+
+  pub all-firsts : {xs : List ℕ} → All P xs → All P (firsts xs)
+  all-firsts s = all-from [] s
+
+  -- f of every element
+  pub all-keys : {A : Type 0} (f : A → ℕ) → {xs : List A} → All (λ (x : A). P (f x)) xs → All P (map f xs)
+  all-keys f done = done
+  all-keys f (more p s) = more p (all-keys f s)
+
+-- "0 means none": the first and the one after a are 0 or stand in the list
+abbrev pub NoneOrIn : List ℕ → ℕ → Type 0
+NoneOrIn xs n = (n ≡ 0) ⊎ (has n xs ≡ true)
+
+all-in : (xs : List ℕ) → All (NoneOrIn xs) xs
+all-in xs = all-counted xs (λ n c. inr (count-has n xs c))
+
+pub first-there : (xs : List ℕ) → NoneOrIn xs (first xs)
+first-there xs = all-first (inl refl) (all-in xs)
+
+pub after-there : (a : ℕ) (xs : List ℕ) → NoneOrIn xs (after a xs)
+after-there a xs = all-after (inl refl) a (all-in xs)
+
+pub keep-length : {A : Type 0} (p : A → Bool) (xs : List A) → length (keep p xs) ≤ length xs
+keep-length p [] = omega arith
+keep-length p (x ∷ xs) = go (keep-length p xs) (p x)
+  where
+    go : length (keep p xs) ≤ length xs → (t : Bool) → length (t ⇒ (x ∷ keep p xs) else keep p xs) ≤ suc (length xs)
+    go ih true = omega arith
+    go ih false = omega arith

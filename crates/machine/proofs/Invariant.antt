@@ -1,0 +1,119 @@
+-- What holds of every machine that calls reach from a fresh one, and how far its places and counts go.
+use Prim.Native.Nat.{ℕ, zero, suc, _≤_}
+use mathlib.Core.Path.{_≡_, refl}
+use mathlib.Core.Bool.{Bool, true, false}
+use mathlib.Core.List.{List, [], _∷_, _++_}
+use native.Mathlib.Omega.{arith}
+use lib.ListN.{length, take}
+use Rattle.lists.specs.Choice.{_==_}
+use Rattle.lists.specs.Lists.{All, done, more, upto}
+use Rattle.lists.proofs.Members.{keep-length}
+use Rattle.graph.specs.Graph.{Graph}
+use Rattle.history.specs.Machine.{Step, Machine, Standing, gone, at, stands, placeOr, costs, distance, standing, fresh, present}
+use Rattle.machine.specs.Calls.{Call, World, changeOf}
+use Rattle.machine.specs.Codes.{free, refusal}
+use Rattle.machine.specs.Machine.{Sort, changes, sets, drops, undoes, redoes, goes, commits, asks, sortOf, stepBy, nextBy, step, last}
+use Rattle.machine.proofs.Allowed.{Words}
+use Rattle.machine.proofs.GraphBounds.{cost-real}
+use Rattle.machine.proofs.Graphs.{Formed, AllFormed, step-formed, fresh-formed}
+use Rattle.machine.proofs.MarkLaws.{Sane, fresh-sane, sane-step}
+use Rattle.machine.proofs.Paid.{Paid, paid-fresh, paid-step}
+use Rattle.machine.proofs.Sorts.{accepted-step, refused-step}
+
+-- ---- each step costs at least 1
+
+abbrev pub Costed : List Step → Type 0
+Costed ss = All (λ (s : Step). 1 ≤ s .cost) ss
+
+costed-cut : (p : ℕ) {ss : List Step} (s : Step) → Costed ss → 1 ≤ s .cost → Costed (take p ss ++ (s ∷ []))
+costed-cut zero s a h = more h done
+costed-cut (suc p) s done h = more h done
+costed-cut (suc p) s (more q a) h = more q (costed-cut p s a h)
+
+costed-next : (s : Sort) (m : Machine) (x : Call) → Costed (m .line .steps) → Costed (nextBy s m x .line .steps)
+unfolding nextBy stepBy
+costed-next changes m x a = costed-cut (m .line .place) (stepBy m x) a (cost-real (changeOf x) (present m))
+costed-next sets m x a = a
+costed-next drops m x a = a
+costed-next undoes m x a = a
+costed-next redoes m x a = a
+costed-next goes m x a = a
+costed-next commits m x a = done
+costed-next asks m x a = a
+
+costed-step : (w : World) (m : Machine) (x : Call) → Costed (m .line .steps) → Costed (step w m x .line .steps)
+costed-step w m x a = go (refusal w m x == 0) refl
+  where
+    go : (t : Bool) → (refusal w m x == 0) ≡ t → Costed (step w m x .line .steps)
+    go true e = rw (accepted-step w m x e) (costed-next (sortOf (present m) x) m x a)
+    go false e = rw (refused-step w m x e) a
+
+costed-length : {ss : List Step} → Costed ss → length ss ≤ costs ss
+costed-length done = omega arith
+costed-length (more h a) = omega (arith, costed-length a)
+
+-- ---- the invariant
+
+pub record Invariant (w : World) (m : Machine) : Type 0 where
+  -- G0 to Gm are well formed
+  pub formed : AllFormed w m
+  -- p and the places of the marks are at most m
+  pub places : Sane m
+  -- steps 1 to m cost at most the capacity
+  pub paid : Paid w m
+  pub costed : Costed (m .line .steps)
+
+pub fresh-invariant : (w : World) (g : Graph) → Formed w g → Invariant w (fresh g)
+fresh-invariant w g h = record { formed = fresh-formed w g h; places = fresh-sane g; paid = paid-fresh w g; costed = done }
+
+pub step-invariant : (w : World) (m : Machine) (x : Call) → Words x → Invariant w m → Invariant w (step w m x)
+step-invariant w m x f i = record {
+  formed = step-formed w m x f (i .formed);
+  places = sane-step w m x (i .places);
+  paid = paid-step w m x (i .paid);
+  costed = costed-step w m x (i .costed);
+}
+
+pub last-invariant : (w : World) (m : Machine) (xs : List Call) → All Words xs → Invariant w m → Invariant w (last w m xs)
+unfolding last
+last-invariant w m [] done i = i
+last-invariant w m (x ∷ xs) (more f fs) i = last-invariant w (step w m x) xs fs (step-invariant w m x f i)
+
+-- ---- steps, places and distances are at most the capacity of changes
+
+module _ (w : World) (m : Machine) (i : Invariant w m) where
+  pub steps-le : length (m .line .steps) ≤ w .changes
+  unfolding Paid
+  steps-le = omega (arith, costed-length (i .costed), i .paid)
+
+  pub place-le : m .line .place ≤ w .changes
+  place-le = omega (arith, i .places .place-in, steps-le)
+
+  pub mark-le : (k q : ℕ) → m .marks k ≡ at q → q ≤ w .changes
+  mark-le k q e = omega (arith, i .places .marks-in k q e, steps-le)
+
+  -- the place of mark k, or the other where it does not stand
+  pub mark-place-le : (other k : ℕ) → other ≤ w .changes → placeOr other (m .marks k) ≤ w .changes
+  mark-place-le other k h = go (m .marks k) refl
+    where
+      go : (s : Standing) → m .marks k ≡ s → placeOr other s ≤ w .changes
+      go gone e = h
+      go (at q) e = mark-le k q e
+
+  -- kind 21: the steps moved
+  pub moved-le : (k : ℕ) → distance (m .line .place) (placeOr (m .line .place) (m .marks k)) ≤ w .changes
+  moved-le k = omega (arith, place-le, mark-place-le (m .line .place) k place-le)
+
+  -- kind 49: the steps between two marks
+  pub between-le : (j k : ℕ) → distance (placeOr 0 (m .marks j)) (placeOr 0 (m .marks k)) ≤ w .changes
+  between-le j k = omega (arith, mark-place-le 0 j (omega arith), mark-place-le 0 k (omega arith))
+
+-- kind 51
+pub free-le : (w : World) (m : Machine) → free w m ≤ w .changes
+unfolding free
+free-le w m = omega arith
+
+-- kind 50
+pub standing-le : (ms : ℕ → Standing) → standing ms ≤ 64
+unfolding standing
+standing-le ms = keep-length (λ n. stands (ms (suc n))) (upto 64)

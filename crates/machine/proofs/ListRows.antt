@@ -1,0 +1,79 @@
+-- What a list that is not refused has passed: none of 101 to 106 applies.
+use Prim.Native.Nat.{_*_, _/_, _%_, _≤_}
+use mathlib.Core.Path.{_≡_}
+use mathlib.Core.Bool.{true, not, _&&_}
+use lib.Dec.{ltb}
+use lib.ListN.{length}
+use borrow.Author.Tests.{eqb-true, eq-eqb, not-false, ltb-false}
+use Rattle.lists.specs.Choice.{_==_, within}
+use Rattle.lists.specs.Lists.{all}
+use Rattle.lists.proofs.Bools.{and-true}
+use Rattle.types.specs.Rows.{rowFits, goodRows}
+use Rattle.image.specs.Image.{load, loadable}
+use Rattle.image.proofs.Loads.{loaded}
+use Rattle.image.proofs.WordSize.{InRange}
+use Rattle.machine.specs.Calls.{World, boundsIn}
+use Rattle.machine.specs.Run.{Lent, worldOf, imageRoom, listRefusal}
+use Rattle.machine.proofs.Allowed.{in-range}
+use Rattle.machine.proofs.CodeRows.{chain-zero}
+use Rattle.machine.proofs.Graphs.{Formed}
+
+-- "1 to 1,000 vertices, 1 to 4,000 edges, 1 to 20,000 changes", and 1 to 64 types
+pub record Limits (w : World) : Type 0 where
+  pub some-vertices : 1 ≤ w .vertices
+  pub few-vertices : w .vertices ≤ 1000
+  pub some-edges : 1 ≤ w .edges
+  pub few-edges : w .edges ≤ 4000
+  pub some-changes : 1 ≤ w .changes
+  pub few-changes : w .changes ≤ 20000
+  pub some-types : 1 ≤ length (w .rows)
+  pub few-types : length (w .rows) ≤ 64
+
+pub limits-in : (w : World) → Limits w → InRange (boundsIn w)
+limits-in w k = record { vertices = k .few-vertices; edges = k .few-edges; types = k .few-types }
+
+pub record Passed (l : Lent) : Type 0 where
+  pub calls-whole : length (l .calls) % 5 ≡ 0
+  pub answers-room : 2 * (length (l .calls) / 5) ≤ length (l .answers)
+  pub limits : Limits (worldOf l)
+  pub rows-good : goodRows (l .rows) ≡ true
+  pub start-loads : loadable (boundsIn (worldOf l)) (l .start) ≡ true
+  pub end-room : imageRoom (worldOf l) ≤ length (l .end)
+
+pub passed : (l : Lent) → listRefusal l ≡ 0 → Passed l
+unfolding listRefusal goodRows
+passed l e =
+    let w = worldOf l in
+    let r1 = chain-zero (not (length (l .calls) % 5 == 0)) 100 _ (eq-eqb _ 0 e) in
+    let r2 = chain-zero (ltb (length (l .answers)) (2 * (length (l .calls) / 5))) 101 _ (r1 .1) in
+    let r3 = chain-zero (not (within 1 1000 (w .vertices) && within 1 4000 (w .edges) && within 1 20000 (w .changes))) 102 _ (r2 .1) in
+    let r4 = chain-zero (not (goodRows (l .rows))) 103 _ (r3 .1) in
+    let r5 = chain-zero (not (loadable (boundsIn w) (l .start))) 104 _ (r4 .1) in
+    let r6 = chain-zero (ltb (length (l .end)) (imageRoom w)) 105 _ (r5 .1) in
+    let a = and-true (within 1 1000 (w .vertices) && within 1 4000 (w .edges)) (within 1 20000 (w .changes)) (not-false _ (r3 .0)) in
+    let b = and-true (within 1 1000 (w .vertices)) (within 1 4000 (w .edges)) (a .0) in
+    let c = and-true (within 1 64 (length (l .rows))) (all (rowFits (length (l .rows))) (l .rows)) (not-false _ (r4 .0)) in
+    let v = in-range 1 1000 (w .vertices) (b .0) in
+    let n = in-range 1 4000 (w .edges) (b .1) in
+    let k = in-range 1 20000 (w .changes) (a .1) in
+    let t = in-range 1 64 (length (l .rows)) (c .0) in
+    record {
+      calls-whole = eqb-true (length (l .calls) % 5) 0 (not-false _ (r1 .0));
+      answers-room = ltb-false _ _ (r2 .0);
+      limits = record {
+        some-vertices = v .0;
+        few-vertices = v .1;
+        some-edges = n .0;
+        few-edges = n .1;
+        some-changes = k .0;
+        few-changes = k .1;
+        some-types = t .0;
+        few-types = t .1;
+      };
+      rows-good = not-false _ (r4 .0);
+      start-loads = not-false _ (r5 .0);
+      end-room = ltb-false _ _ (r6 .0);
+    }
+
+pub start-formed : (l : Lent) → listRefusal l ≡ 0 → Formed (worldOf l) (load (l .start))
+start-formed l e = loaded (boundsIn (worldOf l)) (l .start) (passed l e .start-loads) .formed

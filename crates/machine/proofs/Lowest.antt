@@ -1,0 +1,90 @@
+-- The code given is that of the lowest row that applies; 10 is given for want of room.
+use Prim.Native.Nat.{ℕ, suc, _≤_, _<_}
+use mathlib.Core.Path.{_≡_, refl, sym, ap, _∙_}
+use mathlib.Core.Logic.{_↔_}
+use mathlib.Core.Bool.{Bool, true, false, _&&_}
+use mathlib.Core.List.{List, [], _∷_, map}
+use native.Mathlib.Omega.{arith}
+use lib.Dec.{leb, ltb}
+use lib.ListN.{length}
+use borrow.Author.Tests.{leb-true, ltb-true, lt-ltb}
+use Rattle.lists.specs.Choice.{_⇒_else_}
+use Rattle.lists.specs.Lists.{All, done, more, upto}
+use Rattle.lists.proofs.Bools.{ft}
+use Rattle.lists.proofs.Sums.{all-bool}
+use Rattle.graph.specs.Changes.{cost}
+use Rattle.history.specs.Machine.{Machine, present}
+use Rattle.machine.specs.Calls.{Call, World, isChange, changeOf}
+use Rattle.machine.specs.Codes.{free, noRoom, Row, lowest, codeTable, refusal, Lowest, found, later, NoneApplies, none, passed}
+use Rattle.machine.specs.Run.{Lent, listTable, listRefusal}
+
+-- the codes of the tables, in their order
+pub codes : (w : World) (m : Machine) (x : Call) → map (λ (r : Row). r .code) (codeTable w m x) ≡ map suc (upto 16)
+unfolding codeTable
+codes w m x = refl
+
+pub list-codes : (l : Lent) → map (λ (r : Row). r .code) (listTable l) ≡ 101 ∷ 102 ∷ 103 ∷ 104 ∷ 105 ∷ 106 ∷ []
+unfolding listTable
+list-codes l = refl
+
+abbrev Coded : List Row → Type 0
+Coded rs = All (λ (r : Row). 1 ≤ r .code) rs
+
+-- ---- any table of codes from 1 on
+
+module _ (k : ℕ) where
+  lowest-to : (rs : List Row) → lowest rs ≡ suc k → Lowest (suc k) rs
+  lowest-to [] e = absurd (omega arith)
+  lowest-to (r ∷ rs) e = go (λ i. lowest-to rs i) (r .applies) refl e
+    where
+      go : (lowest rs ≡ suc k → Lowest (suc k) rs) → (t : Bool) → r .applies ≡ t → (t ⇒ r .code else lowest rs) ≡ suc k → Lowest (suc k) (r ∷ rs)
+      go ih true f i = found f i
+      go ih false f i = later f (ih i)
+
+  lowest-from : {rs : List Row} → Lowest (suc k) rs → lowest rs ≡ suc k
+  lowest-from (found f e) = rw f e
+  lowest-from (later f h) = rw f (lowest-from h)
+
+none-to : (rs : List Row) → Coded rs → lowest rs ≡ 0 → NoneApplies rs
+none-to [] done e = none
+none-to (r ∷ rs) (more c cs) e = go (λ i. none-to rs cs i) (r .applies) refl e
+  where
+    go : (lowest rs ≡ 0 → NoneApplies rs) → (t : Bool) → r .applies ≡ t → (t ⇒ r .code else lowest rs) ≡ 0 → NoneApplies (r ∷ rs)
+    go ih true f i = absurd (omega arith)
+    go ih false f i = passed f (ih i)
+
+none-from : {rs : List Row} → NoneApplies rs → lowest rs ≡ 0
+none-from none = refl
+none-from (passed f h) = rw f (none-from h)
+
+-- ---- the table of a call
+
+module _ (w : World) (m : Machine) (x : Call) where
+  coded : Coded (codeTable w m x)
+  unfolding codeTable
+  coded = all-bool (λ (r : Row). leb 1 (r .code)) (λ r e. leb-true 1 (r .code) e) (codeTable w m x) refl
+
+  -- a code is given exactly where its row applies and no row before it does
+  pub code-given : (k : ℕ) → (refusal w m x ≡ suc k) ↔ Lowest (suc k) (codeTable w m x)
+  unfolding refusal
+  code-given k = (lowest-to k (codeTable w m x), lowest-from k)
+
+  -- a call is accepted exactly where no row applies
+  pub none-given : (refusal w m x ≡ 0) ↔ NoneApplies (codeTable w m x)
+  unfolding refusal
+  none-given = (none-to (codeTable w m x) coded, none-from)
+
+  -- what row 10 says
+  pub no-room : (noRoom w m x ≡ true) ↔ ((isChange (x .kind) ≡ true) × (free w m < cost (changeOf x) (present m)))
+  unfolding noRoom
+  no-room = (λ e. go (isChange (x .kind)) refl e, λ h. rw (h .0) (lt-ltb _ _ (h .1)))
+    where
+      go : (t : Bool) → isChange (x .kind) ≡ t → (t && ltb (free w m) (cost (changeOf x) (present m))) ≡ true → (isChange (x .kind) ≡ true) × (free w m < cost (changeOf x) (present m))
+      go true f e = (f, ltb-true _ _ e)
+      go false f e = ft e
+
+-- ---- the table of a list
+
+pub list-code-given : (l : Lent) (k : ℕ) → (listRefusal l ≡ suc k) ↔ Lowest (suc k) (listTable l)
+unfolding listRefusal
+list-code-given l k = (lowest-to k (listTable l), lowest-from k)

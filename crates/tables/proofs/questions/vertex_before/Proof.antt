@@ -1,0 +1,19 @@
+use Rattle.tables.proofs.ListWalks.{before-read}
+use Rattle.tables.proofs.Frames.{fair-v}
+use Rattle.tables.specs.Tables.{vlane}
+use mathlib.Core.Path.{refl}
+use borrow.Author.Needs.{needs}
+use Rattle.tables.proofs.questions.vertex_before.Statement.{statement}
+use Rattle.tables.proofs.questions.vertex_before.Tie as tie
+use Rattle.tables.proofs.questions.vertex_before.Reads as reads
+use Rattle.tables.proofs.questions.vertex_before.Lts as lts
+use Rattle.ring.proofs.before.Reads as before-reads
+
+before-requires : tie.Need-before-requires
+before-requires c κs = search needs
+
+returns : tie.Need-returns
+returns c = let s = c .before .before in before-read vlane (s .args .vt .now) fair-v (s .args .a) (s .args .b) refl (s .pre) (c .before2 .ensures)
+
+pub vertex-before-spec : {M : Type 1} → statement M
+vertex-before-spec = tie.close (tie.spec before-requires returns)
