@@ -4,6 +4,7 @@ use mathlib.Core.Path.{_≡_, refl, sym, ap, _∙_}
 use mathlib.Core.Bool.{Bool, true, false, not, _||_}
 use mathlib.Core.List.{List}
 use native.Mathlib.Omega.{arith}
+use lib.Dec.{leb, ltb}
 use lib.ListN.{length}
 use borrow.Author.Tests.{eq-eqb, ne-eqb}
 use Rattle.lists.specs.Choice.{_⇒_else_, _==_}
@@ -132,3 +133,35 @@ module _ (et : List ℕ) (g : Graph) (h : HoldsE et g) where
 
     pub w-that : bySide w (wthis et (w + 1)) (wthis et (w - 1)) ≡ that g w
     w-that = word-that stateE g (h .1 .1) w hereW
+
+-- ---- two names
+
+both : (s t : Bool) (k : ℕ) → 1 ≤ k → ((s || t) ⇒ k else 0) ≡ 0 → (s ≡ false) × (t ≡ false)
+both true t k p e = absurd (omega arith)
+both false true k p e = absurd (omega arith)
+both false false k p e = (refl, refl)
+
+found : (t : Bool) → not t ≡ false → t ≡ true
+found true e = refl
+found false e = sym e
+
+module _ (g : Graph) (w : WellFormed g) where
+  pub vertices-there : (a b c : ℕ) → c ≡ ((lacksVertex g a || lacksVertex g b) ⇒ 4 else 0) → c ≡ 0 → VertexThere g a
+  vertices-there a b c e z = vertex-once g a w (found (hasVertex g a) (both (lacksVertex g a) (lacksVertex g b) 4 (omega arith) (sym e ∙ z) .0))
+
+  pub edges-there : (a b c : ℕ) → c ≡ ((lacksEdge g a || lacksEdge g b) ⇒ 5 else 0) → c ≡ 0 → EdgeThere g a
+  edges-there a b c e z = edge-once g a w (found (hasEdge g a) (both (lacksEdge g a) (lacksEdge g b) 5 (omega arith) (sym e ∙ z) .0))
+
+  pub words-there : (a b c : ℕ) → c ≡ ((lacksEdge g (edgeOf a) || lacksEdge g (edgeOf b)) ⇒ 5 else not (this g a == this g b) ⇒ 8 else 0) → c ≡ 0 → EdgeThere g (edgeOf a)
+  words-there a b c e z = go (lacksEdge g (edgeOf a)) refl (sym e ∙ z)
+    where
+      go : (s : Bool) → lacksEdge g (edgeOf a) ≡ s → _≡_ {A = ℕ} ((s || lacksEdge g (edgeOf b)) ⇒ 5 else not (this g a == this g b) ⇒ 8 else 0) 0 → EdgeThere g (edgeOf a)
+      go true i j = absurd (omega arith)
+      go false i j = edge-once g (edgeOf a) w (found (hasEdge g (edgeOf a)) i)
+
+  pub degree-there : (n a t k c : ℕ) → c ≡ (lacksVertex g a ⇒ 4 else leb n t ⇒ 6 else ltb 2 k ⇒ 15 else 0) → c ≡ 0 → VertexThere g a
+  degree-there n a t k c e z = go (hasVertex g a) refl (sym e ∙ z)
+    where
+      go : (s : Bool) → hasVertex g a ≡ s → _≡_ {A = ℕ} (not s ⇒ 4 else leb n t ⇒ 6 else ltb 2 k ⇒ 15 else 0) 0 → VertexThere g a
+      go true i j = vertex-once g a w i
+      go false i j = absurd (omega arith)

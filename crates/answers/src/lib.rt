@@ -22,10 +22,20 @@ use tables::rows::vertex_next;
 use tables::rows::vertex_type;
 use tables::rows::vertex_value;
 use tables::rows::word_next;
+use types::is_below;
 ghost use mathlib.Core.Path.{_≡_};
 ghost use mathlib.Core.List.{List};
 ghost use Prim.Native.Nat.{ℕ};
 ghost use Rattle.graph.specs.Graph.{Graph};
+ghost use mathlib.Core.Bool.{true};
+ghost use Rattle.lists.specs.Choice.{bit};
+ghost use Rattle.types.specs.Rows.{goodRows};
+ghost use Rattle.types.specs.Closure.{closureWords};
+ghost use Rattle.graph.specs.WellFormed.{Bounds};
+ghost use Rattle.tables.specs.Capacities.{Sized};
+ghost use Rattle.tables.specs.declared.Head.{Head};
+ghost use Rattle.tables.specs.Tables.{st};
+ghost use Rattle.tables.specs.Holds.{Holds};
 ghost use Rattle.checks.specs.Held.{HoldsV, HoldsE};
 ghost use Rattle.commands.specs.declared.Question.the-variants as ask;
 ghost use Rattle.commands.specs.Meaning.{questionCode, questionNumber};
@@ -205,5 +215,130 @@ fn that_of(et: &[u32], a: u32) -> Answer
         return Answer { code, number: 0 };
     }
     let number = that(et, a);
+    Answer { code: 0, number }
+}
+
+// 1 for true, 0 for false.
+fn as_number(b: bool) -> u32
+    ensures { λ r. ⌜ r ≡ bit b ⌝ }
+{
+    if b {
+        return 1;
+    }
+    0
+}
+
+// 30
+fn first_vertex(head: Head) -> Answer
+    ensures { λ r. ⌜ ((g : Graph) → (n : ℕ) → (rows vt et : List ℕ) → Holds (st head vt et) g → Told r (questionCode n g ask.FirstVertex) (questionNumber rows g ask.FirstVertex)) ⌝ }
+{
+    Answer {
+        code: 0,
+        number: head.vfirst,
+    }
+}
+
+// 32
+fn first_edge(head: Head) -> Answer
+    ensures { λ r. ⌜ ((g : Graph) → (n : ℕ) → (rows vt et : List ℕ) → Holds (st head vt et) g → Told r (questionCode n g ask.FirstEdge) (questionNumber rows g ask.FirstEdge)) ⌝ }
+{
+    Answer {
+        code: 0,
+        number: head.efirst,
+    }
+}
+
+// 46
+fn order_of_vertices(head: Head, vt: &[u32], a: u32, b: u32) -> Answer
+    requires { ⌜ ((et : List ℕ) × (g : Graph) × Holds (st head (now vt) et) g) ⌝ }
+    ensures { λ r. ⌜ ((g : Graph) → (n : ℕ) → (rows et : List ℕ) → Holds (st head (now (vt .entry)) et) g → Told r (questionCode n g (ask.VertexOrder a b)) (questionNumber rows g (ask.VertexOrder a b))) ⌝ }
+{
+    let code = vertices_code(vt, a, b);
+    if code != 0 {
+        return Answer { code, number: 0 };
+    }
+    let before = vertex_before(head, vt, a, b);
+    let number = as_number(before);
+    Answer { code: 0, number }
+}
+
+// 47
+fn order_of_edges(head: Head, et: &[u32], a: u32, b: u32) -> Answer
+    requires { ⌜ ((vt : List ℕ) × (g : Graph) × Holds (st head vt (now et)) g) ⌝ }
+    ensures { λ r. ⌜ ((g : Graph) → (n : ℕ) → (rows vt : List ℕ) → Holds (st head vt (now (et .entry))) g → Told r (questionCode n g (ask.EdgeOrder a b)) (questionNumber rows g (ask.EdgeOrder a b))) ⌝ }
+{
+    let code = edges_code(et, a, b);
+    if code != 0 {
+        return Answer { code, number: 0 };
+    }
+    let before = edge_before(head, et, a, b);
+    let number = as_number(before);
+    Answer { code: 0, number }
+}
+
+// 48
+fn order_of_words(vt: &[u32], et: &[u32], a: u32, b: u32) -> Answer
+    requires { ⌜ ((head : Head) × (g : Graph) × Holds (st head (now vt) (now et)) g) ⌝ }
+    ensures { λ r. ⌜ ((g : Graph) → (n : ℕ) → (rows : List ℕ) → (head : Head) → Holds (st head (now (vt .entry)) (now (et .entry))) g → Told r (questionCode n g (ask.WordOrder a b)) (questionNumber rows g (ask.WordOrder a b))) ⌝ }
+{
+    let code = words_code(et, a, b);
+    if code != 0 {
+        return Answer { code, number: 0 };
+    }
+    let before = word_before(vt, et, a, b);
+    let number = as_number(before);
+    Answer { code: 0, number }
+}
+
+// Codes 4, 6 and 15 of kind 45.
+fn degree_code(vt: &[u32], types: u32, a: u32, t: u32, c: u32) -> u32
+    ensures { λ r. ⌜ ((g : Graph) → HoldsV (now (vt .entry)) g → r ≡ questionCode types g (ask.Degree a t c)) ⌝ }
+{
+    let code = vertex_code(vt, a);
+    if code != 0 {
+        return code;
+    }
+    if types <= t {
+        return 6;
+    }
+    if 2 < c {
+        return 15;
+    }
+    0
+}
+
+// 45
+fn degree_of(
+    closed: &[u64; 64],
+    vt: &[u32],
+    et: &[u32],
+    types: u32,
+    a: u32,
+    t: u32,
+    c: u32,
+) -> Answer
+    requires { ⌜ ((b : Bounds) × (head : Head) × (g : Graph) × Sized b (st head (now vt) (now et)) × Holds (st head (now vt) (now et)) g) ⌝ }
+    ensures { λ r. ⌜ ((g : Graph) → (rows : List ℕ) → (b : Bounds) → (head : Head) → Sized b (st head (now (vt .entry)) (now (et .entry))) → Holds (st head (now (vt .entry)) (now (et .entry))) g → goodRows rows ≡ true → now (closed .entry) ≡ closureWords rows → Told r (questionCode types g (ask.Degree a t c)) (questionNumber rows g (ask.Degree a t c))) ⌝ }
+{
+    let code = degree_code(vt, types, a, t, c);
+    if code != 0 {
+        return Answer { code, number: 0 };
+    }
+    let number = degree(closed, vt, et, a, t, c);
+    Answer { code: 0, number }
+}
+
+// 52
+fn below_of(closed: &[u64; 64], types: u32, s: u32, t: u32) -> Answer
+    ensures { λ r. ⌜ ((g : Graph) → (rows : List ℕ) → goodRows rows ≡ true → now (closed .entry) ≡ closureWords rows → Told r (questionCode types g (ask.Below s t)) (questionNumber rows g (ask.Below s t))) ⌝ }
+{
+    if types <= s {
+        return Answer { code: 6, number: 0 };
+    }
+    if types <= t {
+        return Answer { code: 6, number: 0 };
+    }
+    let below = is_below(closed, s, t);
+    let number = as_number(below);
     Answer { code: 0, number }
 }
