@@ -10,7 +10,8 @@ use borrow.Author.Tests.{eq-eqb, ne-eqb}
 use Rattle.lists.specs.Choice.{_⇒_else_, _==_}
 use Rattle.lists.specs.Lists.{first, after}
 use Rattle.graph.specs.Graph.{Graph, vertex, edge, hasVertex, hasEdge, vertexNumbers, edgeNumbers, edgeOf, bySide, this, that, listOf, readingKind, decimetres}
-use Rattle.graph.specs.WellFormed.{WellFormed}
+use Rattle.graph.specs.WellFormed.{Bounds, WellFormed}
+use Rattle.tables.specs.Capacities.{Sized}
 use Rattle.graph.specs.Changes.{VertexThere, EdgeThere}
 use Rattle.graph.proofs.Numbers.{vertex-once, edge-once}
 use Rattle.tables.specs.Tables.{State, st, VIn, EIn, WIn, vnext, vfirst, vtype, vvalue, enext, etype, ekind, edecimetres, wthis, wnext}
@@ -165,3 +166,6 @@ module _ (g : Graph) (w : WellFormed g) where
       go : (s : Bool) → hasVertex g a ≡ s → _≡_ {A = ℕ} (not s ⇒ 4 else leb n t ⇒ 6 else ltb 2 k ⇒ 15 else 0) 0 → VertexThere g a
       go true i j = vertex-once g a w i
       go false i j = absurd (omega arith)
+
+pub few-edges : (b : Bounds) (s : State) → Sized b s → length (s .et) / 12 ≤ 4000
+few-edges b s z = omega (arith, z .edges, z .fewEdges)

@@ -4,6 +4,7 @@ use checks::edges_code;
 use checks::vertex_code;
 use checks::vertices_code;
 use checks::words_code;
+use commands::Question;
 use queries::questions::alpha;
 use queries::questions::degree;
 use queries::questions::edge_before;
@@ -341,4 +342,40 @@ fn below_of(closed: &[u64; 64], types: u32, s: u32, t: u32) -> Answer
     let below = is_below(closed, s, t);
     let number = as_number(below);
     Answer { code: 0, number }
+}
+
+// The answer to a question; types is their number, closed the closure of their rows.
+pub fn reply(
+    head: Head,
+    vt: &[u32],
+    et: &[u32],
+    closed: &[u64; 64],
+    types: u32,
+    question: Question,
+) -> Answer
+    requires { ⌜ ((b : Bounds) × (g : Graph) × Sized b (st head (now vt) (now et)) × Holds (st head (now vt) (now et)) g) ⌝ }
+    ensures { λ r. ⌜ ((g : Graph) → (rows : List ℕ) → (b : Bounds) → Sized b (st head (now (vt .entry)) (now (et .entry))) → Holds (st head (now (vt .entry)) (now (et .entry))) g → goodRows rows ≡ true → now (closed .entry) ≡ closureWords rows → Told r (questionCode types g question) (questionNumber rows g question)) ⌝ }
+{
+    match question {
+        Question::FirstVertex => first_vertex(head),
+        Question::NextVertex(a) => next_vertex(vt, a),
+        Question::FirstEdge => first_edge(head),
+        Question::NextEdge(a) => next_edge(et, a),
+        Question::FirstWord(a) => first_word_of(vt, a),
+        Question::NextWord(a) => next_word(et, a),
+        Question::Alpha(a) => alpha_of(et, a),
+        Question::Omega(a) => omega_of(et, a),
+        Question::This(a) => this_of(et, a),
+        Question::That(a) => that_of(et, a),
+        Question::VertexType(a) => type_of_vertex(vt, a),
+        Question::EdgeType(a) => type_of_edge(et, a),
+        Question::Value(a) => value_of(vt, a),
+        Question::ReadingKind(a) => kind_of_reading(et, a),
+        Question::Decimetres(a) => decimetres_of_reading(et, a),
+        Question::Degree(a, t, c) => degree_of(closed, vt, et, types, a, t, c),
+        Question::VertexOrder(a, b) => order_of_vertices(head, vt, a, b),
+        Question::EdgeOrder(a, b) => order_of_edges(head, et, a, b),
+        Question::WordOrder(a, b) => order_of_words(vt, et, a, b),
+        Question::Below(s, t) => below_of(closed, types, s, t),
+    }
 }
