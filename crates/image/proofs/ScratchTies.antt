@@ -1,0 +1,134 @@
+-- The three passes over scratch of zeros are the verdict.
+use Prim.Native.Nat.{ℕ, zero, suc, _+_, _*_, _≤_, _<_}
+use mathlib.Core.Path.{_≡_, refl, ap, _∙_}
+use mathlib.Core.Bool.{true, false}
+use mathlib.Core.List.{List, [], _∷_}
+use native.Mathlib.Omega.{arith}
+use types.Run.{OneOf}
+use denote.Enum.Declared.{tagOf}
+use lib.ListN.{length, getD, replicate, length-drop, length-replicate}
+use borrow.Author.Tests.{eq-eqb, ne-eqb}
+use Rattle.lists.specs.Choice.{_==_, bit}
+use Rattle.lists.specs.Lists.{has}
+use Rattle.graph.specs.WellFormed.{Bounds}
+use Rattle.image.specs.Image.{vertexSize, vertexOffset, edgeOffset, incidenceOffset, soundHeader, vertexCount, edgeCount, vertexPart, edgePart, incidencePart, part, edgesFrom}
+use Rattle.image.specs.Checks.{bounds, vertexWalk, numbersIn, edgeWalk, listWalk, soundCounts, andThen, verdict}
+use Rattle.image.specs.Scratch.{vertexRun, vertexMarks, edgeRun, edgeDegrees, edgeOwners, incidenceRun, scratchRun}
+use Rattle.image.specs.declared.Verdict.{Verdict}
+use Rattle.image.specs.declared.Verdict.the-variants.{Sound, BadHeader}
+use Rattle.image.proofs.Verdict.{the-type}
+use Rattle.image.proofs.Verdicts.{stop, then-same}
+use Rattle.image.proofs.Headers.{sound-length}
+use Rattle.image.proofs.VertexTies.{Tracks, vertex-tie, marks-tie, walk-distinct, walk-positive}
+use Rattle.image.proofs.EdgeTies.{Marked, Seen, Paired, marked-by, edge-tie, degrees-tie, owners-tie}
+use Rattle.image.proofs.ListTies.{positive, incidence-tie}
+
+zeros : (n i : ℕ) → _≡_ {A = ℕ} (getD (replicate n 0) i 0) 0
+zeros zero i = refl
+zeros (suc n) zero = refl
+zeros (suc n) (suc i) = zeros n i
+
+module _ (deg own : List ℕ) (deg-zero : (i : ℕ) → getD deg i 0 ≡ 0) (own-zero : (i : ℕ) → getD own i 0 ≡ 0)
+    (b : Bounds) (deg-room : b .vertices < length deg) (own-room : 2 * b .edges + 1 < length own) where
+  scratch-tie : (v e : ℕ) (vs es is : List ℕ) →
+      scratchRun deg own b v e vs es is
+      ≡ andThen (vertexWalk vertexSize (b .vertices) (b .types) [] v vs vertexOffset)
+      (andThen (edgeWalk (b .edges) (b .types) (numbersIn vertexSize v vs) [] e es (edgeOffset v))
+      (listWalk (edgesFrom e es) (numbersIn vertexSize v vs) is (incidenceOffset v e)))
+  unfolding scratchRun
+  scratch-tie v e vs es is =
+      rw (vertex-tie vertexSize (b .vertices) (b .types) deg [] v vs vertexOffset deg-room deg-zero)
+      (then-same (vertexWalk vertexSize (b .vertices) (b .types) [] v vs vertexOffset) _ _ after-vertices)
+    where
+      numbers : List ℕ
+      numbers = numbersIn vertexSize v vs
+
+      marks : List ℕ
+      marks = vertexMarks vertexSize deg v vs
+
+      seen0 : Seen [] own
+      seen0 n = eq-eqb (getD own (2 * n) 0) 0 (own-zero (2 * n))
+
+      paired0 : Paired own
+      paired0 n e = own-zero (2 * n + 1)
+
+      after-vertices : vertexWalk vertexSize (b .vertices) (b .types) [] v vs vertexOffset ≡ Sound →
+          andThen (edgeRun (b .edges) (b .types) marks own e es (edgeOffset v)) (incidenceRun vertexSize (edgeDegrees marks e es) (edgeOwners own e es) v vs is (incidenceOffset v e))
+          ≡ andThen (edgeWalk (b .edges) (b .types) numbers [] e es (edgeOffset v)) (listWalk (edgesFrom e es) numbers is (incidenceOffset v e))
+      after-vertices s =
+          rw (edge-tie (b .edges) (b .types) numbers nz marks own [] e es (edgeOffset v) own-room marked seen0)
+          (then-same (edgeWalk (b .edges) (b .types) numbers [] e es (edgeOffset v)) _ _ λ q.
+          incidence-tie vertexSize (edgesFrom e es) (edgeDegrees marks e es) (edgeOwners own e es) v vs is (incidenceOffset v e)
+          (λ n h.
+          let m : getD marks n 0 ≡ 1 = tracks n ∙ ap bit h in
+          omega (arith, m, degrees-tie (b .edges) (b .types) numbers nz marks [] e es (edgeOffset v) marked q n))
+          (λ n h w.
+          let p = positive n numbers nz h in
+          let z : (0 == n) ≡ false = ne-eqb 0 n (λ r. omega arith) in
+          let y : bit (getD own w 0 == n) ≡ 0 = rw (own-zero w, z) in
+          omega (arith, y, owners-tie (b .edges) (b .types) numbers nz own [] e es (edgeOffset v) own-room seen0 paired0 q n p w))
+          nz
+          (walk-distinct vertexSize (b .vertices) (b .types) [] v vs vertexOffset s))
+        where
+          nz : has 0 numbers ≡ false
+          nz = walk-positive vertexSize (b .vertices) (b .types) [] v vs vertexOffset s
+
+          tracks : Tracks numbers marks
+          tracks = marks-tie vertexSize (b .vertices) (b .types) deg [] v vs vertexOffset deg-room deg-zero s
+
+          marked : Marked numbers marks
+          marked = marked-by numbers marks tracks
+
+-- ---- the passes one by one
+
+module _ (deg own : List ℕ) (b : Bounds) (v e : ℕ) (vs es is : List ℕ) (r : Verdict) (first-pass : r ≡ vertexRun vertexSize (b .vertices) (b .types) deg v vs vertexOffset) where
+  pub pass-1 : OneOf (1 ∷ 2 ∷ 3 ∷ []) (tagOf the-type r) → r ≡ scratchRun deg own b v e vs es is
+  unfolding scratchRun
+  pass-1 k = rw (← first-pass) (stop r _ k)
+
+  module _ (sound : r ≡ Sound) (d : List ℕ) (marks : d ≡ vertexMarks vertexSize deg v vs)
+      (q : Verdict) (second-pass : q ≡ edgeRun (b .edges) (b .types) d own e es (edgeOffset v)) where
+    pub pass-2 : OneOf (1 ∷ 2 ∷ 3 ∷ []) (tagOf the-type q) → q ≡ scratchRun deg own b v e vs es is
+    unfolding scratchRun
+    pass-2 k = rw (← first-pass, sound, ← marks, ← second-pass) (stop q _ k)
+
+    pub pass-3 : q ≡ Sound → (d′ o′ : List ℕ) → d′ ≡ edgeDegrees d e es → o′ ≡ edgeOwners own e es →
+        (z : Verdict) → z ≡ incidenceRun vertexSize d′ o′ v vs is (incidenceOffset v e) → z ≡ scratchRun deg own b v e vs es is
+    unfolding scratchRun
+    pass-3 t d′ o′ x y z g = rw (← first-pass, sound, ← marks, ← second-pass, t, ← x, ← y) g
+
+-- ---- what the check needs
+
+pub bad-head : (b : Bounds) (ws : List ℕ) → soundHeader ws ≡ false → BadHeader ≡ verdict b ws
+unfolding verdict
+bad-head b ws h = rw h
+
+module _ (ws : List ℕ) (h : soundHeader ws ≡ true) where
+  pub bad-counts : (b : Bounds) → soundCounts (b .vertices) (b .edges) (vertexCount ws) (edgeCount ws) ≡ false → BadHeader ≡ verdict b ws
+  unfolding verdict
+  bad-counts b k = rw (h, k)
+
+  part-one : part 1 ws ≡ vertexPart ws
+  unfolding part
+  part-one = rw h
+
+  part-two : part 2 ws ≡ edgePart ws
+  unfolding part
+  part-two = rw h
+
+  part-three : part 3 ws ≡ incidencePart ws
+  unfolding part
+  part-three = rw h
+
+  pub incidences-few : (v e : ℕ) → v ≡ vertexCount ws → e ≡ edgeCount ws → v ≤ 1000 → e ≤ 4000 → (is : List ℕ) → is ≡ part 3 ws → length is ≤ 100000
+  incidences-few v e hv he lv le is q =
+      omega (arith, sound-length ws h, ap length (q ∙ part-three), length-drop (incidenceOffset (vertexCount ws) (edgeCount ws)) ws)
+
+  pub verdict-by : (vcap ecap types v e : ℕ) → vcap ≤ 1000 → ecap ≤ 4000 → v ≡ vertexCount ws → e ≡ edgeCount ws → soundCounts vcap ecap v e ≡ true →
+      (vs es is : List ℕ) → vs ≡ part 1 ws → es ≡ part 2 ws → is ≡ part 3 ws → (r : Verdict) →
+      r ≡ scratchRun (replicate 1001 0) (replicate 8002 0) (bounds vcap ecap types) v e vs es is → r ≡ verdict (bounds vcap ecap types) ws
+  unfolding verdict
+  verdict-by vcap ecap types v e lv le hv he k vs es is p q s r g =
+      let k′ : soundCounts vcap ecap (vertexCount ws) (edgeCount ws) ≡ true = rw (hv, he) at k in
+      let t = scratch-tie (replicate 1001 0) (replicate 8002 0) (zeros 1001) (zeros 8002) (bounds vcap ecap types) (rw length-replicate (omega arith)) (rw length-replicate (omega arith)) v e vs es is in
+      rw (h, k′) (rw (p ∙ part-one, q ∙ part-two, s ∙ part-three, hv, he) at (g ∙ t))

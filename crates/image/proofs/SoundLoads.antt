@@ -1,0 +1,298 @@
+-- Words with a sound verdict are loadable.
+use Prim.Native.Nat.{ℕ, zero, suc, _+_, _*_, _^_, _≤_, _<_}
+use mathlib.Core.Path.{_≡_, refl, sym, ap, _∙_, subst}
+use mathlib.Core.Bool.{Bool, true, false, not, _&&_, _||_}
+use mathlib.Core.List.{List, [], _∷_, _++_, map}
+use native.Mathlib.Omega.{arith}
+use lib.Dec.{leb, ltb, eqb}
+use lib.ListN.{length, getD, take, drop, length-take, length-drop, take-append-drop}
+use lib.Seq.{drop-drop}
+use borrow.Author.Tests.{ne-eqb, eqb-true, eqb-false, lt-ltb, leb-true, not-true}
+use Rattle.lists.specs.Choice.{_==_, _⇒_else_, bit, within}
+use Rattle.lists.specs.Lists.{all, has, count, distinct, same, each}
+use Rattle.lists.specs.Keyed.{rem}
+use Rattle.lists.proofs.Bools.{tf, ft, and-true, and-both}
+use Rattle.lists.proofs.Sums.{has-count, Alike, alike-same}
+use Rattle.graph.specs.declared.Reading.the-variants.{Untested, Silent, Heard}
+use Rattle.graph.specs.Graph.{Edge, Graph, vn, en, wd, hasVertex, vertexNumbers, edgeNumbers, readingKind, decimetres, readingOf, isReading}
+use Rattle.graph.specs.WellFormed.{Bounds, wordsAt, sameWords, soundVertex, soundEdge, wellFormed}
+use Rattle.image.specs.Image.{vertexSize, vertexRecord, edgeSize, edgeRecord, incidencesOf, vertexOffset, edgeOffset, incidenceOffset, imageLength, headerOf, save, vertexCount, edgeCount, soundHeader, vertexPart, edgePart, incidencePart, edgesFrom, verticesFrom, load, loadable}
+use Rattle.image.specs.Checks.{vertexWalk, numbersIn, edgeWalk, goodList, listWalk, soundCounts, andThen, numbersOf, verdict}
+use Rattle.image.specs.declared.Verdict.{Verdict}
+use Rattle.image.specs.declared.Verdict.the-variants.{Sound, BadHeader}
+use Rattle.image.proofs.RecordWords.{same-eq, same-refl}
+use Rattle.image.proofs.Ends.{has-number}
+use Rattle.image.proofs.Counts.{rem-count, rem-length}
+use Rattle.image.proofs.Headers.{sound-length}
+use Rattle.image.proofs.Verdicts.{header-not, list-sound, ended-nil, then-sound}
+use Rattle.image.proofs.VertexTies.{has-self, vertex-step, walk-distinct}
+use Rattle.image.proofs.EdgeTies.{edge-step}
+
+-- each word is one of 32 bits
+abbrev pub Small : List ℕ → Type 0
+Small ws = (i : ℕ) → getD ws i 0 < 2 ^ 32
+
+small-take : (n : ℕ) (ws : List ℕ) → Small ws → Small (take n ws)
+small-take zero ws s i = omega arith
+small-take (suc n) [] s i = omega arith
+small-take (suc n) (w ∷ ws) s zero = s 0
+small-take (suc n) (w ∷ ws) s (suc i) = small-take n ws (λ j. s (suc j)) i
+
+small-drop : (n : ℕ) (ws : List ℕ) → Small ws → Small (drop n ws)
+small-drop zero ws s = s
+small-drop (suc n) [] s = s
+small-drop (suc n) (w ∷ ws) s = small-drop n ws (λ j. s (suc j))
+
+-- ---- one list
+
+good-alike : (d : ℕ) (wanted ws : List ℕ) → length wanted ≡ d → d ≤ goodList d wanted ws → Alike (take d ws) wanted
+unfolding goodList
+good-alike zero [] ws e h x = refl
+good-alike zero (y ∷ ys) ws e h x = absurd (omega arith)
+good-alike (suc d) wanted [] e h x = absurd (omega arith)
+good-alike (suc d) wanted (w ∷ ws) e h x = go (λ k m. good-alike d (rem wd w wanted) ws k m x) (has w wanted) refl h
+  where
+    go : (length (rem wd w wanted) ≡ d → d ≤ goodList d (rem wd w wanted) ws → count x (take d ws) ≡ count x (rem wd w wanted)) → (t : Bool) → has w wanted ≡ t →
+        suc d ≤ (t ⇒ suc (goodList d (rem wd w wanted) ws) else 0) → bit (w == x) + count x (take d ws) ≡ count x wanted
+    go ih true f h =
+        let c = has-count w wanted f in
+        omega (arith, ih (omega (arith, rem-length w wanted c)) (omega arith), rem-count w wanted c x)
+    go ih false f h = absurd (omega arith)
+
+-- ---- vertices
+
+numbers-load : (size : ℕ) (es : List Edge) (k : ℕ) (vs ws : List ℕ) → map vn (verticesFrom size es k vs ws) ≡ numbersIn size k vs
+unfolding verticesFrom numbersIn
+numbers-load size es zero vs ws = refl
+numbers-load size es (suc k) vs ws = ap (λ (l : List ℕ). getD vs 0 0 ∷ l) (numbers-load size es k (drop size vs) (drop (length (wordsAt es (getD vs 0 0))) ws))
+
+vertices-sound : (size : ℕ) (b : Bounds) (g : Graph) (seen : List ℕ) (k : ℕ) (vs ws : List ℕ) (at to : ℕ) → vertexWalk size (b .vertices) (b .types) seen k vs at ≡ Sound →
+    listWalk (g .eseq) (numbersIn size k vs) ws to ≡ Sound → Small vs → all (soundVertex b g) (verticesFrom size (g .eseq) k vs ws) ≡ true
+unfolding listWalk numbersIn verticesFrom
+vertices-sound size b g seen zero vs ws at to s l m = refl
+vertices-sound size b g seen (suc k) vs ws at to s l m =
+    let n = getD vs 0 0 in
+    let t = getD vs 1 0 in
+    let x = getD vs 2 0 in
+    let wanted = wordsAt (g .eseq) n in
+    let d = length wanted in
+    let r = vertex-step size (b .vertices) (b .types) seen k vs at s in
+    let q = list-sound d to (goodList d wanted ws) (listWalk (g .eseq) (numbersIn size k (drop size vs)) (drop d ws) (to + d)) l in
+    and-both _ (all (soundVertex b g) (verticesFrom size (g .eseq) k (drop size vs) (drop d ws)))
+    (and-both _ (sameWords (take d ws) wanted)
+    (and-both _ (ltb x (2 ^ 32)) (and-both (within 1 (b .vertices) n) (ltb t (b .types)) (r .ok .number) (r .ok .type)) (lt-ltb x (2 ^ 32) (m 2)))
+    (alike-same (take d ws) wanted (good-alike d wanted ws refl (q .0))))
+    (vertices-sound size b g (n ∷ seen) k (drop size vs) (drop d ws) (at + size) (to + d) (r .rest) (q .1) (small-drop size vs m))
+
+-- ---- edges
+
+reading-known : (k d : ℕ) → isReading k d ≡ true → (readingKind (readingOf k d) ≡ k) × (decimetres (readingOf k d) ≡ d)
+reading-known k d h = go (k == 0) (k == 1) refl refl
+  where
+    low : leb k 1 ≡ true → d ≡ 0
+    low f = let q : eqb k 2 ≡ false = ne-eqb k 2 (λ e. omega (arith, leb-true k 1 f)) in part (eqb d 0) refl q (rw (f, q) at h)
+      where
+        part : (t : Bool) → eqb d 0 ≡ t → eqb k 2 ≡ false → (t || false) ≡ true → d ≡ 0
+        part true e q r = eqb-true d 0 e
+        part false e q r = ft r
+
+    high : leb k 1 ≡ false → k ≡ 2
+    high f = part (eqb k 2) refl (rw f at h)
+      where
+        part : (t : Bool) → eqb k 2 ≡ t → (t && leb d 9999) ≡ true → k ≡ 2
+        part true e r = eqb-true k 2 e
+        part false e r = ft r
+
+    go : (x y : Bool) → (k == 0) ≡ x → (k == 1) ≡ y →
+        (readingKind (x ⇒ Untested else y ⇒ Silent else Heard d) ≡ k) × (decimetres (x ⇒ Untested else y ⇒ Silent else Heard d) ≡ d)
+    go true y e f = let q = eqb-true k 0 e in (sym q, sym (low (rw q)))
+    go false true e f = let q = eqb-true k 1 f in (sym q, sym (low (rw q)))
+    go false false e f = (two (leb k 1) refl, refl)
+      where
+        two : (t : Bool) → leb k 1 ≡ t → 2 ≡ k
+        two true i = absurd (omega (arith, leb-true k 1 i, eqb-false k 0 e, eqb-false k 1 f))
+        two false i = sym (high i)
+
+module _ (cap types : ℕ) (vs : List ℕ) where
+  edge-new : (seen : List ℕ) (k : ℕ) (ws : List ℕ) (at m : ℕ) → edgeWalk cap types vs seen k ws at ≡ Sound → has m seen ≡ true → has m (map en (edgesFrom k ws)) ≡ false
+  unfolding edgesFrom
+  edge-new seen zero ws at m s h = refl
+  edge-new seen (suc k) ws at m s h =
+      let r = edge-step cap types vs seen k ws at s in
+      go (not-true (has (getD ws 0 0) seen) (r .ok .new)) (edge-new (getD ws 0 0 ∷ seen) k (drop edgeSize ws) (at + edgeSize) m (r .rest)) (getD ws 0 0 == m) refl
+    where
+      go : has (getD ws 0 0) seen ≡ false → (((getD ws 0 0 == m) || has m seen) ≡ true → has m (map en (edgesFrom k (drop edgeSize ws))) ≡ false) →
+          (t : Bool) → (getD ws 0 0 == m) ≡ t → (t || has m (map en (edgesFrom k (drop edgeSize ws)))) ≡ false
+      go f ih true e = tf (sym (subst (λ (k : ℕ). has k seen ≡ true) (sym (eqb-true (getD ws 0 0) m e)) h) ∙ f)
+      go f ih false e = ih (rw e h)
+
+  edges-distinct : (seen : List ℕ) (k : ℕ) (ws : List ℕ) (at : ℕ) → edgeWalk cap types vs seen k ws at ≡ Sound → distinct (map en (edgesFrom k ws)) ≡ true
+  unfolding edgesFrom
+  edges-distinct seen zero ws at s = refl
+  edges-distinct seen (suc k) ws at s =
+      let n = getD ws 0 0 in
+      let ns = map en (edgesFrom k (drop edgeSize ws)) in
+      let r = edge-step cap types vs seen k ws at s in
+      and-both (not (has n ns)) (distinct ns)
+      (ap not (edge-new (n ∷ seen) k (drop edgeSize ws) (at + edgeSize) n (r .rest) (has-self n seen)))
+      (edges-distinct (n ∷ seen) k (drop edgeSize ws) (at + edgeSize) (r .rest))
+
+edges-sound : (b : Bounds) (g : Graph) (vs seen : List ℕ) (k : ℕ) (ws : List ℕ) (at : ℕ) → edgeWalk (b .edges) (b .types) vs seen k ws at ≡ Sound →
+    ((m : ℕ) → has m vs ≡ true → hasVertex g m ≡ true) → all (soundEdge b g) (edgesFrom k ws) ≡ true
+unfolding edgesFrom
+edges-sound b g vs seen zero ws at s u = refl
+edges-sound b g vs seen (suc k) ws at s u =
+    let n = getD ws 0 0 in
+    let a = getD ws 1 0 in
+    let o = getD ws 2 0 in
+    let t = getD ws 3 0 in
+    let r = edge-step (b .edges) (b .types) vs seen k ws at s in
+    let q = reading-known (getD ws 4 0) (getD ws 5 0) (r .ok .reading) in
+    and-both _ (all (soundEdge b g) (edgesFrom k (drop edgeSize ws)))
+    (and-both _ (isReading (readingKind (readingOf (getD ws 4 0) (getD ws 5 0))) (decimetres (readingOf (getD ws 4 0) (getD ws 5 0))))
+    (and-both _ (ltb t (b .types))
+    (and-both _ (hasVertex g o) (and-both (within 1 (b .edges) n) (hasVertex g a) (r .ok .number) (u a (r .ok .starts))) (u o (r .ok .stops)))
+    (r .ok .type))
+    (rw (q .0, q .1) (r .ok .reading)))
+    (edges-sound b g vs (n ∷ seen) k (drop edgeSize ws) (at + edgeSize) (r .rest) u)
+
+-- ---- the words again
+
+cut3 : (ws : List ℕ) (m : ℕ) → length ws ≡ 3 + m → getD ws 0 0 ∷ getD ws 1 0 ∷ getD ws 2 0 ∷ drop 3 ws ≡ ws
+cut3 [] m e = absurd (omega arith)
+cut3 (a ∷ []) m e = absurd (omega arith)
+cut3 (a ∷ b ∷ []) m e = absurd (omega arith)
+cut3 (a ∷ b ∷ c ∷ ws) m e = refl
+
+vertices-again : (es : List Edge) (k : ℕ) (vs ws : List ℕ) → length vs ≡ vertexSize * k →
+    (each vertexRecord (verticesFrom vertexSize es k vs ws) ≡ vs) × (length (verticesFrom vertexSize es k vs ws) ≡ k)
+unfolding verticesFrom
+vertices-again es zero [] ws e = (refl, refl)
+vertices-again es zero (x ∷ vs) ws e = absurd (omega arith)
+vertices-again es (suc k) vs ws e =
+    let r = vertices-again es k (drop 3 vs) (drop (length (wordsAt es (getD vs 0 0))) ws) (omega (arith, length-drop 3 vs)) in
+    (ap (λ (l : List ℕ). getD vs 0 0 ∷ getD vs 1 0 ∷ getD vs 2 0 ∷ l) (r .0) ∙ cut3 vs (3 * k) (omega arith), ap suc (r .1))
+
+edges-again : (cap types : ℕ) (vs seen : List ℕ) (k : ℕ) (ws : List ℕ) (at : ℕ) → edgeWalk cap types vs seen k ws at ≡ Sound → length ws ≡ edgeSize * k →
+    (each edgeRecord (edgesFrom k ws) ≡ ws) × (length (edgesFrom k ws) ≡ k)
+unfolding edgesFrom
+edges-again cap types vs seen zero [] at s e = (refl, refl)
+edges-again cap types vs seen zero (x ∷ ws) at s e = absurd (omega arith)
+edges-again cap types vs seen (suc k) ws at s e =
+    let r = edge-step cap types vs seen k ws at s in
+    let q = reading-known (getD ws 4 0) (getD ws 5 0) (r .ok .reading) in
+    let i = edges-again cap types vs (getD ws 0 0 ∷ seen) k (drop 6 ws) (at + 6) (r .rest) (omega (arith, length-drop 6 ws)) in
+    (rw (q .0, q .1, i .0) (cut6 ws (6 * k) (omega arith)), ap suc (i .1))
+  where
+    cut6 : (ws : List ℕ) (m : ℕ) → length ws ≡ 6 + m → getD ws 0 0 ∷ getD ws 1 0 ∷ getD ws 2 0 ∷ getD ws 3 0 ∷ getD ws 4 0 ∷ getD ws 5 0 ∷ drop 6 ws ≡ ws
+    cut6 (a ∷ b ∷ c ∷ ws) m e = ap (λ (l : List ℕ). a ∷ b ∷ c ∷ l) (cut3 ws m (omega arith))
+    cut6 [] m e = absurd (omega arith)
+    cut6 (a ∷ []) m e = absurd (omega arith)
+    cut6 (a ∷ b ∷ []) m e = absurd (omega arith)
+
+lists-again : (size : ℕ) (es : List Edge) (k : ℕ) (vs ws : List ℕ) (at : ℕ) → listWalk es (numbersIn size k vs) ws at ≡ Sound →
+    each incidencesOf (verticesFrom size es k vs ws) ≡ ws
+unfolding listWalk numbersIn verticesFrom
+lists-again size es zero vs ws at l = sym (ended-nil ws at l)
+lists-again size es (suc k) vs ws at l =
+    let wanted = wordsAt es (getD vs 0 0) in
+    let d = length wanted in
+    let q = list-sound d at (goodList d wanted ws) (listWalk es (numbersIn size k (drop size vs)) (drop d ws) (at + d)) l in
+    ap (λ (z : List ℕ). take d ws ++ z) (lists-again size es k (drop size vs) (drop d ws) (at + d) (q .1)) ∙ take-append-drop d ws
+
+split-words : (ws : List ℕ) → take 6 ws ++ (vertexPart ws ++ (edgePart ws ++ incidencePart ws)) ≡ ws
+split-words ws =
+    let v = vertexCount ws in
+    let e = edgeCount ws in
+    let p : drop (vertexSize * v) (drop 6 ws) ≡ drop (edgeOffset v) ws = drop-drop (vertexSize * v) 6 ws in
+    let q : drop (edgeSize * e) (drop (edgeOffset v) ws) ≡ drop (incidenceOffset v e) ws = drop-drop (edgeSize * e) (edgeOffset v) ws in
+    let r : edgePart ws ++ incidencePart ws ≡ drop (edgeOffset v) ws = ap (λ (l : List ℕ). edgePart ws ++ l) (sym q) ∙ take-append-drop (edgeSize * e) (drop (edgeOffset v) ws) in
+    ap (λ (l : List ℕ). take 6 ws ++ (vertexPart ws ++ l)) (r ∙ sym p)
+    ∙ ap (λ (l : List ℕ). take 6 ws ++ l) (take-append-drop (vertexSize * v) (drop 6 ws))
+    ∙ take-append-drop 6 ws
+
+-- ---- the parts of a sound verdict
+
+record Sounds (b : Bounds) (ws : List ℕ) : Type 0 where
+  header : soundHeader ws ≡ true
+  vertices : vertexWalk vertexSize (b .vertices) (b .types) [] (vertexCount ws) (vertexPart ws) vertexOffset ≡ Sound
+  edges : edgeWalk (b .edges) (b .types) (numbersOf ws) [] (edgeCount ws) (edgePart ws) (edgeOffset (vertexCount ws)) ≡ Sound
+  lists : listWalk (edgesFrom (edgeCount ws) (edgePart ws)) (numbersOf ws) (incidencePart ws) (incidenceOffset (vertexCount ws) (edgeCount ws)) ≡ Sound
+
+sounds : (b : Bounds) (ws : List ℕ) → verdict b ws ≡ Sound → Sounds b ws
+unfolding verdict
+sounds b ws h = go (soundHeader ws) (soundCounts (b .vertices) (b .edges) (vertexCount ws) (edgeCount ws)) refl h
+  where
+    first : Verdict
+    first = vertexWalk vertexSize (b .vertices) (b .types) [] (vertexCount ws) (vertexPart ws) vertexOffset
+
+    second : Verdict
+    second = edgeWalk (b .edges) (b .types) (numbersOf ws) [] (edgeCount ws) (edgePart ws) (edgeOffset (vertexCount ws))
+
+    third : Verdict
+    third = listWalk (edgesFrom (edgeCount ws) (edgePart ws)) (numbersOf ws) (incidencePart ws) (incidenceOffset (vertexCount ws) (edgeCount ws))
+
+    go : (x y : Bool) → soundHeader ws ≡ x → (not (x && y) ⇒ BadHeader else andThen first (andThen second third)) ≡ Sound → Sounds b ws
+    go true true e h =
+        let p = then-sound first (andThen second third) h in
+        let q = then-sound second third (p .1) in
+        record { header = e; vertices = p .0; edges = q .0; lists = q .1 }
+    go true false e h = absurd (header-not h)
+    go false y e h = absurd (header-not h)
+
+pub sound-loads : (b : Bounds) (ws : List ℕ) → Small ws → verdict b ws ≡ Sound → loadable b ws ≡ true
+unfolding loadable load save wellFormed soundHeader
+sound-loads b ws m h =
+    and-both (soundHeader ws && wellFormed b (load ws)) (same ws (save (load ws)))
+    (and-both (soundHeader ws) (wellFormed b (load ws)) (s .header) formed)
+    (subst (λ (l : List ℕ). same ws l ≡ true) again (same-refl ws))
+  where
+    s : Sounds b ws
+    s = sounds b ws h
+
+    v : ℕ
+    v = vertexCount ws
+
+    e : ℕ
+    e = edgeCount ws
+
+    es : List Edge
+    es = edgesFrom e (edgePart ws)
+
+    numbers : map vn (load ws .vseq) ≡ numbersOf ws
+    numbers = numbers-load vertexSize es v (vertexPart ws) (incidencePart ws)
+
+    known : (k : ℕ) → has k (numbersOf ws) ≡ true → hasVertex (load ws) k ≡ true
+    known k x = has-number k (load ws .vseq) ∙ ap (has k) numbers ∙ x
+
+    formed : wellFormed b (load ws) ≡ true
+    formed =
+        and-both _ (all (soundEdge b (load ws)) (load ws .eseq))
+        (and-both _ (all (soundVertex b (load ws)) (load ws .vseq))
+        (and-both (distinct (vertexNumbers (load ws))) (distinct (edgeNumbers (load ws)))
+        (ap distinct numbers ∙ walk-distinct vertexSize (b .vertices) (b .types) [] v (vertexPart ws) vertexOffset (s .vertices))
+        (edges-distinct (b .edges) (b .types) (numbersOf ws) [] e (edgePart ws) (edgeOffset v) (s .edges)))
+        (vertices-sound vertexSize b (load ws) [] v (vertexPart ws) (incidencePart ws) vertexOffset (incidenceOffset v e) (s .vertices) (s .lists)
+        (small-take (vertexSize * v) (drop vertexOffset ws) (small-drop vertexOffset ws m))))
+        (edges-sound b (load ws) (numbersOf ws) [] e (edgePart ws) (edgeOffset v) (s .edges) known)
+
+    total : length ws ≡ imageLength v e
+    total = sound-length ws (s .header)
+
+    vs-again : (each vertexRecord (load ws .vseq) ≡ vertexPart ws) × (length (load ws .vseq) ≡ v)
+    vs-again =
+        vertices-again es v (vertexPart ws) (incidencePart ws)
+        (omega (arith, total, length-take (vertexSize * v) (drop vertexOffset ws), length-drop vertexOffset ws))
+
+    es-again : (each edgeRecord es ≡ edgePart ws) × (length es ≡ e)
+    es-again =
+        edges-again (b .edges) (b .types) (numbersOf ws) [] e (edgePart ws) (edgeOffset v) (s .edges)
+        (omega (arith, total, length-take (edgeSize * e) (drop (edgeOffset v) ws), length-drop (edgeOffset v) ws))
+
+    head : take 6 ws ≡ headerOf v e
+    head = same-eq (take 6 ws) (headerOf v e) (and-true (same (take 6 ws) (headerOf v e)) _ (s .header) .0)
+
+    again : ws ≡ save (load ws)
+    again =
+        sym (split-words ws)
+        ∙ rw (head, vs-again .1, es-again .1, vs-again .0, es-again .0, lists-again vertexSize es v (vertexPart ws) (incidencePart ws) (incidenceOffset v e) (s .lists))

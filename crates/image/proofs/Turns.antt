@@ -1,0 +1,254 @@
+-- One turn of each loop: what a run says of the words from `at` on, by what stands there.
+use Prim.Native.Nat.{ℕ, zero, suc, _+_, _*_, _-_, _≤_, _<_}
+use mathlib.Core.Path.{_≡_, refl, sym, ap, ap₂, _∙_, subst}
+use mathlib.Core.Bool.{Bool, true, false, not, _&&_}
+use mathlib.Core.List.{List, [], _∷_}
+use native.Mathlib.Omega.{arith}
+use native.Mathlib.Nat.{add-zero}
+use lib.Dec.{leb, ltb, eqb}
+use lib.ListN.{length, getD, drop, set, replicate, drop-of-length-le}
+use lib.Seq.{drop-cons, drop-drop, getD-drop}
+use borrow.Author.Tests.{eq-eqb, ne-eqb, lt-ltb, le-ltb, leb-true}
+use Rattle.lists.specs.Choice.{_==_, _⇒_else_}
+use Rattle.graph.specs.Graph.{isReading}
+use Rattle.image.specs.Checks.{goodVertex, goodEdge}
+use Rattle.image.specs.Scratch.{Below, bumped, ends, owned, edgeGood, edgeEnds, edgeOwned, vertexRun, vertexMarks, edgeRun, edgeDegrees, edgeOwners, listRun, listOwners, incidenceRun}
+use Rattle.image.specs.declared.Verdict.the-variants.{Sound, BadRecord, BadIncidence}
+
+-- ---- the word at a place of the rest
+
+word-at : (ws : List ℕ) (at k : ℕ) → getD (drop at ws) k 0 ≡ getD ws (at + k) 0
+word-at ws at k = getD-drop at ws k 0
+
+first-at : (ws : List ℕ) (at : ℕ) → getD (drop at ws) 0 0 ≡ getD ws at 0
+first-at ws at = word-at ws at 0 ∙ ap (λ (k : ℕ). getD ws k 0) (add-zero at)
+
+-- ---- turns of a loop over records
+
+module _ (count i : ℕ) (ws : List ℕ) (from at : ℕ) (turn : i < count) where
+  left : count - i ≡ suc (count - (i + 1))
+  left = omega arith
+
+  along : (size : ℕ) → from + at + size ≡ from + (at + size)
+  along size = omega arith
+
+  module _ (size cap types : ℕ) (deg : List ℕ) (g : ℕ) (good : g ≡ goodVertex cap types (eqb (getD deg (getD ws at 0) 0) 0) (getD ws at 0) (getD ws (at + 1) 0)) where
+    pub vertex-stop : g < 3 → BadRecord (from + at + g) ≡ vertexRun size cap types deg (count - i) (drop at ws) (from + at)
+    unfolding vertexRun
+    vertex-stop h = rw (left, first-at ws at, word-at ws at 1, ← good, lt-ltb g 3 h)
+
+    pub vertex-go : 3 ≤ g →
+        vertexRun size cap types (set deg (getD ws at 0) 1) (count - (i + 1)) (drop (at + size) ws) (from + (at + size))
+        ≡ vertexRun size cap types deg (count - i) (drop at ws) (from + at)
+    unfolding vertexRun
+    vertex-go h = rw (left, first-at ws at, word-at ws at 1, ← good, le-ltb g 3 h, drop-drop size at ws, along size)
+
+  pub marks-go : (size : ℕ) (deg : List ℕ) → vertexMarks size (set deg (getD ws at 0) 1) (count - (i + 1)) (drop (at + size) ws) ≡ vertexMarks size deg (count - i) (drop at ws)
+  unfolding vertexMarks
+  marks-go size deg =
+      rw left
+      (ap₂ (λ (d l : List ℕ). vertexMarks size d (count - (i + 1)) l) (ap (λ (n : ℕ). set deg n 1) (sym (first-at ws at))) (sym (drop-drop size at ws)))
+
+  module _ (cap types : ℕ) (deg own : List ℕ) (g : ℕ) (good : g ≡ edgeGood cap types deg own ws at) where
+    here : edgeGood cap types deg own (drop at ws) 0 ≡ g
+    here = rw (first-at ws at, word-at ws at 1, word-at ws at 2, word-at ws at 3, word-at ws at 4, word-at ws at 5) (sym good)
+
+    pub edge-stop : g < 6 → BadRecord (from + at + g) ≡ edgeRun cap types deg own (count - i) (drop at ws) (from + at)
+    unfolding edgeRun
+    edge-stop h = rw (left, here, lt-ltb g 6 h)
+
+    pub edge-go : 6 ≤ g →
+        edgeRun cap types (edgeEnds ws at deg) (edgeOwned ws at own) (count - (i + 1)) (drop (at + 6) ws) (from + (at + 6))
+        ≡ edgeRun cap types deg own (count - i) (drop at ws) (from + at)
+    unfolding edgeRun
+    edge-go h = rw (left, here, le-ltb g 6 h, first-at ws at, word-at ws at 1, word-at ws at 2, drop-drop 6 at ws, along 6)
+
+  ends-here : (deg : List ℕ) → edgeEnds ws at deg ≡ edgeEnds (drop at ws) 0 deg
+  ends-here deg = rw (← word-at ws at 1, ← word-at ws at 2)
+
+  owned-here : (own : List ℕ) → edgeOwned ws at own ≡ edgeOwned (drop at ws) 0 own
+  owned-here own = rw (← first-at ws at, ← word-at ws at 1, ← word-at ws at 2)
+
+  pub degrees-go : (deg : List ℕ) → edgeDegrees (edgeEnds ws at deg) (count - (i + 1)) (drop (at + 6) ws) ≡ edgeDegrees deg (count - i) (drop at ws)
+  unfolding edgeDegrees
+  degrees-go deg = rw left (ap₂ (λ (d l : List ℕ). edgeDegrees d (count - (i + 1)) l) (ends-here deg) (sym (drop-drop 6 at ws)))
+
+  pub owners-go : (own : List ℕ) → edgeOwners (edgeOwned ws at own) (count - (i + 1)) (drop (at + 6) ws) ≡ edgeOwners own (count - i) (drop at ws)
+  unfolding edgeOwners
+  owners-go own = rw left (ap₂ (λ (o l : List ℕ). edgeOwners o (count - (i + 1)) l) (owned-here own) (sym (drop-drop 6 at ws)))
+
+-- ---- the end of a loop over records
+
+module _ (count i : ℕ) (ws : List ℕ) (at : ℕ) (over : count ≤ i) where
+  none : count - i ≡ 0
+  none = omega arith
+
+  pub vertex-end : (size cap types : ℕ) (deg : List ℕ) → (vertexRun size cap types deg (count - i) ws at ≡ Sound) × (vertexMarks size deg (count - i) ws ≡ deg)
+  unfolding vertexRun vertexMarks
+  vertex-end size cap types deg = (rw none, rw none)
+
+  pub edge-end : (cap types : ℕ) (deg own : List ℕ) →
+      (edgeRun cap types deg own (count - i) ws at ≡ Sound) × (edgeDegrees deg (count - i) ws ≡ deg) × (edgeOwners own (count - i) ws ≡ own)
+  unfolding edgeRun edgeDegrees edgeOwners
+  edge-end cap types deg own = (rw none, rw none, rw none)
+
+-- a good edge record's number is within the capacity
+good-number : (cap types : ℕ) (f a o : Bool) (n t k d : ℕ) → 6 ≤ goodEdge cap types f a o n t k d → n ≤ cap
+unfolding goodEdge
+good-number cap types f a o n t k d h = go (leb 1 n) (leb n cap) refl h
+  where
+    go : (x y : Bool) → leb n cap ≡ y →
+        6 ≤ (not ((x && y) && f) ⇒ 0 else not a ⇒ 1 else not o ⇒ 2 else not (ltb t types) ⇒ 3 else not (leb k 2) ⇒ 4 else not (isReading k d) ⇒ 5 else 6) → n ≤ cap
+    go true true e h = leb-true n cap e
+    go true false e h = absurd (omega arith)
+    go false y e h = absurd (omega arith)
+
+pub good-at : (cap types : ℕ) (deg own ws : List ℕ) (at g : ℕ) → g ≡ edgeGood cap types deg own ws at → 6 ≤ g → getD ws at 0 ≤ cap
+good-at cap types deg own ws at g e h = good-number cap types _ _ _ (getD ws at 0) _ _ _ (subst (λ (k : ℕ). 6 ≤ k) e h)
+
+pub no-bad : {k : ℕ} → BadRecord k ≡ Sound → ⊥
+no-bad e = let z : _≡_ {A = ℕ} 0 1 = cc in omega arith
+
+-- ---- one vertex's list
+
+step-at : (ws : List ℕ) (i : ℕ) → i < length ws → drop i ws ≡ getD ws i 0 ∷ drop (i + 1) ws
+step-at ws i h = let f : suc i ≡ i + 1 = omega arith in drop-cons ws i 0 h ∙ ap (λ (k : ℕ). getD ws i 0 ∷ drop k ws) f
+
+module _ (v d k i : ℕ) (own ws : List ℕ) (turn : k < d) where
+  more-left : d - k ≡ suc (d - (k + 1))
+  more-left = omega arith
+
+  pub list-end : length ws ≤ i → listRun v (d - k) own (drop i ws) ≡ 0
+  unfolding listRun
+  list-end h = rw (more-left, drop-of-length-le ws h)
+
+  pub list-miss : i < length ws → (getD own (getD ws i 0) 0 ≡ v → ⊥) → listRun v (d - k) own (drop i ws) ≡ 0
+  unfolding listRun
+  list-miss h n = rw (more-left, step-at ws i h, ne-eqb (getD own (getD ws i 0) 0) v n)
+
+  pub list-hit : i < length ws → getD own (getD ws i 0) 0 ≡ v → listRun v (d - k) own (drop i ws) ≡ suc (listRun v (d - (k + 1)) (set own (getD ws i 0) 0) (drop (i + 1) ws))
+  unfolding listRun
+  list-hit h y = rw (more-left, step-at ws i h, eq-eqb (getD own (getD ws i 0) 0) v y)
+
+  pub list-owners : i < length ws → listOwners (d - k) own (drop i ws) ≡ listOwners (d - (k + 1)) (set own (getD ws i 0) 0) (drop (i + 1) ws)
+  unfolding listOwners
+  list-owners h = rw (more-left, step-at ws i h)
+
+pub list-done : (v d k : ℕ) (own ws : List ℕ) → d ≤ k → (listRun v (d - k) own ws ≡ 0) × (listOwners (d - k) own ws ≡ own)
+unfolding listRun listOwners
+list-done v d k own ws h = let e : d - k ≡ 0 = omega arith in (rw e, rw e)
+
+pub list-le : (v d : ℕ) (own ws : List ℕ) → (listRun v d own ws ≤ d) × (listRun v d own ws ≤ length ws)
+unfolding listRun
+list-le v zero own ws = (omega arith, omega arith)
+list-le v (suc d) own [] = (omega arith, omega arith)
+list-le v (suc d) own (w ∷ ws) = go (list-le v d (set own w 0) ws) (getD own w 0 == v)
+  where
+    go : (listRun v d (set own w 0) ws ≤ d) × (listRun v d (set own w 0) ws ≤ length ws) → (t : Bool) →
+        ((t ⇒ suc (listRun v d (set own w 0) ws) else 0) ≤ suc d) × ((t ⇒ suc (listRun v d (set own w 0) ws) else 0) ≤ suc (length ws))
+    go ih true = (omega arith, omega arith)
+    go ih false = (omega arith, omega arith)
+
+-- ---- the incidence part
+
+module _ (size : ℕ) (deg own : List ℕ) (count i : ℕ) (vs ws : List ℕ) (from row at d g : ℕ) (turn : i < count) (deg-at : d ≡ getD deg (getD vs row 0) 0 - 1)
+    (good : g ≡ listRun (getD vs row 0) d own (drop at ws)) where
+  rows-left : count - i ≡ suc (count - (i + 1))
+  rows-left = omega arith
+
+  farther : from + at + d ≡ from + (at + d)
+  farther = omega arith
+
+  pub incidence-stop : g < d → BadIncidence (from + at + g) ≡ incidenceRun size deg own (count - i) (drop row vs) (drop at ws) (from + at)
+  unfolding incidenceRun
+  incidence-stop h = rw (rows-left, first-at vs row, ← deg-at, ← good, lt-ltb g d h)
+
+  pub incidence-go : d ≤ g →
+      incidenceRun size deg (listOwners d own (drop at ws)) (count - (i + 1)) (drop (row + size) vs) (drop (at + d) ws) (from + (at + d))
+      ≡ incidenceRun size deg own (count - i) (drop row vs) (drop at ws) (from + at)
+  unfolding incidenceRun
+  incidence-go h = rw (rows-left, first-at vs row, ← deg-at, ← good, le-ltb g d h, drop-drop size row vs, drop-drop d at ws, farther)
+
+module _ (size : ℕ) (deg own : List ℕ) (count i : ℕ) (vs ws : List ℕ) (k at : ℕ) (over : count ≤ i) where
+  rows-none : count - i ≡ 0
+  rows-none = omega arith
+
+  pub incidence-more : k < length ws → BadIncidence at ≡ incidenceRun size deg own (count - i) vs (drop k ws) at
+  unfolding incidenceRun
+  incidence-more m = rw (rows-none, drop-cons ws k 0 m)
+
+  pub incidence-done : length ws ≤ k → Sound ≡ incidenceRun size deg own (count - i) vs (drop k ws) at
+  unfolding incidenceRun
+  incidence-done m = rw (rows-none, drop-of-length-le ws m)
+
+-- ---- bounds of the counts
+
+below-set : (k : ℕ) (s : List ℕ) (v x : ℕ) → Below k s → x ≤ k → Below k (set s v x)
+below-set k [] v x b h i = b i
+below-set k (a ∷ s) zero x b h zero = h
+below-set k (a ∷ s) zero x b h (suc i) = b (suc i)
+below-set k (a ∷ s) (suc v) x b h zero = b zero
+below-set k (a ∷ s) (suc v) x b h (suc i) = below-set k s v x (λ j. b (suc j)) h i
+
+pub below-more : (k m : ℕ) (s : List ℕ) → k ≤ m → Below k s → Below m s
+below-more k m s h b i = omega (arith, b i)
+
+pub below-bump : (k : ℕ) (s : List ℕ) (v : ℕ) → Below k s → Below (k + 1) (bumped v s)
+below-bump k s v b = below-set (k + 1) s v (getD s v 0 + 1) (below-more k (k + 1) s (omega arith) b) (omega (arith, b v))
+
+pub below-ends : (at : ℕ) (s : List ℕ) (a o : ℕ) → Below (1 + at) s → Below (1 + (at + 6)) (ends a o s)
+below-ends at s a o b =
+    below-more (1 + at + 1 + 1) (1 + (at + 6)) (ends a o s) (omega arith) (below-bump (1 + at + 1) (bumped a s) o (below-bump (1 + at) s a b))
+
+below-marks : (size : ℕ) (deg : List ℕ) (k : ℕ) (ws : List ℕ) → Below 1 deg → Below 1 (vertexMarks size deg k ws)
+unfolding vertexMarks
+below-marks size deg zero ws b = b
+below-marks size deg (suc k) ws b = below-marks size (set deg (getD ws 0 0) 1) k (drop size ws) (below-set 1 deg (getD ws 0 0) 1 b (omega arith))
+
+below-zeros : (n k : ℕ) → Below k (replicate n 0)
+below-zeros zero k i = omega arith
+below-zeros (suc n) k zero = omega arith
+below-zeros (suc n) k (suc i) = below-zeros n k i
+
+-- ---- what the code read and wrote, as the words that stand there
+
+pub bump-by : (s t : List ℕ) (i x : ℕ) → x ≡ getD s i 0 → t ≡ set s i (x + 1) → t ≡ bumped i s
+bump-by s t i x e f = cc
+
+pub ends-by : (deg d d′ : List ℕ) (a o x y : ℕ) → x ≡ a → d ≡ bumped x deg → y ≡ o → d′ ≡ bumped y d → d′ ≡ ends a o deg
+ends-by deg d d′ a o x y e f g h = cc
+
+pub owned-by : (own s s′ : List ℕ) (n a o m : ℕ) → m ≡ n → s ≡ set own (2 * m) a → s′ ≡ set s (2 * m + 1) o → s′ ≡ owned n a o own
+owned-by own s s′ n a o m e f g = cc
+
+pub edge-ends-by : (deg d ws : List ℕ) (at a o : ℕ) → a ≡ getD ws (at + 1) 0 → o ≡ getD ws (at + 2) 0 → d ≡ ends a o deg → d ≡ edgeEnds ws at deg
+edge-ends-by deg d ws at a o e f g = cc
+
+pub edge-owned-by : (own s ws : List ℕ) (at n a o : ℕ) → n ≡ getD ws at 0 → a ≡ getD ws (at + 1) 0 → o ≡ getD ws (at + 2) 0 → s ≡ owned n a o own → s ≡ edgeOwned ws at own
+edge-owned-by own s ws at n a o e f g h = cc
+
+-- no count is above 1 once the vertices are marked
+pub below-marked : (d : List ℕ) (n size k : ℕ) (ws : List ℕ) → d ≡ vertexMarks size (replicate n 0) k ws → Below 1 d
+below-marked d n size k ws e = subst (λ (l : List ℕ). Below 1 l) (sym e) (below-marks size (replicate n 0) k ws (below-zeros n 1))
+
+pub edge-by : (cap types : ℕ) (deg own ws : List ℕ) (at n m f a fa o fo t k d r : ℕ) →
+    n ≡ getD ws at 0 → m ≡ n → f ≡ getD own (2 * m) 0 → a ≡ getD ws (at + 1) 0 → fa ≡ getD deg a 0 → o ≡ getD ws (at + 2) 0 → fo ≡ getD deg o 0 →
+    t ≡ getD ws (at + 3) 0 → k ≡ getD ws (at + 4) 0 → d ≡ getD ws (at + 5) 0 →
+    r ≡ goodEdge cap types (eqb f 0) (ltb 0 fa) (ltb 0 fo) n t k d → r ≡ edgeGood cap types deg own ws at
+edge-by cap types deg own ws at n m f a fa o fo t k d r e1 e2 e3 e4 e5 e6 e7 e8 e9 e10 e = cc
+
+pub vertex-by : (cap types : ℕ) (deg ws : List ℕ) (at n m f t r : ℕ) → n ≡ getD ws at 0 → m ≡ n → f ≡ getD deg m 0 → t ≡ getD ws (at + 1) 0 →
+    r ≡ goodVertex cap types (eqb f 0) n t → r ≡ goodVertex cap types (eqb (getD deg (getD ws at 0) 0) 0) (getD ws at 0) (getD ws (at + 1) 0)
+vertex-by cap types deg ws at n m f t r e1 e2 e3 e4 e = cc
+
+pub put-by : (deg ws new : List ℕ) (at n m x : ℕ) → n ≡ getD ws at 0 → m ≡ n → new ≡ set deg m x → new ≡ set deg (getD ws at 0) x
+put-by deg ws new at n m x e1 e2 e = cc
+
+pub own-by : (own ws : List ℕ) (i w x : ℕ) → w ≡ getD ws i 0 → x ≡ getD own w 0 → getD own (getD ws i 0) 0 ≡ x
+own-by own ws i w x e f = cc
+
+pub degree-by : (deg vs : List ℕ) (i v m x d : ℕ) → v ≡ getD vs i 0 → m ≡ v → x ≡ getD deg m 0 → d ≡ x - 1 → d ≡ getD deg (getD vs i 0) 0 - 1
+degree-by deg vs i v m x d e1 e2 e3 e = cc
+
+pub list-by : (own vs rest : List ℕ) (i v d g : ℕ) → v ≡ getD vs i 0 → g ≡ listRun v d own rest → g ≡ listRun (getD vs i 0) d own rest
+list-by own vs rest i v d g e f = cc

@@ -1,0 +1,150 @@
+-- Laws of verdicts: what a sound one says of its steps, and that any other one stops the check.
+use Prim.Native.Nat.{ℕ, _+_, _≤_}
+use mathlib.Core.Path.{_≡_, refl}
+use mathlib.Core.Logic.{⊎-elim}
+use mathlib.Core.Bool.{Bool, true, false, not, _&&_}
+use mathlib.Core.List.{List, [], _∷_}
+use native.Mathlib.Omega.{arith}
+use types.Run.{OneOf}
+use denote.Enum.Declared.{tagOf}
+use lib.Dec.{leb, ltb}
+use borrow.Author.Tests.{ltb-false}
+use Rattle.lists.specs.Choice.{_⇒_else_, within}
+use Rattle.graph.specs.Graph.{isReading}
+use Rattle.image.proofs.Verdict.{the-type}
+use Rattle.image.specs.Checks.{codeOf, goodVertex, goodEdge, recordAt, ended, listAt, andThen}
+use Rattle.image.specs.declared.Verdict.{Verdict}
+use Rattle.image.specs.declared.Verdict.the-variants.{Sound, BadHeader, BadRecord, BadIncidence}
+
+-- ---- not sound
+
+pub record-not : {k : ℕ} → BadRecord k ≡ Sound → ⊥
+record-not e = let z : _≡_ {A = ℕ} 0 1 = cc in omega arith
+
+incidence-not : {k : ℕ} → BadIncidence k ≡ Sound → ⊥
+incidence-not e = let z : _≡_ {A = ℕ} 0 1 = cc in omega arith
+
+pub header-not : BadHeader ≡ Sound → ⊥
+header-not e = let z : _≡_ {A = ℕ} 0 1 = cc in omega arith
+
+sound-not : OneOf (1 ∷ 2 ∷ 3 ∷ []) (tagOf the-type Sound) → ⊥
+sound-not k = ⊎-elim (λ (e : 0 ≡ 1). omega arith) (λ w. ⊎-elim (λ (e : 0 ≡ 2). omega arith) (λ (e : 0 ≡ 3). omega arith) w) k
+
+pub stop : (r x : Verdict) → OneOf (1 ∷ 2 ∷ 3 ∷ []) (tagOf the-type r) → r ≡ andThen r x
+stop Sound x k = absurd (sound-not k)
+stop BadHeader x k = refl
+stop (BadRecord at) x k = refl
+stop (BadIncidence at) x k = refl
+
+-- ---- steps
+
+pub record-same : (size at g : ℕ) (x y : Verdict) → (size ≤ g → x ≡ y) → recordAt size at g x ≡ recordAt size at g y
+record-same size at g x y h = go (ltb g size) refl
+  where
+    go : (t : Bool) → ltb g size ≡ t → (t ⇒ BadRecord (at + g) else x) ≡ (t ⇒ BadRecord (at + g) else y)
+    go true e = refl
+    go false e = h (ltb-false g size e)
+
+pub record-sound : (size at g : ℕ) (x : Verdict) → recordAt size at g x ≡ Sound → (size ≤ g) × (x ≡ Sound)
+record-sound size at g x h = go (ltb g size) refl h
+  where
+    go : (t : Bool) → ltb g size ≡ t → (t ⇒ BadRecord (at + g) else x) ≡ Sound → (size ≤ g) × (x ≡ Sound)
+    go true e h = absurd (record-not h)
+    go false e h = (ltb-false g size e, h)
+
+pub list-same : (d at g : ℕ) (x y : Verdict) → (d ≤ g → x ≡ y) → listAt d at g x ≡ listAt d at g y
+list-same d at g x y h = go (ltb g d) refl
+  where
+    go : (t : Bool) → ltb g d ≡ t → (t ⇒ BadIncidence (at + g) else x) ≡ (t ⇒ BadIncidence (at + g) else y)
+    go true e = refl
+    go false e = h (ltb-false g d e)
+
+pub list-sound : (d at g : ℕ) (x : Verdict) → listAt d at g x ≡ Sound → (d ≤ g) × (x ≡ Sound)
+list-sound d at g x h = go (ltb g d) refl h
+  where
+    go : (t : Bool) → ltb g d ≡ t → (t ⇒ BadIncidence (at + g) else x) ≡ Sound → (d ≤ g) × (x ≡ Sound)
+    go true e h = absurd (incidence-not h)
+    go false e h = (ltb-false g d e, h)
+
+pub ended-nil : (ws : List ℕ) (at : ℕ) → ended ws at ≡ Sound → ws ≡ []
+ended-nil [] at h = refl
+ended-nil (w ∷ ws) at h = absurd (incidence-not h)
+
+pub then-same : (r x y : Verdict) → (r ≡ Sound → x ≡ y) → andThen r x ≡ andThen r y
+then-same Sound x y h = h refl
+then-same BadHeader x y h = refl
+then-same (BadRecord at) x y h = refl
+then-same (BadIncidence at) x y h = refl
+
+pub then-sound : (r x : Verdict) → andThen r x ≡ Sound → (r ≡ Sound) × (x ≡ Sound)
+then-sound Sound x h = (refl, h)
+then-sound BadHeader x h = absurd (header-not h)
+then-sound (BadRecord at) x h = absurd (record-not h)
+then-sound (BadIncidence at) x h = absurd (incidence-not h)
+
+-- the code of a verdict that is sound exactly where a test holds
+pub code-by : (r : Verdict) (t : Bool) → (r ≡ Sound → t ≡ true) → (t ≡ true → r ≡ Sound) → codeOf r ≡ (t ⇒ 0 else 105)
+code-by Sound t f g = rw (f refl)
+code-by BadHeader true f g = absurd (header-not (g refl))
+code-by BadHeader false f g = refl
+code-by (BadRecord at) true f g = absurd (record-not (g refl))
+code-by (BadRecord at) false f g = refl
+code-by (BadIncidence at) true f g = absurd (incidence-not (g refl))
+code-by (BadIncidence at) false f g = refl
+
+-- what a caller of the check learns of the test, by whether the verdict is sound
+pub code-sound : (r : Verdict) (t : Bool) → r ≡ Sound → codeOf r ≡ (t ⇒ 0 else 105) → t ≡ true
+code-sound Sound true e h = refl
+code-sound Sound false e h = absurd (omega arith)
+code-sound BadHeader t e h = absurd (header-not e)
+code-sound (BadRecord at) t e h = absurd (record-not e)
+code-sound (BadIncidence at) t e h = absurd (incidence-not e)
+
+pub code-bad : (r : Verdict) (t : Bool) → OneOf (1 ∷ 2 ∷ 3 ∷ []) (tagOf the-type r) → codeOf r ≡ (t ⇒ 0 else 105) → t ≡ false
+code-bad Sound t k h = absurd (sound-not k)
+code-bad BadHeader true k h = absurd (omega arith)
+code-bad BadHeader false k h = refl
+code-bad (BadRecord at) true k h = absurd (omega arith)
+code-bad (BadRecord at) false k h = refl
+code-bad (BadIncidence at) true k h = absurd (omega arith)
+code-bad (BadIncidence at) false k h = refl
+
+-- ---- what a whole good record says
+
+pub record VertexOk (cap types : ℕ) (fresh : Bool) (n t : ℕ) : Type 0 where
+  pub number : within 1 cap n ≡ true
+  pub new : fresh ≡ true
+  pub type : ltb t types ≡ true
+
+pub vertex-ok : (cap types : ℕ) (fresh : Bool) (n t : ℕ) → 3 ≤ goodVertex cap types fresh n t → VertexOk cap types fresh n t
+unfolding goodVertex
+vertex-ok cap types fresh n t h = go (within 1 cap n) fresh (ltb t types) refl refl refl h
+  where
+    go : (x y z : Bool) → within 1 cap n ≡ x → fresh ≡ y → ltb t types ≡ z → 3 ≤ (not (x && y) ⇒ 0 else z ⇒ 3 else 1) → VertexOk cap types fresh n t
+    go true true true e f g h = record { number = e; new = f; type = g }
+    go true true false e f g h = absurd (omega arith)
+    go true false z e f g h = absurd (omega arith)
+    go false y z e f g h = absurd (omega arith)
+
+pub record EdgeOk (cap types : ℕ) (fresh from to : Bool) (n t k d : ℕ) : Type 0 where
+  pub number : within 1 cap n ≡ true
+  pub new : fresh ≡ true
+  pub starts : from ≡ true
+  pub stops : to ≡ true
+  pub type : ltb t types ≡ true
+  pub reading : isReading k d ≡ true
+
+pub edge-ok : (cap types : ℕ) (fresh from to : Bool) (n t k d : ℕ) → 6 ≤ goodEdge cap types fresh from to n t k d → EdgeOk cap types fresh from to n t k d
+unfolding goodEdge
+edge-ok cap types fresh from to n t k d h = go (within 1 cap n) fresh from to (ltb t types) (leb k 2) (isReading k d) refl refl refl refl refl refl h
+  where
+    go : (x y a b z u v : Bool) → within 1 cap n ≡ x → fresh ≡ y → from ≡ a → to ≡ b → ltb t types ≡ z → isReading k d ≡ v →
+        6 ≤ (not (x && y) ⇒ 0 else not a ⇒ 1 else not b ⇒ 2 else not z ⇒ 3 else not u ⇒ 4 else not v ⇒ 5 else 6) → EdgeOk cap types fresh from to n t k d
+    go true true true true true true true e1 e2 e3 e4 e5 e6 h = record { number = e1; new = e2; starts = e3; stops = e4; type = e5; reading = e6 }
+    go true true true true true true false e1 e2 e3 e4 e5 e6 h = absurd (omega arith)
+    go true true true true true false v e1 e2 e3 e4 e5 e6 h = absurd (omega arith)
+    go true true true true false u v e1 e2 e3 e4 e5 e6 h = absurd (omega arith)
+    go true true true false z u v e1 e2 e3 e4 e5 e6 h = absurd (omega arith)
+    go true true false b z u v e1 e2 e3 e4 e5 e6 h = absurd (omega arith)
+    go true false a b z u v e1 e2 e3 e4 e5 e6 h = absurd (omega arith)
+    go false y a b z u v e1 e2 e3 e4 e5 e6 h = absurd (omega arith)

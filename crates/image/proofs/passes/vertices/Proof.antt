@@ -1,0 +1,136 @@
+-- The invariant: what the rest of the records says is what all of them say.
+use Prim.Native.Nat.{_+_, _-_, _*_, _≤_}
+use mathlib.Core.Path.{_≡_, refl, sym, _∙_}
+use native.Mathlib.Omega.{arith}
+use borrow.Author.Needs.{needs}
+use lib.ListN.{length, drop}
+use Rattle.image.specs.Scratch.{vertexRun, vertexMarks}
+use Rattle.image.proofs.Turns.{vertex-stop, vertex-go, marks-go, vertex-end, vertex-by, put-by, no-bad}
+use Rattle.image.proofs.passes.vertices.Statement.{statement}
+use Rattle.image.proofs.passes.vertices.Tie as tie
+
+abbrev Inv-loop : tie.InvT-loop
+Inv-loop part size count deg₀ cap types i₀ at₀ deg i at =
+    (i ≤ count) × (at ≤ 4 * i) × (length deg ≡ length deg₀)
+    × (vertexRun size cap types deg (count - i) (drop at part) (6 + at) ≡ vertexRun size cap types deg₀ count part 6)
+    × (vertexMarks size deg (count - i) (drop at part) ≡ vertexMarks size deg₀ count part)
+
+abbrev μ-loop : tie.MeasureT-loop
+μ-loop part size count deg₀ cap types i₀ at₀ deg i at = count - i
+
+loop-holds : tie.Need-loop-holds Inv-loop μ-loop
+loop-holds c = let e : c .before .before .args .count - 0 ≡ c .before .before .args .count = omega arith in (omega arith, omega arith, refl, rw e, rw e)
+
+get-requires : tie.Need-get-requires Inv-loop μ-loop
+get-requires c κs = search needs
+
+add-get : tie.Need-add-get Inv-loop μ-loop
+add-get c = omega arith
+
+get-requires-2 : tie.Need-get-requires-2 Inv-loop μ-loop
+get-requires-2 c κs = search needs
+
+wide-requires : tie.Need-wide-requires Inv-loop μ-loop
+wide-requires c κs = search needs
+
+get-requires-3 : tie.Need-get-requires-3 Inv-loop μ-loop
+get-requires-3 c κs = search needs
+
+good-vertex-requires : tie.Need-good-vertex-requires Inv-loop μ-loop
+good-vertex-requires c κs = search needs
+
+cast-t18 : tie.Need-cast-t18 Inv-loop μ-loop
+cast-t18 c = omega arith
+
+add-t19 : tie.Need-add-t19 Inv-loop μ-loop
+add-t19 c = omega arith
+
+add-t20 : tie.Need-add-t20 Inv-loop μ-loop
+add-t20 c = omega arith
+
+same-length : tie.Need-same-length Inv-loop μ-loop
+same-length c = search needs
+
+returns : tie.Need-returns Inv-loop μ-loop
+returns c =
+    let a = c .before .before .before .before .before .before .before .before .before .before .before .args in
+    let l = c .before .before .before .before .before .before .before .before .loop in
+    let n = c .before .before .before .before .before .before .get in
+    let t = c .before .before .before .before .before .get2 in
+    let w = c .before .before .before .wide in
+    let f = c .before .before .get3 in
+    let g = c .before .good-vertex in
+    let good = vertex-by (a .cap) (a .types) (l .deg) (a .part .now) (l .at) (n .result) (w .result) (f .result) (t .result) (g .result) (n .ensures) (w .ensures .0) (f .ensures) (t .ensures) (g .ensures) in
+    (vertex-stop (a .count) (l .i) (a .part .now) 6 (l .at) (omega arith) (a .size) (a .cap) (a .types) (l .deg) (g .result) good (c .if1 .taken) ∙ l .inv .3, λ e. absurd (no-bad e))
+
+wide-requires-2 : tie.Need-wide-requires-2 Inv-loop μ-loop
+wide-requires-2 c κs = search needs
+
+put-requires : tie.Need-put-requires Inv-loop μ-loop
+put-requires c κs = search needs
+
+add-at : tie.Need-add-at Inv-loop μ-loop
+add-at c = omega arith
+
+add-i : tie.Need-add-i Inv-loop μ-loop
+add-i c = omega arith
+
+loop-less : tie.Need-loop-less Inv-loop μ-loop
+loop-less c = omega arith
+
+loop-again : tie.Need-loop-again Inv-loop μ-loop
+loop-again c =
+    let a = c .before .before .before .before .before .before .before .before .before .before .before .before .before .before .before .before .args in
+    let l = c .before .before .before .before .before .before .before .before .before .before .before .before .before .loop in
+    let n = c .before .before .before .before .before .before .before .before .before .before .before .get in
+    let t = c .before .before .before .before .before .before .before .before .before .before .get2 in
+    let w = c .before .before .before .before .before .before .before .before .wide in
+    let f = c .before .before .before .before .before .before .before .get3 in
+    let g = c .before .before .before .before .before .before .good-vertex in
+    let u = c .before .before .before .wide2 in
+    let p = c .before .before .put in
+    let good = vertex-by (a .cap) (a .types) (l .deg) (a .part .now) (l .at) (n .result) (w .result) (f .result) (t .result) (g .result) (n .ensures) (w .ensures .0) (f .ensures) (t .ensures) (g .ensures) in
+    let new = put-by (l .deg) (a .part .now) (p .last .0) (l .at) (n .result) (u .result) 1 (n .ensures) (u .ensures .0) (p .ensures) in (
+      omega arith,
+      omega (arith, l .inv .1, c .before .before .before .before .before .before .before .before .before .before .before .before .before .before .before .before .pre .0),
+      omega (arith, p .kept),
+      rw new (vertex-go (a .count) (l .i) (a .part .now) 6 (l .at) (omega arith) (a .size) (a .cap) (a .types) (l .deg) (g .result) good (c .before .before .before .before .before .if1 .left) ∙ l .inv .3),
+      rw new (marks-go (a .count) (l .i) (a .part .now) 6 (l .at) (omega arith) (a .size) (l .deg) ∙ l .inv .4),
+    )
+
+same-length-2 : tie.Need-same-length-2 Inv-loop μ-loop
+same-length-2 c = search needs
+
+returns-2 : tie.Need-returns-2 Inv-loop μ-loop
+returns-2 c =
+    let a = c .before .before .before .before .args in
+    let l = c .before .loop in
+    let e = vertex-end (a .count) (l .i) (drop (l .at) (a .part .now)) (6 + l .at) (omega arith) (a .size) (a .cap) (a .types) (l .deg) in
+    (sym (e .0) ∙ l .inv .3, λ q. sym (e .1) ∙ l .inv .4)
+
+pub vertices-spec : {M : Type 1} → statement M
+vertices-spec =
+    tie.close
+    (tie.spec
+    Inv-loop
+    μ-loop
+    loop-holds
+    get-requires
+    add-get
+    get-requires-2
+    wide-requires
+    get-requires-3
+    good-vertex-requires
+    cast-t18
+    add-t19
+    add-t20
+    same-length
+    returns
+    wide-requires-2
+    put-requires
+    add-at
+    add-i
+    loop-less
+    loop-again
+    same-length-2
+    returns-2)

@@ -1,0 +1,113 @@
+-- What a check says of words: sound, or where the first word stands that cannot follow the words before it.
+use Prim.Native.Nat.{ℕ, zero, suc, _+_, _*_}
+use mathlib.Core.Bool.{Bool, true, false, not, _&&_}
+use mathlib.Core.List.{List, [], _∷_}
+use lib.ListN.{length, getD, drop}
+use lib.Dec.{leb, ltb}
+use Rattle.lists.specs.Choice.{_⇒_else_, _==_, within}
+use Rattle.lists.specs.Lists.{has}
+use Rattle.lists.specs.Keyed.{rem}
+use Rattle.graph.specs.Graph.{Edge, wd, isReading}
+use Rattle.graph.specs.WellFormed.{Bounds, wordsAt}
+use Rattle.image.specs.Image.{vertexSize, edgeSize, vertexOffset, edgeOffset, incidenceOffset, vertexCount, edgeCount, soundHeader, vertexPart, edgePart, incidencePart, edgesFrom, loadable}
+use Rattle.image.specs.declared.Verdict.{Verdict}
+use Rattle.image.specs.declared.Verdict.the-variants.{Sound, BadHeader, BadRecord, BadIncidence}
+
+-- code 105, "start chart not loadable": of a verdict, and of words
+abbrev pub codeOf : Verdict → ℕ
+codeOf Sound = 0
+codeOf BadHeader = 105
+codeOf (BadRecord at) = 105
+codeOf (BadIncidence at) = 105
+
+abbrev pub loadCode : Bounds → List ℕ → ℕ
+loadCode b ws = loadable b ws ⇒ 0 else 105
+
+abbrev pub bounds : ℕ → ℕ → ℕ → Bounds
+bounds vertices edges types = record { vertices = vertices; edges = edges; types = types }
+
+-- ---- one record
+
+-- how many words a vertex record begins with are sound: 3 is all
+unfoldable pub goodVertex : ℕ → ℕ → Bool → ℕ → ℕ → ℕ
+goodVertex cap types fresh n t = not (within 1 cap n && fresh) ⇒ 0 else ltb t types ⇒ 3 else 1
+
+-- how many words an edge record begins with are sound: 6 is all
+unfoldable pub goodEdge : ℕ → ℕ → Bool → Bool → Bool → ℕ → ℕ → ℕ → ℕ → ℕ
+goodEdge cap types fresh from to n t k d =
+    not (within 1 cap n && fresh) ⇒ 0 else not from ⇒ 1 else not to ⇒ 2 else not (ltb t types) ⇒ 3
+    else not (leb k 2) ⇒ 4 else not (isReading k d) ⇒ 5 else 6
+
+-- a record at `at` of which `good` words of `size` are sound, and what the rest says
+abbrev pub recordAt : ℕ → ℕ → ℕ → Verdict → Verdict
+recordAt size at good rest = ltb good size ⇒ BadRecord (at + good) else rest
+
+-- ---- the parts
+
+-- k vertex records of size words in turn; seen has the numbers before
+unfoldable pub vertexWalk : ℕ → ℕ → ℕ → List ℕ → ℕ → List ℕ → ℕ → Verdict
+unfolding goodVertex
+vertexWalk size cap types seen zero ws at = Sound
+vertexWalk size cap types seen (suc k) ws at =
+    recordAt 3 at (goodVertex cap types (not (has (getD ws 0 0) seen)) (getD ws 0 0) (getD ws 1 0))
+    (vertexWalk size cap types (getD ws 0 0 ∷ seen) k (drop size ws) (at + size))
+
+-- the numbers of k records of size words
+unfoldable pub numbersIn : ℕ → ℕ → List ℕ → List ℕ
+numbersIn size zero ws = []
+numbersIn size (suc k) ws = getD ws 0 0 ∷ numbersIn size k (drop size ws)
+
+-- k edge records in turn; vs has the vertices' numbers, seen the edges' numbers before
+unfoldable pub edgeWalk : ℕ → ℕ → List ℕ → List ℕ → ℕ → List ℕ → ℕ → Verdict
+unfolding goodEdge
+edgeWalk cap types vs seen zero ws at = Sound
+edgeWalk cap types vs seen (suc k) ws at =
+    recordAt 6 at
+    (goodEdge cap types (not (has (getD ws 0 0) seen)) (has (getD ws 1 0) vs) (has (getD ws 2 0) vs) (getD ws 0 0) (getD ws 3 0) (getD ws 4 0) (getD ws 5 0))
+    (edgeWalk cap types vs (getD ws 0 0 ∷ seen) k (drop edgeSize ws) (at + edgeSize))
+
+-- how many words are in turn among those still wanted, until none is
+unfoldable pub goodList : ℕ → List ℕ → List ℕ → ℕ
+goodList zero wanted ws = 0
+goodList (suc d) wanted [] = 0
+goodList (suc d) wanted (w ∷ ws) = has w wanted ⇒ suc (goodList d (rem wd w wanted) ws) else 0
+
+-- words behind the last list
+abbrev pub ended : List ℕ → ℕ → Verdict
+ended [] at = Sound
+ended (w ∷ ws) at = BadIncidence at
+
+-- a list at `at` of which `good` words of d are sound, and what the rest says
+abbrev pub listAt : ℕ → ℕ → ℕ → Verdict → Verdict
+listAt d at good rest = ltb good d ⇒ BadIncidence (at + good) else rest
+
+-- the list of each vertex in turn
+unfoldable pub listWalk : List Edge → List ℕ → List ℕ → ℕ → Verdict
+unfolding goodList wordsAt
+listWalk es [] ws at = ended ws at
+listWalk es (v ∷ vs) ws at =
+    listAt (length (wordsAt es v)) at (goodList (length (wordsAt es v)) (wordsAt es v) ws)
+    (listWalk es vs (drop (length (wordsAt es v)) ws) (at + length (wordsAt es v)))
+
+-- ---- the whole
+
+-- counts within the capacities, and no edges without a vertex
+unfoldable pub soundCounts : ℕ → ℕ → ℕ → ℕ → Bool
+soundCounts vcap ecap v e = leb v vcap && (leb e ecap && ((v == 0) ⇒ (e == 0) else true))
+
+abbrev pub andThen : Verdict → Verdict → Verdict
+andThen Sound y = y
+andThen BadHeader y = BadHeader
+andThen (BadRecord at) y = BadRecord at
+andThen (BadIncidence at) y = BadIncidence at
+
+abbrev pub numbersOf : List ℕ → List ℕ
+numbersOf ws = numbersIn vertexSize (vertexCount ws) (vertexPart ws)
+
+unfoldable pub verdict : Bounds → List ℕ → Verdict
+unfolding soundHeader vertexWalk numbersIn edgeWalk listWalk soundCounts edgesFrom
+verdict b ws =
+    not (soundHeader ws && soundCounts (b .vertices) (b .edges) (vertexCount ws) (edgeCount ws)) ⇒ BadHeader
+    else andThen (vertexWalk vertexSize (b .vertices) (b .types) [] (vertexCount ws) (vertexPart ws) vertexOffset)
+    (andThen (edgeWalk (b .edges) (b .types) (numbersOf ws) [] (edgeCount ws) (edgePart ws) (edgeOffset (vertexCount ws)))
+    (listWalk (edgesFrom (edgeCount ws) (edgePart ws)) (numbersOf ws) (incidencePart ws) (incidenceOffset (vertexCount ws) (edgeCount ws))))

@@ -1,0 +1,98 @@
+-- The same walks over scratch tables in place of lists: one lookup a word, so that a check is linear.
+-- deg has, for a vertex's number, 1 + its ends so far; own has, for an oriented word, its vertex until the word is used.
+use Prim.Native.Nat.{ℕ, zero, suc, _+_, _*_, _-_, _≤_}
+use mathlib.Core.Bool.{Bool, true, false}
+use mathlib.Core.List.{List, [], _∷_}
+use lib.ListN.{length, getD, drop, set}
+use lib.Dec.{ltb}
+use Rattle.lists.specs.Choice.{_⇒_else_, _==_}
+use Rattle.graph.specs.Graph.{outWord, inWord}
+use Rattle.graph.specs.WellFormed.{Bounds}
+use Rattle.image.specs.Image.{vertexSize, edgeSize, vertexOffset, edgeOffset, incidenceOffset}
+use Rattle.image.specs.Checks.{goodVertex, goodEdge, recordAt, ended, listAt, andThen}
+use Rattle.image.specs.declared.Verdict.{Verdict}
+use Rattle.image.specs.declared.Verdict.the-variants.{Sound, BadHeader, BadRecord, BadIncidence}
+
+-- no word is above k
+abbrev pub Below : ℕ → List ℕ → Type 0
+Below k s = (i : ℕ) → getD s i 0 ≤ k
+
+-- ---- vertices
+
+unfoldable pub vertexRun : ℕ → ℕ → ℕ → List ℕ → ℕ → List ℕ → ℕ → Verdict
+vertexRun size cap types deg zero ws at = Sound
+vertexRun size cap types deg (suc k) ws at =
+    recordAt 3 at (goodVertex cap types (getD deg (getD ws 0 0) 0 == 0) (getD ws 0 0) (getD ws 1 0))
+    (vertexRun size cap types (set deg (getD ws 0 0) 1) k (drop size ws) (at + size))
+
+unfoldable pub vertexMarks : ℕ → List ℕ → ℕ → List ℕ → List ℕ
+vertexMarks size deg zero ws = deg
+vertexMarks size deg (suc k) ws = vertexMarks size (set deg (getD ws 0 0) 1) k (drop size ws)
+
+-- ---- edges
+
+abbrev pub bumped : ℕ → List ℕ → List ℕ
+bumped v deg = set deg v (getD deg v 0 + 1)
+
+abbrev pub ends : ℕ → ℕ → List ℕ → List ℕ
+ends a o deg = bumped o (bumped a deg)
+
+abbrev pub owned : ℕ → ℕ → ℕ → List ℕ → List ℕ
+owned n a o own = set (set own (outWord n) a) (inWord n) o
+
+-- the record at `at`: how many words are sound; its ends counted; its words entered
+abbrev pub edgeGood : ℕ → ℕ → List ℕ → List ℕ → List ℕ → ℕ → ℕ
+edgeGood cap types deg own ws at =
+    goodEdge cap types (getD own (outWord (getD ws at 0)) 0 == 0) (ltb 0 (getD deg (getD ws (at + 1) 0) 0)) (ltb 0 (getD deg (getD ws (at + 2) 0) 0))
+    (getD ws at 0) (getD ws (at + 3) 0) (getD ws (at + 4) 0) (getD ws (at + 5) 0)
+
+abbrev pub edgeEnds : List ℕ → ℕ → List ℕ → List ℕ
+edgeEnds ws at deg = ends (getD ws (at + 1) 0) (getD ws (at + 2) 0) deg
+
+abbrev pub edgeOwned : List ℕ → ℕ → List ℕ → List ℕ
+edgeOwned ws at own = owned (getD ws at 0) (getD ws (at + 1) 0) (getD ws (at + 2) 0) own
+
+unfoldable pub edgeRun : ℕ → ℕ → List ℕ → List ℕ → ℕ → List ℕ → ℕ → Verdict
+edgeRun cap types deg own zero ws at = Sound
+edgeRun cap types deg own (suc k) ws at =
+    recordAt 6 at (edgeGood cap types deg own ws 0)
+    (edgeRun cap types (edgeEnds ws 0 deg) (edgeOwned ws 0 own) k (drop edgeSize ws) (at + edgeSize))
+
+unfoldable pub edgeDegrees : List ℕ → ℕ → List ℕ → List ℕ
+edgeDegrees deg zero ws = deg
+edgeDegrees deg (suc k) ws = edgeDegrees (edgeEnds ws 0 deg) k (drop edgeSize ws)
+
+unfoldable pub edgeOwners : List ℕ → ℕ → List ℕ → List ℕ
+edgeOwners own zero ws = own
+edgeOwners own (suc k) ws = edgeOwners (edgeOwned ws 0 own) k (drop edgeSize ws)
+
+-- ---- incidences
+
+-- how many of the next d words are v's: each counts once
+unfoldable pub listRun : ℕ → ℕ → List ℕ → List ℕ → ℕ
+listRun v zero own ws = 0
+listRun v (suc d) own [] = 0
+listRun v (suc d) own (w ∷ ws) = (getD own w 0 == v) ⇒ suc (listRun v d (set own w 0) ws) else 0
+
+unfoldable pub listOwners : ℕ → List ℕ → List ℕ → List ℕ
+listOwners zero own ws = own
+listOwners (suc d) own [] = own
+listOwners (suc d) own (w ∷ ws) = listOwners d (set own w 0) ws
+
+-- the list of each of k vertex records in turn
+unfoldable pub incidenceRun : ℕ → List ℕ → List ℕ → ℕ → List ℕ → List ℕ → ℕ → Verdict
+unfolding listRun listOwners
+incidenceRun size deg own zero vs ws at = ended ws at
+incidenceRun size deg own (suc k) vs ws at =
+    listAt (getD deg (getD vs 0 0) 0 - 1) at (listRun (getD vs 0 0) (getD deg (getD vs 0 0) 0 - 1) own ws)
+    (incidenceRun size deg (listOwners (getD deg (getD vs 0 0) 0 - 1) own ws) k (drop size vs) (drop (getD deg (getD vs 0 0) 0 - 1) ws)
+    (at + (getD deg (getD vs 0 0) 0 - 1)))
+
+-- ---- the three passes, over the parts of v vertices and e edges
+
+unfoldable pub scratchRun : List ℕ → List ℕ → Bounds → ℕ → ℕ → List ℕ → List ℕ → List ℕ → Verdict
+unfolding vertexRun vertexMarks edgeRun edgeDegrees edgeOwners incidenceRun
+scratchRun deg own b v e vs es is =
+    andThen (vertexRun vertexSize (b .vertices) (b .types) deg v vs vertexOffset)
+    (andThen (edgeRun (b .edges) (b .types) (vertexMarks vertexSize deg v vs) own e es (edgeOffset v))
+    (incidenceRun vertexSize (edgeDegrees (vertexMarks vertexSize deg v vs) e es) (edgeOwners own e es) v vs is (incidenceOffset v e)))

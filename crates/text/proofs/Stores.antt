@@ -1,0 +1,43 @@
+-- Stores one after another.
+use Prim.Native.Nat.{ℕ, suc, _+_, _≤_}
+use mathlib.Core.Path.{_≡_, refl, ap, _∙_, subst}
+use mathlib.Core.List.{List, [], _∷_, _++_}
+use native.Mathlib.Omega.{arith}
+use lib.ListN.{length, drop, set, length-append}
+use lib.Seq.{sets, sets-eq}
+use Rattle.lists.specs.Lists.{over}
+use Rattle.text.specs.Writing.{Stored}
+
+pub sets-append : (l xs ys : List ℕ) (at : ℕ) → sets (sets l at xs) (at + length xs) ys ≡ sets l at (xs ++ ys)
+sets-append l [] ys at = let e : at + 0 ≡ at = omega arith in rw e
+sets-append l (x ∷ xs) ys at =
+    let e : at + suc (length xs) ≡ suc at + length xs = omega arith in
+    rw e (sets-append _ xs ys (suc at))
+
+-- what is left to write after xs, as one list of stores
+pub then : (l l′ xs ys zs : List ℕ) (at at′ : ℕ) → l′ ≡ sets l at xs → at′ ≡ at + length xs → xs ++ ys ≡ zs → sets l′ at′ ys ≡ sets l at zs
+then l l′ xs ys zs at at′ p q r = ap (λ (k : List ℕ). sets k at′ ys) p ∙ ap (λ (k : ℕ). sets (sets l at xs) k ys) q ∙ sets-append l xs ys at ∙ ap (sets l at) r
+
+pub sets-over : (ws l : List ℕ) → length ws ≤ length l → sets l 0 ws ≡ over ws l
+sets-over ws l h = let e : 0 + length ws ≡ length ws = omega arith in sets-eq ws l 0 (omega arith) ∙ ap (λ (k : ℕ). ws ++ drop k l) e
+
+-- ---- texts
+
+pub stored-byte : (l l′ : List ℕ) (at x k : ℕ) → l′ ≡ set l at x → k ≡ at + 1 → Stored (x ∷ []) at l l′ k
+stored-byte l l′ at x k p q = record { place = q; stores = p }
+
+pub stored-then : {xs ys : List ℕ} {at m k : ℕ} {l l′ l″ : List ℕ} → Stored xs at l l′ m → Stored ys m l′ l″ k → Stored (xs ++ ys) at l l″ k
+stored-then {xs} {ys} {at} {m} {k} {l} {l′} {l″} s t = record {
+  place = omega (arith, s .place, t .place, length-append xs ys);
+  stores = t .stores ∙ then l l′ xs ys (xs ++ ys) at m (s .stores) (s .place) refl;
+}
+
+pub stored-as : {xs ys : List ℕ} {at k : ℕ} {l l′ : List ℕ} → xs ≡ ys → Stored xs at l l′ k → Stored ys at l l′ k
+stored-as {at = at} {k = k} {l = l} {l′ = l′} e s = subst (λ (zs : List ℕ). Stored zs at l l′ k) e s
+
+pub stored-over : {ws l l′ : List ℕ} {k : ℕ} → length ws ≤ length l → Stored ws 0 l l′ k → (k ≡ length ws) × (l′ ≡ over ws l)
+stored-over {ws} {l} h s = (omega (arith, s .place), s .stores ∙ sets-over ws l h)
+
+-- what is left to write from the place behind a text writes the same as the whole from its place
+pub stored-left : {xs : List ℕ} (ys zs : List ℕ) {at m : ℕ} {l l′ : List ℕ} → Stored xs at l l′ m → xs ++ ys ≡ zs → sets l′ m ys ≡ sets l at zs
+stored-left {xs} ys zs {at} {m} {l} {l′} s e = then l l′ xs ys zs at m (s .stores) (s .place) e

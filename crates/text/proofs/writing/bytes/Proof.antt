@@ -1,0 +1,76 @@
+use mathlib.Core.Path.{_≡_, refl, sym, ap, _∙_}
+use native.Mathlib.Omega.{arith}
+use borrow.Author.Needs.{needs}
+use lib.ListN.{length, getD, drop, length-set, drop-of-length-le}
+use lib.Seq.{sets}
+use mathlib.Core.List.{[]}
+use Prim.Native.Nat.{_+_, _-_, _≤_}
+use Rattle.text.proofs.Stores.{stored-byte, stored-left}
+use Rattle.text.proofs.Walks.{one-drop}
+use Rattle.text.proofs.writing.bytes.Statement.{statement}
+use Rattle.text.proofs.writing.bytes.Tie as tie
+
+abbrev Inv-loop : tie.InvT-loop
+Inv-loop out₀ at word i₀ out i = (i ≤ length word) × (length out ≡ length out₀) × (sets out (at + i) (drop i word) ≡ sets out₀ at word)
+
+abbrev μ-loop : tie.MeasureT-loop
+μ-loop out₀ at word i₀ out i = length word - i
+
+loop-holds : tie.Need-loop-holds Inv-loop μ-loop
+loop-holds c = let e : c .args .at + 0 ≡ c .args .at = omega arith in (omega arith, refl, rw e)
+
+shared-slice-read-out : tie.Need-shared-slice-read-out Inv-loop μ-loop
+shared-slice-read-out c = search needs
+
+add-out : tie.Need-add-out Inv-loop μ-loop
+add-out c = search needs
+
+slice-write-out : tie.Need-slice-write-out Inv-loop μ-loop
+slice-write-out c = search needs
+
+add-i : tie.Need-add-i Inv-loop μ-loop
+add-i c = search needs
+
+loop-less : tie.Need-loop-less Inv-loop μ-loop
+loop-less c = search needs
+
+loop-again : tie.Need-loop-again Inv-loop μ-loop
+loop-again c =
+    let l = c .before .before .loop in
+    let a = c .before .before .before .args in
+    let x = getD (a .word .now) (l .i) 0 in (
+      omega arith,
+      length-set (l .out) (a .at + l .i) x ∙ l .inv .1,
+      stored-left (drop (l .i + 1) (a .word .now)) (drop (l .i) (a .word .now)) (stored-byte (l .out) _ (a .at + l .i) x (a .at + (l .i + 1)) refl (omega arith)) (sym (one-drop (a .word .now) (l .i) (omega arith))) ∙ l .inv .2,
+    )
+
+add-result : tie.Need-add-result Inv-loop μ-loop
+add-result c = search needs
+
+same-length : tie.Need-same-length Inv-loop μ-loop
+same-length c = search needs
+
+returns : tie.Need-returns Inv-loop μ-loop
+returns c =
+    let l = c .before .loop in
+    let a = c .before .before .args in
+    let h : length (a .word .now) ≤ l .i = omega arith in
+    let e : drop (l .i) (a .word .now) ≡ [] = drop-of-length-le (a .word .now) h in
+    record { place = omega arith; stores = sym (ap (sets (l .out) (a .at + l .i)) e) ∙ l .inv .2 }
+
+pub bytes-spec : {M : Type 1} → statement M
+bytes-spec =
+    tie.close
+    (tie.spec
+    Inv-loop
+    μ-loop
+    loop-holds
+    shared-slice-read-out
+    add-out
+    slice-write-out
+    add-i
+    loop-less
+    loop-again
+    add-result
+    same-length
+    returns)

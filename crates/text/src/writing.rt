@@ -1,0 +1,108 @@
+// From words to bytes. Each function writes a text at a place of out and returns the place behind it.
+ghost use mathlib.Core.Path.{_≡_};
+ghost use mathlib.Core.List.{[], _∷_};
+ghost use Prim.Native.Nat.{_+_, _*_, _≤_};
+ghost use lib.ListN.{length};
+ghost use Rattle.lists.specs.Lists.{each, over};
+ghost use Rattle.text.specs.Writing.{Stored, digits, spaced, lineOf, answerLine, answerLines, writeText, unreadableText};
+
+fn digits(out: &mut [u8], at: usize, n: u32) -> usize
+    requires { ⌜ at + length (digits 10 n) ≤ length (now out) ⌝ }
+    ensures { λ r. ⌜ Stored (digits 10 n) at (now (out .entry)) (now (out .exit)) r ⌝ }
+{
+    if n < 10 {
+        out[at] = (48 + n) as u8;
+        return at + 1;
+    }
+    let p = digits(out, at, n / 10);
+    out[p] = (48 + n % 10) as u8;
+    p + 1
+}
+
+fn spaced(out: &mut [u8], at: usize, n: u32) -> usize
+    requires { ⌜ at + length (spaced n) ≤ length (now out) ⌝ }
+    ensures { λ r. ⌜ Stored (spaced n) at (now (out .entry)) (now (out .exit)) r ⌝ }
+{
+    out[at] = 32;
+    digits(out, at + 1, n)
+}
+
+fn bytes(out: &mut [u8], at: usize, word: &[u8]) -> usize
+    requires { ⌜ at + length (now word) ≤ length (now out) ⌝ }
+    ensures { λ r. ⌜ Stored (now (word .entry)) at (now (out .entry)) (now (out .exit)) r ⌝ }
+{
+    let mut i = 0;
+    while i < word.len() {
+        out[at + i] = word[i];
+        i += 1;
+    }
+    at + i
+}
+
+// A word and one number.
+fn line(out: &mut [u8], at: usize, word: &[u8], n: u32) -> usize
+    requires { ⌜ at + length (lineOf (now word) (n ∷ [])) ≤ length (now out) ⌝ }
+    ensures { λ r. ⌜ Stored (lineOf (now (word .entry)) (n ∷ [])) at (now (out .entry)) (now (out .exit)) r ⌝ }
+{
+    let p = bytes(out, at, word);
+    let q = spaced(out, p, n);
+    out[q] = 10;
+    q + 1
+}
+
+fn answer(out: &mut [u8], at: usize, code: u32, number: u32) -> usize
+    requires { ⌜ at + length (answerLine code number) ≤ length (now out) ⌝ }
+    ensures { λ r. ⌜ Stored (answerLine code number) at (now (out .entry)) (now (out .exit)) r ⌝ }
+{
+    if code == 0 {
+        return line(out, at, b"done", number);
+    }
+    line(out, at, b"refused", code)
+}
+
+fn answers(out: &mut [u8], words: &[u32]) -> usize
+    requires { ⌜ length (answerLines (now words)) ≤ length (now out) ⌝ }
+    ensures { λ r. ⌜ Stored (answerLines (now (words .entry))) 0 (now (out .entry)) (now (out .exit)) r ⌝ }
+{
+    let mut at = 0;
+    let mut k = 0;
+    while k + 1 < words.len() {
+        at = answer(out, at, words[k], words[k + 1]);
+        k += 2;
+    }
+    at
+}
+
+fn numbers(out: &mut [u8], at: usize, words: &[u32]) -> usize
+    requires { ⌜ at + length (each spaced (now words)) ≤ length (now out) ⌝ }
+    ensures { λ r. ⌜ Stored (each spaced (now (words .entry))) at (now (out .entry)) (now (out .exit)) r ⌝ }
+{
+    let mut p = at;
+    let mut k = 0;
+    while k < words.len() {
+        p = spaced(out, p, words[k]);
+        k += 1;
+    }
+    p
+}
+
+// The lines of the answers, code and number in turn, and the line of the image. The result is their number of bytes; what stood behind them stays.
+// A line of an answer has at most 19 bytes, and a number of the image with its space 11.
+pub fn write(codes: &[u32], image: &[u32], out: &mut [u8]) -> usize
+    requires { ⌜ 10 * length (now codes) + 11 * length (now image) + 6 ≤ length (now out) ⌝ }
+    ensures { λ r. ⌜ (r ≡ length (writeText (now (codes .entry)) (now (image .entry)))) × (now (out .exit) ≡ over (writeText (now (codes .entry)) (now (image .entry))) (now (out .entry))) ⌝ }
+{
+    let p = answers(out, codes);
+    let q = bytes(out, p, b"image");
+    let r = numbers(out, q, image);
+    out[r] = 10;
+    r + 1
+}
+
+// The line of unreadable input.
+pub fn write_unreadable(n: u32, out: &mut [u8]) -> usize
+    requires { ⌜ 22 ≤ length (now out) ⌝ }
+    ensures { λ r. ⌜ (r ≡ length (unreadableText n)) × (now (out .exit) ≡ over (unreadableText n) (now (out .entry))) ⌝ }
+{
+    line(out, 0, b"unreadable", n)
+}
