@@ -1,15 +1,15 @@
 -- Counting: a list without one of its words, and how many distinct numbers there are from 1 to n.
-use Prim.Native.Nat.{ℕ, zero, suc, _+_, _-_, _≤_, _<_}
-use mathlib.Core.Path.{_≡_, refl, sym, ap, _∙_, subst}
+use Prim.Native.Nat.{ℕ, zero, suc, _+_, _-_, _≤_}
+use mathlib.Core.Path.{_≡_, refl, ap}
 use mathlib.Core.Bool.{Bool, true, false}
 use mathlib.Core.List.{List, [], _∷_}
 use native.Mathlib.Omega.{arith}
 use lib.ListN.{length}
 use borrow.Author.Tests.{eq-eqb}
 use Rattle.lists.specs.Choice.{_⇒_else_, _==_, pick, is, bit}
-use Rattle.lists.specs.Lists.{has, count}
+use Rattle.lists.specs.Lists.{count}
 use Rattle.lists.specs.Keyed.{countBy, rem}
-use Rattle.lists.proofs.Picks.{pick-yes, pick-no, same?, same, differ, is-yes, is-no, is-le}
+use Rattle.lists.proofs.Picks.{pick-yes, pick-no, same?, same, differ, is-yes, is-no}
 use Rattle.lists.proofs.KeyedLaws.{count-rem}
 use Rattle.graph.specs.Graph.{wd}
 

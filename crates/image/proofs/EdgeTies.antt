@@ -1,7 +1,7 @@
 -- The edge part: the run over scratch is the walk over lists, and what it leaves in the tables.
 use Prim.Native.Nat.{ℕ, zero, suc, _+_, _*_, _≤_, _<_}
 use mathlib.Core.Path.{_≡_, refl, sym, ap, _∙_, subst}
-use mathlib.Core.Bool.{Bool, true, false, not, _&&_, _||_, true≢false}
+use mathlib.Core.Bool.{Bool, true, false, not, _||_, true≢false}
 use mathlib.Core.List.{List, [], _∷_, _++_}
 use native.Mathlib.Omega.{arith}
 use lib.Dec.{ltb, eqb}
@@ -16,7 +16,6 @@ use Rattle.graph.specs.WellFormed.{wordsOf, wordsAt}
 use Rattle.image.specs.Image.{edgeSize, edgesFrom}
 use Rattle.image.specs.Checks.{goodEdge, edgeWalk}
 use Rattle.image.specs.Scratch.{bumped, ends, owned, edgeRun, edgeDegrees, edgeOwners}
-use Rattle.image.specs.declared.Verdict.{Verdict}
 use Rattle.image.specs.declared.Verdict.the-variants.{Sound}
 use Rattle.image.proofs.Formed.{within-le}
 use Rattle.image.proofs.Ends.{words-length}

@@ -1,5 +1,5 @@
 -- The incidences of a well-formed graph are two words for each edge.
-use Prim.Native.Nat.{ℕ, zero, suc, _+_, _*_}
+use Prim.Native.Nat.{ℕ, _+_, _*_}
 use mathlib.Core.Path.{_≡_, refl, sym, ap, _∙_}
 use mathlib.Core.Bool.{Bool, true, false, _||_}
 use mathlib.Core.List.{List, [], _∷_, _++_, map}
@@ -9,7 +9,7 @@ use Rattle.lists.specs.Choice.{_⇒_else_, _==_, bit}
 use Rattle.lists.specs.Lists.{any, all, has, distinct, count, each}
 use Rattle.lists.proofs.Bools.{and-true}
 use Rattle.lists.proofs.Sums.{has-count, distinct-count, alike-length}
-use Rattle.graph.specs.Graph.{Vertex, Edge, Graph, vn, isVertex, hasVertex, vertexNumbers, outWord, inWord}
+use Rattle.graph.specs.Graph.{Vertex, Edge, Graph, vn, isVertex, vertexNumbers, outWord, inWord}
 use Rattle.graph.specs.WellFormed.{Bounds, wordsOf, wordsAt, soundVertex, soundEdge}
 use Rattle.image.specs.Image.{incidencesOf}
 use Rattle.image.proofs.Formed.{Formed, vertex-facts, edge-facts}

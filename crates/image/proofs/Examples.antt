@@ -1,12 +1,11 @@
 -- Two of document 01's examples, by computation.
 use mathlib.Core.Path.{_≡_, refl}
 use mathlib.Core.Bool.{true, false}
-use mathlib.Core.List.{List, [], _∷_}
-use Rattle.graph.specs.declared.Reading.{Reading}
-use Rattle.graph.specs.declared.Reading.the-variants.{Untested, Silent, Heard}
-use Rattle.graph.specs.Graph.{Vertex, Edge, Graph}
-use Rattle.graph.specs.WellFormed.{Bounds, wellFormed, wordsAt}
-use Rattle.image.specs.Image.{save, load, loadable, soundHeader, edgesFrom, verticesFrom}
+use mathlib.Core.List.{[], _∷_}
+use Rattle.graph.specs.declared.Reading.the-variants.{Heard}
+use Rattle.graph.specs.Graph.{Graph}
+use Rattle.graph.specs.WellFormed.{Bounds}
+use Rattle.image.specs.Image.{save, loadable}
 
 bounds : Bounds
 bounds = record { vertices = 200; edges = 800; types = 5 }

@@ -1,15 +1,14 @@
 -- What a well-formed graph is made of, as facts.
-use Prim.Native.Nat.{ℕ, zero, suc, _+_, _^_, _≤_, _<_}
-use mathlib.Core.Path.{_≡_, refl, sym, ap, _∙_}
-use mathlib.Core.Bool.{Bool, true, false, _&&_, _||_}
-use mathlib.Core.List.{List, [], _∷_}
+use Prim.Native.Nat.{ℕ, _^_, _≤_}
+use mathlib.Core.Path.{_≡_}
+use mathlib.Core.Bool.{true, _&&_}
 use lib.Dec.{leb, ltb}
 use borrow.Author.Tests.{leb-true}
-use Rattle.lists.specs.Choice.{_==_, within}
-use Rattle.lists.specs.Lists.{any, all, has, distinct}
+use Rattle.lists.specs.Choice.{within}
+use Rattle.lists.specs.Lists.{all, distinct}
 use Rattle.lists.proofs.Bools.{and-true}
 use Rattle.lists.proofs.Sums.{Alike, same-alike}
-use Rattle.graph.specs.Graph.{Vertex, Edge, Graph, isVertex, hasVertex, vertexNumbers, edgeNumbers, readingKind, decimetres, isReading}
+use Rattle.graph.specs.Graph.{Vertex, Edge, Graph, hasVertex, vertexNumbers, edgeNumbers, readingKind, decimetres, isReading}
 use Rattle.graph.specs.WellFormed.{Bounds, wordsAt, sameWords, soundVertex, soundEdge, wellFormed}
 
 pub within-le : (cap n : ℕ) → within 1 cap n ≡ true → (1 ≤ n) × (n ≤ cap)

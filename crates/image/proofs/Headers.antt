@@ -1,7 +1,7 @@
 -- The header's tests one by one, and the parts as the code cuts them.
-use Prim.Native.Nat.{ℕ, zero, suc, _+_, _*_, _-_, _≤_, _<_, min}
+use Prim.Native.Nat.{ℕ, _*_, _-_, _≤_, _<_}
 use mathlib.Core.Path.{_≡_, refl, sym, ap, _∙_}
-use mathlib.Core.Bool.{Bool, true, false, not, _&&_}
+use mathlib.Core.Bool.{Bool, true, false, _&&_}
 use mathlib.Core.List.{List, [], _∷_}
 use native.Mathlib.Omega.{arith}
 use lib.Dec.{leb, eqb}
@@ -10,8 +10,8 @@ use lib.Seq.{take-all}
 use borrow.Author.Tests.{eq-eqb, ne-eqb, eqb-true, leb-true}
 use Rattle.lists.specs.Choice.{_==_, _⇒_else_}
 use Rattle.lists.specs.Lists.{same}
-use Rattle.lists.proofs.Bools.{ft, and-true}
-use Rattle.image.specs.Image.{edgeOffset, incidenceOffset, imageLength, headerOf, soundHeader, vertexCount, edgeCount, vertexPart, edgePart, incidencePart, part}
+use Rattle.lists.proofs.Bools.{and-true}
+use Rattle.image.specs.Image.{edgeOffset, incidenceOffset, imageLength, headerOf, soundHeader, vertexCount, edgeCount, part}
 use Rattle.image.specs.Checks.{soundCounts}
 use Rattle.image.proofs.RecordWords.{same-eq}
 

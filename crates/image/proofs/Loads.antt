@@ -1,17 +1,17 @@
 -- Loading takes exactly the words that some well-formed graph saves as, and gives that graph.
-use Prim.Native.Nat.{ℕ, zero, suc, _+_, _*_}
+use Prim.Native.Nat.{ℕ, _+_, _*_}
 use mathlib.Core.Path.{_≡_, refl, sym, ap, ap₂, _∙_, subst}
 use mathlib.Core.Logic.{_↔_}
-use mathlib.Core.Bool.{Bool, true, false, _&&_}
-use mathlib.Core.List.{List, [], _∷_, _++_}
+use mathlib.Core.Bool.{true, _&&_}
+use mathlib.Core.List.{List, _++_}
 use native.Mathlib.Omega.{arith}
-use lib.ListN.{length, take, drop, getD, length-append}
+use lib.ListN.{length, take, drop, length-append}
 use lib.Seq.{take-at, drop-at, drop-drop}
 use borrow.Author.Tests.{eq-eqb}
 use Rattle.lists.specs.Choice.{_==_}
 use Rattle.lists.specs.Lists.{each, same}
 use Rattle.lists.proofs.Bools.{and-true, and-both}
-use Rattle.graph.specs.Graph.{Vertex, Edge, Graph}
+use Rattle.graph.specs.Graph.{Edge, Graph}
 use Rattle.graph.specs.WellFormed.{Bounds, wellFormed}
 use Rattle.image.specs.Image.{vertexSize, vertexRecord, edgeSize, edgeRecord, incidencesOf, edgeOffset, imageLength, headerOf, save, soundHeader, vertexCount, edgeCount, vertexPart, edgePart, incidencePart, edgesFrom, verticesFrom, load, loadable}
 use Rattle.image.proofs.Formed.{Formed, formed}

@@ -1,18 +1,18 @@
 -- Code 106: what a graph within the capacities saves as has room in 6 + 3 × vertices + 8 × edges words.
-use Prim.Native.Nat.{ℕ, zero, suc, _+_, _*_, _≤_, _<_}
-use mathlib.Core.Path.{_≡_, refl, sym, ap, _∙_}
+use Prim.Native.Nat.{ℕ, suc, _+_, _≤_}
+use mathlib.Core.Path.{_≡_, refl, ap}
 use mathlib.Core.Bool.{Bool, true, false}
 use mathlib.Core.List.{List, [], _∷_, map}
 use native.Mathlib.Omega.{arith}
 use lib.ListN.{length}
 use borrow.Author.Tests.{eqb-true}
 use Rattle.lists.specs.Choice.{_==_, bit, within}
-use Rattle.lists.specs.Lists.{all, distinct, count, All, done, more}
+use Rattle.lists.specs.Lists.{distinct, count, All, done, more}
 use Rattle.lists.proofs.Sums.{distinct-count, all-bool}
-use Rattle.graph.specs.Graph.{Vertex, Edge, Graph, vn, en}
+use Rattle.graph.specs.Graph.{Graph, vn, en}
 use Rattle.graph.specs.WellFormed.{Bounds, soundVertex, soundEdge, wellFormed}
 use Rattle.image.specs.Image.{imageLength, save}
-use Rattle.image.proofs.Formed.{Formed, formed, within-le, vertex-facts, edge-facts}
+use Rattle.image.proofs.Formed.{formed, within-le, vertex-facts, edge-facts}
 use Rattle.image.proofs.Loads.{image-length}
 use Rattle.image.proofs.Counts.{distinct-few}
 

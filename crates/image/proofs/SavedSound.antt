@@ -1,15 +1,15 @@
 -- The saved words of a well-formed graph have a sound verdict; so a verdict is sound exactly where the words load.
-use Prim.Native.Nat.{ℕ, zero, suc, _+_, _*_, _^_, _≤_, _<_}
+use Prim.Native.Nat.{ℕ, zero, suc, _+_, _≤_}
 use mathlib.Core.Path.{_≡_, refl, sym, ap, _∙_, subst}
 use mathlib.Core.Logic.{_↔_}
-use mathlib.Core.Bool.{Bool, true, false, not, _&&_, _||_}
+use mathlib.Core.Bool.{Bool, true, false, not, _||_}
 use mathlib.Core.List.{List, [], _∷_, _++_, map}
 use native.Mathlib.Omega.{arith}
-use lib.Dec.{leb, ltb}
-use lib.ListN.{length, getD, take, drop}
+use lib.Dec.{leb}
+use lib.ListN.{length}
 use lib.Seq.{drop-at}
 use borrow.Author.Tests.{eq-eqb, eqb-true, le-ltb, le-leb, not-true}
-use Rattle.lists.specs.Choice.{_==_, _⇒_else_, bit}
+use Rattle.lists.specs.Choice.{_==_, _⇒_else_}
 use Rattle.lists.specs.Lists.{any, all, has, count, distinct, each}
 use Rattle.lists.specs.Keyed.{rem}
 use Rattle.lists.proofs.Bools.{tf, ft, and-true}
@@ -18,9 +18,8 @@ use Rattle.graph.specs.declared.Reading.{Reading}
 use Rattle.graph.specs.declared.Reading.the-variants.{Untested, Silent, Heard}
 use Rattle.graph.specs.Graph.{Vertex, Edge, Graph, vn, en, wd, isVertex, hasVertex, readingKind}
 use Rattle.graph.specs.WellFormed.{Bounds, wordsAt, soundVertex, soundEdge, wellFormed}
-use Rattle.image.specs.Image.{vertexSize, vertexRecord, edgeSize, edgeRecord, incidencesOf, vertexOffset, edgeOffset, incidenceOffset, save, vertexCount, edgeCount, loadable}
+use Rattle.image.specs.Image.{vertexSize, vertexRecord, edgeRecord, incidencesOf, vertexOffset, edgeOffset, incidenceOffset, save, loadable}
 use Rattle.image.specs.Checks.{codeOf, loadCode, goodVertex, goodEdge, vertexWalk, numbersIn, edgeWalk, goodList, listWalk, soundCounts, verdict}
-use Rattle.image.specs.declared.Verdict.{Verdict}
 use Rattle.image.specs.declared.Verdict.the-variants.{Sound}
 use Rattle.image.proofs.Formed.{Formed, formed, vertex-facts, edge-facts}
 use Rattle.image.proofs.RecordWords.{edges-back}

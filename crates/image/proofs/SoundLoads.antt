@@ -1,5 +1,5 @@
 -- Words with a sound verdict are loadable.
-use Prim.Native.Nat.{ℕ, zero, suc, _+_, _*_, _-_, _^_, _≤_, _<_, min}
+use Prim.Native.Nat.{ℕ, zero, suc, _+_, _*_, _^_, _≤_, _<_}
 use mathlib.Core.Path.{_≡_, refl, sym, ap, _∙_, subst}
 use mathlib.Core.Bool.{Bool, true, false, not, _&&_, _||_}
 use mathlib.Core.List.{List, [], _∷_, _++_, map}
@@ -7,15 +7,14 @@ use native.Mathlib.Omega.{arith}
 use lib.Dec.{leb, ltb, eqb}
 use lib.ListN.{length, getD, take, drop, length-take, length-drop, take-append-drop}
 use lib.Seq.{drop-drop}
-use borrow.Author.Tests.{eq-eqb, ne-eqb, eqb-true, eqb-false, lt-ltb, leb-true, not-true}
+use borrow.Author.Tests.{ne-eqb, eqb-true, eqb-false, lt-ltb, leb-true, not-true}
 use Rattle.lists.specs.Choice.{_==_, _⇒_else_, bit, within}
-use Rattle.lists.specs.Lists.{any, all, has, count, distinct, same, each}
+use Rattle.lists.specs.Lists.{all, has, count, distinct, same, each}
 use Rattle.lists.specs.Keyed.{rem}
 use Rattle.lists.proofs.Bools.{tf, ft, and-true, and-both}
 use Rattle.lists.proofs.Sums.{has-count, Alike, alike-same}
-use Rattle.graph.specs.declared.Reading.{Reading}
 use Rattle.graph.specs.declared.Reading.the-variants.{Untested, Silent, Heard}
-use Rattle.graph.specs.Graph.{Vertex, Edge, Graph, vn, en, wd, hasVertex, vertexNumbers, edgeNumbers, readingKind, decimetres, readingOf, isReading}
+use Rattle.graph.specs.Graph.{Edge, Graph, vn, en, wd, hasVertex, vertexNumbers, edgeNumbers, readingKind, decimetres, readingOf, isReading}
 use Rattle.graph.specs.WellFormed.{Bounds, wordsAt, sameWords, soundVertex, soundEdge, wellFormed}
 use Rattle.image.specs.Image.{vertexSize, vertexRecord, edgeSize, edgeRecord, incidencesOf, vertexOffset, edgeOffset, incidenceOffset, imageLength, headerOf, save, vertexCount, edgeCount, soundHeader, vertexPart, edgePart, incidencePart, edgesFrom, verticesFrom, load, loadable}
 use Rattle.image.specs.Checks.{vertexWalk, numbersIn, edgeWalk, goodList, listWalk, soundCounts, andThen, numbersOf, verdict}

@@ -1,7 +1,7 @@
 -- Laws of verdicts: what a sound one says of its steps, and that any other one stops the check.
-use Prim.Native.Nat.{ℕ, zero, suc, _+_, _≤_, _<_}
-use mathlib.Core.Path.{_≡_, refl, sym, ap, _∙_}
-use mathlib.Core.Logic.{_⊎_, ⊎-elim}
+use Prim.Native.Nat.{ℕ, _+_, _≤_}
+use mathlib.Core.Path.{_≡_, refl}
+use mathlib.Core.Logic.{⊎-elim}
 use mathlib.Core.Bool.{Bool, true, false, not, _&&_}
 use mathlib.Core.List.{List, [], _∷_}
 use native.Mathlib.Omega.{arith}
@@ -27,8 +27,11 @@ incidence-not e = let z : _≡_ {A = ℕ} 0 1 = cc in omega arith
 pub header-not : BadHeader ≡ Sound → ⊥
 header-not e = let z : _≡_ {A = ℕ} 0 1 = cc in omega arith
 
+sound-not : OneOf (1 ∷ 2 ∷ 3 ∷ []) (tagOf the-type Sound) → ⊥
+sound-not k = ⊎-elim (λ (e : 0 ≡ 1). omega arith) (λ w. ⊎-elim (λ (e : 0 ≡ 2). omega arith) (λ (e : 0 ≡ 3). omega arith) w) k
+
 pub stop : (r x : Verdict) → OneOf (1 ∷ 2 ∷ 3 ∷ []) (tagOf the-type r) → r ≡ andThen r x
-stop Sound x k = absurd (⊎-elim (λ (e : 0 ≡ 1). omega arith) (λ w. ⊎-elim (λ (e : 0 ≡ 2). omega arith) (λ (e : 0 ≡ 3). omega arith) w) k)
+stop Sound x k = absurd (sound-not k)
 stop BadHeader x k = refl
 stop (BadRecord at) x k = refl
 stop (BadIncidence at) x k = refl
@@ -88,6 +91,23 @@ code-by (BadRecord at) true f g = absurd (record-not (g refl))
 code-by (BadRecord at) false f g = refl
 code-by (BadIncidence at) true f g = absurd (incidence-not (g refl))
 code-by (BadIncidence at) false f g = refl
+
+-- what a caller of the check learns of the test, by whether the verdict is sound
+pub code-sound : (r : Verdict) (t : Bool) → r ≡ Sound → codeOf r ≡ (t ⇒ 0 else 105) → t ≡ true
+code-sound Sound true e h = refl
+code-sound Sound false e h = absurd (omega arith)
+code-sound BadHeader t e h = absurd (header-not e)
+code-sound (BadRecord at) t e h = absurd (record-not e)
+code-sound (BadIncidence at) t e h = absurd (incidence-not e)
+
+pub code-bad : (r : Verdict) (t : Bool) → OneOf (1 ∷ 2 ∷ 3 ∷ []) (tagOf the-type r) → codeOf r ≡ (t ⇒ 0 else 105) → t ≡ false
+code-bad Sound t k h = absurd (sound-not k)
+code-bad BadHeader true k h = absurd (omega arith)
+code-bad BadHeader false k h = refl
+code-bad (BadRecord at) true k h = absurd (omega arith)
+code-bad (BadRecord at) false k h = refl
+code-bad (BadIncidence at) true k h = absurd (omega arith)
+code-bad (BadIncidence at) false k h = refl
 
 -- ---- what a whole good record says
 

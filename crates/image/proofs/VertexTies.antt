@@ -1,10 +1,10 @@
 -- The vertex part: the run over scratch is the walk over lists.
-use Prim.Native.Nat.{ℕ, zero, suc, _+_, _*_, _≤_, _<_}
+use Prim.Native.Nat.{ℕ, zero, suc, _+_, _≤_, _<_}
 use mathlib.Core.Path.{_≡_, refl, sym, ap, _∙_, subst}
-use mathlib.Core.Bool.{Bool, true, false, not, _&&_, _||_}
-use mathlib.Core.List.{List, [], _∷_}
+use mathlib.Core.Bool.{Bool, true, false, not, _||_}
+use mathlib.Core.List.{List, _∷_}
 use native.Mathlib.Omega.{arith}
-use lib.Dec.{ltb, eqb}
+use lib.Dec.{eqb}
 use lib.ListN.{length, getD, drop, set, length-set}
 use lib.Seq.{getD-set-same, getD-set-other}
 use borrow.Author.Tests.{eq-eqb, ne-eqb, eqb-true, eqb-false, not-true}
@@ -13,7 +13,6 @@ use Rattle.lists.specs.Lists.{has, distinct}
 use Rattle.lists.proofs.Bools.{tf, and-both}
 use Rattle.image.specs.Checks.{goodVertex, vertexWalk, numbersIn}
 use Rattle.image.specs.Scratch.{vertexRun, vertexMarks}
-use Rattle.image.specs.declared.Verdict.{Verdict}
 use Rattle.image.specs.declared.Verdict.the-variants.{Sound}
 use Rattle.image.proofs.Formed.{within-le}
 use Rattle.image.proofs.Verdicts.{record-same, record-sound, VertexOk, vertex-ok}

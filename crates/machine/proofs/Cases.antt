@@ -10,7 +10,7 @@ use Rattle.lists.proofs.Sums.{all-bool}
 use Rattle.graph.specs.Graph.{Graph, empty}
 use Rattle.graph.specs.WellFormed.{wellFormed}
 use Rattle.image.specs.Image.{save}
-use Rattle.image.proofs.Records.{same-eq}
+use Rattle.image.proofs.RecordWords.{same-eq}
 use Rattle.image.proofs.Loads.{one-graph}
 use Rattle.history.specs.Machine.{fresh, present}
 use Rattle.machine.specs.Calls.{boundsIn}

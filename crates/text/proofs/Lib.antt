@@ -6,3 +6,5 @@ pub mod Lines
 pub mod Scans
 pub mod Verdicts
 pub mod Texts
+pub mod Accepts
+pub mod Examples

@@ -104,7 +104,7 @@ digits-words (x ∷ p) e n xs =
     let a = and-true (digit x) (all digit p) e in
     rw (digit-goes x (a .0)) (digits-words p (a .1) (digitIn n x) xs)
 
-good-digits : (p : List ℕ) → goodNumber p ≡ true → all digit p ≡ true
+pub good-digits : (p : List ℕ) → goodNumber p ≡ true → all digit p ≡ true
 unfolding goodNumber
 good-digits [] e = ft e
 good-digits (x ∷ xs) e = and-true _ _ (and-true _ _ e .0) .0

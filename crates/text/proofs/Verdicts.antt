@@ -8,11 +8,11 @@ use lib.Dec.{ltb}
 use borrow.Author.Tests.{lt-ltb, le-ltb, eq-eqb, ne-eqb}
 use Rattle.lists.specs.Choice.{_⇒_else_, _==_}
 use Rattle.lists.specs.Lists.{over}
-use Rattle.text.specs.Reading.{Verdict, calls, unreadable, pieces, lineCount, firstBad, wordsIn, readText, wordsOf}
+use Rattle.text.specs.Reading.{Verdict, calls, unreadable, pieces, lineCount, firstBad, wordsIn, readText, wordsOf, answered}
 use Rattle.text.specs.declared.reading.Number.the-variants.{Empty}
 use Rattle.text.specs.declared.reading.ReadVerdict.the-variants.{Calls, Unreadable}
 use Rattle.text.specs.declared.reading.Lines.{Lines}
-use Rattle.text.specs.Scan.{run, freshLines, byteIn, restIn, wordsFrom, answered}
+use Rattle.text.specs.Scan.{run, freshLines, byteIn, restIn, wordsFrom}
 use Rattle.text.proofs.Pieces.{parts}
 use Rattle.text.proofs.Scans.{Counted, lines-law, Good, good, words-law, words-count}
 
@@ -59,3 +59,12 @@ refused v n l e = rw e (refl, refl)
 
 pub accepted : (v : Verdict) (ws l l′ : List ℕ) (k : ℕ) → v ≡ calls ws → k ≡ length ws → l′ ≡ over ws l → (Calls k ≡ answered v) × (l′ ≡ over (wordsOf v) l)
 accepted v ws l l′ k e p q = rw e (ap Calls p, q)
+
+-- what an answer tells
+pub told-calls : (v : Verdict) (n : ℕ) → Calls n ≡ answered v → (v ≡ calls (wordsOf v)) × (n ≡ length (wordsOf v))
+told-calls (calls ws) n e = (refl, cc)
+told-calls (unreadable k) n e = let z : _≡_ {A = ℕ} 0 1 = cc in absurd (omega arith)
+
+pub told-unreadable : (v : Verdict) (n : ℕ) → Unreadable n ≡ answered v → v ≡ unreadable n
+told-unreadable (calls ws) n e = let z : _≡_ {A = ℕ} 0 1 = cc in absurd (omega arith)
+told-unreadable (unreadable k) n e = cc

@@ -1,12 +1,14 @@
 -- "Program chartrun reads up to 1,000 lines of standard input (60,000 bytes), five numbers a line, one space between, no leading zeros, each line ended by a newline (a rest without one is a line too, and bad)."
 -- Bytes are numbers: the newline is 10, the space 32, the digits 48 to 57.
 use Prim.Native.Nat.{ℕ, _+_, _-_, _*_, _^_}
-use mathlib.Core.Bool.{Bool, true, false, not, _&&_, _||_}
+use mathlib.Core.Bool.{Bool, false, not, _&&_, _||_}
 use mathlib.Core.List.{List, [], _∷_, _++_, map}
 use lib.ListN.{length}
 use lib.Dec.{ltb}
 use Rattle.lists.specs.Choice.{_⇒_else_, _==_, within}
 use Rattle.lists.specs.Lists.{all}
+use Rattle.text.specs.declared.reading.ReadVerdict.{ReadVerdict}
+use Rattle.text.specs.declared.reading.ReadVerdict.the-variants.{Calls, Unreadable}
 
 -- what the input is: the words of its calls, or the number that is printed after unreadable
 pub data Verdict : Type 0 where
@@ -75,3 +77,8 @@ readText bytes =
 abbrev pub wordsOf : Verdict → List ℕ
 wordsOf (calls ws) = ws
 wordsOf (unreadable n) = []
+
+-- the answer as the code gives it: how many words, or the number after unreadable
+abbrev pub answered : Verdict → ReadVerdict
+answered (calls ws) = Calls (length ws)
+answered (unreadable n) = Unreadable n

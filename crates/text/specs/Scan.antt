@@ -1,17 +1,14 @@
 -- Reading byte by byte, as the code does it. proofs/Scans has the laws that this is what Reading says.
 use Prim.Native.Nat.{ℕ, _+_, _-_, _*_, _^_}
-use mathlib.Core.Bool.{Bool, true, false, not, _&&_, _||_}
+use mathlib.Core.Bool.{Bool, true, false, _&&_, _||_}
 use mathlib.Core.List.{List, [], _∷_, _++_}
-use lib.ListN.{length}
 use lib.Dec.{ltb}
 use Rattle.lists.specs.Choice.{_⇒_else_, _==_}
-use Rattle.text.specs.Reading.{digit, Verdict, calls, unreadable}
+use Rattle.text.specs.Reading.{digit}
 use Rattle.text.specs.declared.reading.Number.{Number}
 use Rattle.text.specs.declared.reading.Number.the-variants.{Empty, Value, Bad}
 use Rattle.text.specs.declared.reading.Line.{Line}
 use Rattle.text.specs.declared.reading.Lines.{Lines}
-use Rattle.text.specs.declared.reading.ReadVerdict.{ReadVerdict}
-use Rattle.text.specs.declared.reading.ReadVerdict.the-variants.{Calls, Unreadable}
 
 -- the state after all elements
 abbrev pub run {ℓ} : {S : Type ℓ} → (S → ℕ → S) → S → List ℕ → S
@@ -106,9 +103,3 @@ unfoldable pub wordsFrom : Number → List ℕ → List ℕ
 unfolding numberAfter wordAt
 wordsFrom n [] = []
 wordsFrom n (b ∷ bs) = wordAt n b ++ wordsFrom (numberAfter n b) bs
-
--- ---- what the code answers
-
-abbrev pub answered : Verdict → ReadVerdict
-answered (calls ws) = Calls (length ws)
-answered (unreadable n) = Unreadable n

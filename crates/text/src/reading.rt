@@ -1,12 +1,11 @@
 // From bytes to the words of calls: one pass that checks, and one that writes.
 ghost use mathlib.Core.Path.{_≡_};
-ghost use mathlib.Core.List.{List, [], _∷_, _++_};
-ghost use Prim.Native.Nat.{ℕ, _+_, _*_, _≤_, _<_, _^_};
-ghost use lib.ListN.{length, set};
+ghost use Prim.Native.Nat.{_+_, _≤_, _<_};
+ghost use lib.ListN.{length};
 ghost use lib.Seq.{sets};
 ghost use Rattle.lists.specs.Lists.{over};
-ghost use Rattle.text.specs.Reading.{readText, wordsOf};
-ghost use Rattle.text.specs.Scan.{run, moreDigit, addDigit, digitIn, isValue, valueIn, blank, spaceIn, lineIn, lineGood, lineBlank, freshLines, badAfter, newlineIn, byteIn, restIn, ends, numberAfter, wordAt, wordsFrom, answered};
+ghost use Rattle.text.specs.Reading.{readText, wordsOf, answered};
+ghost use Rattle.text.specs.Scan.{run, moreDigit, addDigit, digitIn, isValue, valueIn, blank, spaceIn, lineIn, lineGood, lineBlank, freshLines, badAfter, newlineIn, byteIn, restIn, ends, numberAfter, wordAt, wordsFrom};
 
 // What the bytes are: so many words of calls, or unreadable and the number that is printed after it.
 pub enum ReadVerdict {

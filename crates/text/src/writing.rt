@@ -1,7 +1,7 @@
 // From words to bytes. Each function writes a text at a place of out and returns the place behind it.
 ghost use mathlib.Core.Path.{_≡_};
-ghost use mathlib.Core.List.{List, [], _∷_, _++_};
-ghost use Prim.Native.Nat.{ℕ, _+_, _*_, _≤_};
+ghost use mathlib.Core.List.{[], _∷_};
+ghost use Prim.Native.Nat.{_+_, _*_, _≤_};
 ghost use lib.ListN.{length};
 ghost use Rattle.lists.specs.Lists.{each, over};
 ghost use Rattle.text.specs.Writing.{Stored, digits, spaced, lineOf, answerLine, answerLines, writeText, unreadableText};

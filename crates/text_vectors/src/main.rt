@@ -1,8 +1,7 @@
 // Runs the text functions on examples whose answers were worked out by hand from document 01: a line of output for each.
 use libc::STDOUT_FILENO;
 use text::ReadVerdict;
-ghost use mathlib.Core.Path.{_≡_};
-ghost use Prim.Native.Nat.{_≤_, _+_};
+ghost use Prim.Native.Nat.{_≤_};
 ghost use lib.ListN.{length};
 
 fn report(good: bool, name: &[u8]) {
@@ -199,25 +198,35 @@ fn good_texts() {
     );
 }
 
-fn bad_numbers() {
+fn large_numbers() {
     refuses(b"4294967296 0 0 0 0\n", 1, b"4294967296");
     refuses(b"0 0 0 0 10000000000\n", 1, b"eleven digits");
     refuses(b"1 2 3 4 05\n", 1, b"a leading zero");
     refuses(b"00 2 3 4 5\n", 1, b"two zeros");
+}
+
+fn no_digits() {
     refuses(b"1 2 3 4 x\n", 1, b"a letter");
     refuses(b"1 2 3 4 -5\n", 1, b"a sign");
     refuses(b"1 2 3 4 5/\n", 1, b"a byte below the digits");
     refuses(b"1 2 3 4 5:\n", 1, b"a byte above the digits");
 }
 
-fn bad_lines() {
+fn spaces() {
     refuses(b"\n", 1, b"an empty line");
     refuses(b"1  2 3 4 5\n", 1, b"two spaces");
     refuses(b"1 2 3 4 5 \n", 1, b"a trailing space");
     refuses(b" 1 2 3 4 5\n", 1, b"a leading space");
+}
+
+fn other_lines() {
     refuses(b"1 2 3 4\n", 1, b"four numbers");
     refuses(b"1 2 3 4 5 6\n", 1, b"six numbers");
     refuses(b"1 2 3 4 5\r\n", 1, b"a carriage return");
+    refuses(b"1 2 3 4 5\n1 2 3 4\n\n", 2, b"the first of two bad lines");
+}
+
+fn rests() {
     refuses(b"1 2 3 4 5", 1, b"a line without its newline");
     refuses(b"1 2 3 4 5\n ", 2, b"a rest of one space");
     refuses(
@@ -225,24 +234,36 @@ fn bad_lines() {
         2,
         b"a second line without its newline",
     );
-    refuses(b"1 2 3 4 5\n1 2 3 4\n\n", 2, b"the first of two bad lines");
+}
+
+// A text of 60,001 bytes, of which each takes the front.
+fn zeros(text: &mut [u8]) {
+    repeat(text, b"0", 0);
+    refuses_front(text, 60000, 1, b"60,000 bytes");
+    refuses_front(text, 60001, 0, b"60,001 bytes");
+}
+
+fn newlines(text: &mut [u8]) {
+    repeat(text, b"\n", 0);
+    refuses_front(text, 1000, 1, b"1,000 empty lines");
+    refuses_front(text, 1001, 1001, b"1,001 empty lines");
+    refuses_front(text, 60000, 1001, b"60,000 empty lines");
+    refuses_front(text, 60001, 0, b"60,001 empty lines");
+}
+
+fn lines(text: &mut [u8]) {
+    repeat(text, b"1 2 3 4 5\n", 9);
+    refuses_front(text, 9991, 1000, b"999 lines and a rest");
+    reads_front(text, 10000, b"1,000 lines");
+    refuses_front(text, 10001, 1001, b"1,000 lines and a rest");
+    refuses_front(text, 10010, 1001, b"1,001 lines");
 }
 
 fn sizes() {
     let mut text = [0u8; 60001];
-    repeat(&mut text, b"0", 0);
-    refuses_front(&text, 60000, 1, b"60,000 bytes");
-    refuses_front(&text, 60001, 0, b"60,001 bytes");
-    repeat(&mut text, b"\n", 0);
-    refuses_front(&text, 1000, 1, b"1,000 empty lines");
-    refuses_front(&text, 1001, 1001, b"1,001 empty lines");
-    refuses_front(&text, 60000, 1001, b"60,000 empty lines");
-    refuses_front(&text, 60001, 0, b"60,001 empty lines");
-    repeat(&mut text, b"1 2 3 4 5\n", 9);
-    refuses_front(&text, 9991, 1000, b"999 lines and a rest");
-    reads_front(&text, 10000, b"1,000 lines");
-    refuses_front(&text, 10001, 1001, b"1,000 lines and a rest");
-    refuses_front(&text, 10010, 1001, b"1,001 lines");
+    zeros(&mut text);
+    newlines(&mut text);
+    lines(&mut text);
 }
 
 fn written() {
@@ -259,6 +280,9 @@ fn written() {
         b"done 450\nrefused 16\ndone 0\nimage 1 4294967295 9 10\n",
         b"answers",
     );
+}
+
+fn written_example() {
     writes(
         &[0, 1, 0, 1, 0, 1, 0, 1, 0, 0, 0, 2, 0, 0, 0, 1, 0, 450],
         &[
@@ -286,6 +310,9 @@ fn written() {
         b"done 1\ndone 1\ndone 1\ndone 1\ndone 0\ndone 2\ndone 0\ndone 1\ndone 450\nimage 2 1 6 12 18 20 1 0 7 2 0 9 1 1 2 0 2 450 2 3\n",
         b"the example of document 01",
     );
+}
+
+fn written_unreadable() {
     writes_unreadable(0, b"unreadable 0\n", b"unreadable 0");
     writes_unreadable(1001, b"unreadable 1001\n", b"unreadable 1001");
     writes_unreadable(
@@ -297,8 +324,13 @@ fn written() {
 
 fn main() {
     good_texts();
-    bad_numbers();
-    bad_lines();
+    large_numbers();
+    no_digits();
+    spaces();
+    other_lines();
+    rests();
     sizes();
     written();
+    written_example();
+    written_unreadable();
 }

@@ -1,11 +1,9 @@
-use Prim.Native.Nat.{ℕ, _≤_, _<_}
-use mathlib.Core.Path.{_≡_, sym, ap, _∙_}
-use mathlib.Core.Bool.{true}
+use Prim.Native.Nat.{_≤_}
+use mathlib.Core.Path.{sym, ap, _∙_}
 use native.Mathlib.Omega.{arith}
 use borrow.Author.Needs.{needs}
 use borrow.Author.Tests.{not-true, not-false}
-use Rattle.image.specs.Image.{soundHeader}
-use Rattle.image.specs.Checks.{bounds, codeOf, soundCounts, verdict, loadCode}
+use Rattle.image.specs.Checks.{bounds, codeOf}
 use Rattle.image.proofs.Headers.{counts-le}
 use Rattle.image.proofs.ScratchTies.{bad-head, bad-counts, incidences-few, verdict-by}
 use Rattle.image.proofs.SavedSound.{verdict-code}

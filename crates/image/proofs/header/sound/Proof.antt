@@ -1,6 +1,4 @@
-use borrow.Author.Tests.{lt-ltb, le-ltb, le-leb, lt-leb, eq-eqb, ne-eqb, not-true, not-false, leb-true, leb-false, ltb-true, ltb-false, eqb-true, eqb-false}
-use mathlib.Core.Path.{refl, sym, ap, _∙_, subst}
-use native.Mathlib.Omega.{arith}
+use mathlib.Core.Path.{sym, _∙_}
 use Rattle.image.proofs.Headers.{bad-2, bad-3, bad-4, bad-5, last}
 use borrow.Author.Needs.{needs}
 use Rattle.image.proofs.header.sound.Statement.{statement}

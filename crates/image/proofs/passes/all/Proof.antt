@@ -1,11 +1,7 @@
-use Prim.Native.Nat.{ℕ, _+_, _*_, _≤_}
-use mathlib.Core.Path.{_≡_, sym, subst}
-use mathlib.Core.List.{List}
 use borrow.Author.Needs.{needs}
 use lib.ListN.{replicate}
 use Rattle.image.specs.Checks.{bounds}
-use Rattle.image.specs.Scratch.{Below}
-use Rattle.image.proofs.Turns.{below-marks, below-zeros}
+use Rattle.image.proofs.Turns.{below-marked}
 use Rattle.image.proofs.ScratchTies.{pass-1, pass-2, pass-3}
 use Rattle.image.proofs.passes.all.Statement.{statement}
 use Rattle.image.proofs.passes.all.Tie as tie
@@ -44,7 +40,7 @@ edges-requires c κs =
       search needs,
       search needs,
       search needs,
-      subst (λ (l : List ℕ). Below 1 l) (sym (p .ensures .1 (c .before .before .enum-told .given .1))) (below-marks 3 (replicate 1001 0) (a .v) (a .vs .now) (below-zeros 1001 1)),
+      below-marked (p .last .1 .1 .1 .0) 1001 3 (a .v) (a .vs .now) (p .ensures .1 (c .before .before .enum-told .given .1)),
     )
 
 enum-told-2 : tie.Need-enum-told-2

@@ -1,10 +1,5 @@
-use borrow.Author.Tests.{lt-ltb, le-ltb, le-leb, lt-leb, eq-eqb, ne-eqb, not-true, not-false, leb-true, leb-false, ltb-true, ltb-false, eqb-true, eqb-false}
-use mathlib.Core.Path.{_≡_, refl, sym, ap, _∙_, subst}
-use native.Mathlib.Omega.{arith}
-use lib.ListN.{length, getD, take, drop, set, List·getD-eq-default, length-set}
-use Prim.Native.Nat.{ℕ, _+_, _-_, _*_, _≤_, _<_}
-use mathlib.Core.List.{List, [], _∷_}
 use borrow.Author.Needs.{needs}
+use Rattle.image.proofs.Turns.{edge-ends-by, edge-owned-by}
 use Rattle.image.proofs.passes.edge_enter.Statement.{statement}
 use Rattle.image.proofs.passes.edge_enter.Tie as tie
 
@@ -33,7 +28,15 @@ same-length-2 : tie.Need-same-length-2
 same-length-2 c = search needs
 
 returns : tie.Need-returns
-returns c = (cc, cc)
+returns c =
+    let g = c .before .before .before .before .before .before .before .before .before .before .before .before .before .args in
+    let n = c .before .before .before .before .before .before .before .get in
+    let a = c .before .before .before .before .before .before .get2 in
+    let o = c .before .before .before .before .before .get3 in
+    let e = c .before .before .before .before .enter in (
+      edge-ends-by (g .deg .now) (e .last .0) (g .part .now) (g .at) (a .result) (o .result) (a .ensures) (o .ensures) (e .ensures .0),
+      edge-owned-by (g .own .now) (e .last .1 .0) (g .part .now) (g .at) (n .result) (a .result) (o .result) (n .ensures) (a .ensures) (o .ensures) (e .ensures .1),
+    )
 
 pub edge-enter-spec : {M : Type 1} → statement M
 edge-enter-spec =

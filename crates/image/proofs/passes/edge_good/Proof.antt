@@ -1,10 +1,4 @@
 use Rattle.image.proofs.Turns.{edge-by}
-use borrow.Author.Tests.{lt-ltb, le-ltb, le-leb, lt-leb, eq-eqb, ne-eqb, not-true, not-false, leb-true, leb-false, ltb-true, ltb-false, eqb-true, eqb-false}
-use mathlib.Core.Path.{_≡_, refl, sym, ap, _∙_, subst}
-use native.Mathlib.Omega.{arith}
-use lib.ListN.{length, getD, take, drop, set, List·getD-eq-default, length-set}
-use Prim.Native.Nat.{ℕ, _+_, _-_, _*_, _≤_, _<_}
-use mathlib.Core.List.{List, [], _∷_}
 use borrow.Author.Needs.{needs}
 use Rattle.image.proofs.passes.edge_good.Statement.{statement}
 use Rattle.image.proofs.passes.edge_good.Tie as tie

@@ -1,11 +1,10 @@
 -- The invariant: what the rest of the records says is what all of them say; no count in deg is above 1 + at.
-use Prim.Native.Nat.{ℕ, _+_, _-_, _*_, _≤_, _<_}
-use mathlib.Core.Path.{_≡_, refl, sym, ap, _∙_, subst}
+use Prim.Native.Nat.{ℕ, _+_, _-_, _*_, _≤_}
+use mathlib.Core.Path.{_≡_, refl, sym, _∙_, subst}
 use mathlib.Core.List.{List}
 use native.Mathlib.Omega.{arith}
 use borrow.Author.Needs.{needs}
-use lib.ListN.{length, getD, drop}
-use native.Mathlib.Nat.{add-zero}
+use lib.ListN.{length, drop}
 use Rattle.image.specs.Scratch.{Below, edgeRun, edgeDegrees, edgeOwners}
 use Rattle.image.proofs.Turns.{edge-stop, edge-go, degrees-go, owners-go, edge-end, good-at, below-ends, below-more, no-bad}
 use Rattle.image.proofs.passes.edges.Statement.{statement}
@@ -29,16 +28,16 @@ loop-holds c =
     (omega arith, omega arith, refl, refl, c .before .before .before .pre .3, rw (e, z), rw e, rw e)
 
 edge-good-requires : tie.Need-edge-good-requires Inv-loop μ-loop
-edge-good-requires c κs = search needs
+edge-good-requires c κs = omega arith
 
 cast-t16 : tie.Need-cast-t16 Inv-loop μ-loop
-cast-t16 c = search needs
+cast-t16 c = omega arith
 
 add-t17 : tie.Need-add-t17 Inv-loop μ-loop
-add-t17 c = search needs
+add-t17 c = omega arith
 
 add-t18 : tie.Need-add-t18 Inv-loop μ-loop
-add-t18 c = search needs
+add-t18 c = omega arith
 
 same-length : tie.Need-same-length Inv-loop μ-loop
 same-length c = search needs
@@ -64,13 +63,13 @@ edge-enter-requires c κs =
     )
 
 add-at : tie.Need-add-at Inv-loop μ-loop
-add-at c = search needs
+add-at c = omega arith
 
 add-i : tie.Need-add-i Inv-loop μ-loop
-add-i c = search needs
+add-i c = omega arith
 
 loop-less : tie.Need-loop-less Inv-loop μ-loop
-loop-less c = search needs
+loop-less c = omega arith
 
 loop-again : tie.Need-loop-again Inv-loop μ-loop
 loop-again c =

@@ -1,11 +1,9 @@
-use mathlib.Core.Path.{_≡_, refl, sym, ap, _∙_, subst}
-use Prim.Native.Nat.{ℕ, _+_, _-_, _*_, _≤_, _<_}
-use mathlib.Core.List.{List, [], _∷_}
-use Rattle.image.proofs.Turns.{below-bump}
-use borrow.Author.Tests.{lt-ltb, le-ltb, le-leb, lt-leb, eq-eqb, ne-eqb, not-true, not-false, leb-true, leb-false, ltb-true, ltb-false, eqb-true, eqb-false}
-use mathlib.Core.Path.{refl, sym, ap, _∙_, subst}
+use mathlib.Core.Path.{sym, subst}
+use Prim.Native.Nat.{ℕ, _<_}
+use mathlib.Core.List.{List}
+use Rattle.image.proofs.Turns.{below-bump, ends-by, owned-by}
 use native.Mathlib.Omega.{arith}
-use lib.ListN.{length, getD, take, drop, set, List·getD-eq-default, length-set}
+use lib.ListN.{getD}
 use borrow.Author.Needs.{needs}
 use Rattle.image.proofs.passes.enter.Statement.{statement}
 use Rattle.image.proofs.passes.enter.Tie as tie
@@ -46,7 +44,18 @@ same-length-2 : tie.Need-same-length-2
 same-length-2 c = search needs
 
 returns : tie.Need-returns
-returns c = (cc, cc)
+returns c =
+    let a = c .before .before .before .before .before .before .before .before .before .before .before .before .before .before .before .before .before .before .before .before .before .args in
+    let w = c .before .before .before .before .before .before .before .before .before .before .before .before .before .before .before .before .before .wide in
+    let p = c .before .before .before .before .before .before .before .before .before .before .before .before .before .before .before .before .bump in
+    let x = c .before .before .before .before .before .before .before .before .before .before .before .before .wide2 in
+    let q = c .before .before .before .before .before .before .before .before .before .before .before .bump2 in
+    let y = c .before .before .before .before .before .before .before .before .wide3 in
+    let r = c .before .before .before .before .before .before .put in
+    let s = c .before .before .put2 in (
+      ends-by (a .deg .now) (p .last .0) (q .last .0) (a .a) (a .o) (w .result) (x .result) (w .ensures .0) (p .ensures) (x .ensures .0) (q .ensures),
+      owned-by (a .own .now) (r .last .0) (s .last .0) (a .n) (a .a) (a .o) (y .result) (y .ensures .0) (r .ensures) (s .ensures),
+    )
 
 pub enter-spec : {M : Type 1} → statement M
 enter-spec =

@@ -1,11 +1,10 @@
 -- The invariant: what the lists that are left say is what all of them say.
-use Prim.Native.Nat.{ℕ, _+_, _-_, _*_, _≤_, _<_}
-use mathlib.Core.Path.{_≡_, refl, sym, ap, _∙_, subst}
-use mathlib.Core.List.{List}
+use Prim.Native.Nat.{_+_, _-_, _*_, _≤_}
+use mathlib.Core.Path.{_≡_, refl, _∙_}
 use native.Mathlib.Omega.{arith}
 use borrow.Author.Needs.{needs}
-use lib.ListN.{length, getD, drop, length-drop}
-use Rattle.image.specs.Scratch.{listRun, listOwners, incidenceRun}
+use lib.ListN.{length, drop, length-drop}
+use Rattle.image.specs.Scratch.{incidenceRun}
 use Rattle.image.proofs.Turns.{degree-by, list-by, incidence-stop, incidence-go, incidence-more, incidence-done, list-le}
 use Rattle.image.proofs.passes.incidences.Statement.{statement}
 use Rattle.image.proofs.passes.incidences.Tie as tie
@@ -41,10 +40,10 @@ list-requires : tie.Need-list-requires Inv-loop μ-loop
 list-requires c κs = search needs
 
 cast-t19 : tie.Need-cast-t19 Inv-loop μ-loop
-cast-t19 c = search needs
+cast-t19 c = omega arith
 
 add-t20 : tie.Need-add-t20 Inv-loop μ-loop
-add-t20 c = search needs
+add-t20 c = omega arith
 
 add-t21 : tie.Need-add-t21 Inv-loop μ-loop
 add-t21 c =
@@ -94,13 +93,13 @@ add-at c =
     omega (arith, f .ensures .0, e .1, m, l .inv .2, c .before .before .before .before .before .before .before .before .before .before .before .before .before .before .before .before .pre .2, c .before .if1 .left, c .wide2 .ensures .0)
 
 add-row : tie.Need-add-row Inv-loop μ-loop
-add-row c = search needs
+add-row c = omega arith
 
 add-i : tie.Need-add-i Inv-loop μ-loop
-add-i c = search needs
+add-i c = omega arith
 
 loop-less : tie.Need-loop-less Inv-loop μ-loop
-loop-less c = search needs
+loop-less c = omega arith
 
 loop-again : tie.Need-loop-again Inv-loop μ-loop
 loop-again c =
@@ -128,10 +127,10 @@ loop-again c =
     )
 
 cast-t24 : tie.Need-cast-t24 Inv-loop μ-loop
-cast-t24 c = search needs
+cast-t24 c = omega arith
 
 add-t25 : tie.Need-add-t25 Inv-loop μ-loop
-add-t25 c = search needs
+add-t25 c = omega arith
 
 same-length-2 : tie.Need-same-length-2 Inv-loop μ-loop
 same-length-2 c = search needs

@@ -1,6 +1,3 @@
-use borrow.Author.Tests.{lt-ltb, le-ltb, le-leb, lt-leb, eq-eqb, ne-eqb, not-true, not-false, leb-true, leb-false, ltb-true, ltb-false, eqb-true, eqb-false}
-use mathlib.Core.Path.{refl, sym, ap, _∙_, subst}
-use native.Mathlib.Omega.{arith}
 use Rattle.image.proofs.Readings.{reading-low, reading-two, reading-none}
 use Rattle.image.proofs.records.reading.Statement.{statement}
 use Rattle.image.proofs.records.reading.Tie as tie

@@ -1,8 +1,4 @@
-use borrow.Author.Tests.{lt-ltb, le-ltb, le-leb, lt-leb, eq-eqb, ne-eqb, not-true, not-false, leb-true, leb-false, ltb-true, ltb-false, eqb-true, eqb-false}
-use mathlib.Core.Path.{refl, sym, ap, _∙_, subst}
-use native.Mathlib.Omega.{arith}
-use lib.ListN.{length, getD, take, drop, set, List·getD-eq-default, length-set}
-use lib.Seq.{set-out}
+use Rattle.image.proofs.Turns.{bump-by}
 use borrow.Author.Needs.{needs}
 use Rattle.image.proofs.words.bump.Statement.{statement}
 use Rattle.image.proofs.words.bump.Tie as tie
@@ -20,7 +16,10 @@ same-length : tie.Need-same-length
 same-length c = search needs
 
 returns : tie.Need-returns
-returns c = cc
+returns c =
+    let g = c .before .before .before .before .get in
+    let p = c .before .before .put in
+    bump-by (c .before .before .before .before .before .before .before .args .s .now) (p .last .0) (c .before .before .before .before .before .before .before .args .i) (g .result) (g .ensures) (p .ensures)
 
 pub bump-spec : {M : Type 1} → statement M
 bump-spec = tie.close (tie.spec get-requires add-put put-requires same-length returns)
