@@ -1,26 +1,17 @@
 -- A walk along a held list, node by node, that adds f of each node.
-use Prim.Native.Nat.{ℕ, zero, suc, _+_, _≤_, _<_}
+use Prim.Native.Nat.{ℕ, _+_, _≤_, _<_}
 use mathlib.Core.Path.{_≡_, refl, sym, ap, _∙_}
 use mathlib.Core.Bool.{Bool}
 use mathlib.Core.List.{List, [], _∷_}
 use native.Mathlib.Omega.{arith}
 use lib.ListN.{length}
-use borrow.Author.Tests.{eq-eqb, ne-eqb}
 use Rattle.lists.specs.Lists.{sumOf, before}
 use Rattle.ring.specs.declared.Lane.{Lane}
 use Rattle.ring.specs.declared.Ends.{Ends}
 use Rattle.ring.specs.Lists.{Fresh, All}
 use Rattle.ring.specs.Links.{Fair, prv, nxt, Inside, linkOf, Chain, Held, HeldAt, nodesFrom, nodes}
 use Rattle.ring.proofs.Pigeon.{held-length}
-use Rattle.ring.proofs.Model.{node-below, held-nodes}
-
-nodes-chain : (n p : ℕ → ℕ) (k a : ℕ) (l : List ℕ) → Chain n p a l 0 → Fresh 0 l → length l ≤ k → nodesFrom n k (n a) ≡ l
-nodes-chain n p zero a [] c z h = refl
-nodes-chain n p zero a (x ∷ l) c z h = absurd (omega arith)
-nodes-chain n p (suc k) a [] c z h = simp (eq-eqb (n a) 0 (c .0))
-nodes-chain n p (suc k) a (x ∷ l) c z h =
-    let r : nodesFrom n k (n x) ≡ l = nodes-chain n p k x l (c .1) (z .1) (omega arith) in
-    simp (c .0 .0, ne-eqb x 0 (λ q. z .0 (sym q)), r)
+use Rattle.ring.proofs.Model.{nodes-chain, node-below, held-nodes}
 
 module _ (f : ℕ → ℕ) (P : ℕ → Type 0) (lane : Lane) (t : List ℕ) (e : Ends) where
   -- the walk is at w, behind the node `from`, has added n, and will have added `total`

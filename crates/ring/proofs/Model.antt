@@ -14,7 +14,8 @@ use Rattle.ring.proofs.ListLaws.{headOr, lastOr}
 use Rattle.ring.proofs.Chains.{head-link, last-link}
 use Rattle.ring.proofs.Pigeon.{held-length}
 
-nodes-chain : (n p : ℕ → ℕ) (f a : ℕ) (l : List ℕ) → Chain n p a l 0 → Fresh 0 l → length l ≤ f → nodesFrom n f (n a) ≡ l
+-- the nodes read off a chain are its nodes
+pub nodes-chain : (n p : ℕ → ℕ) (f a : ℕ) (l : List ℕ) → Chain n p a l 0 → Fresh 0 l → length l ≤ f → nodesFrom n f (n a) ≡ l
 nodes-chain n p zero a [] c z h = refl
 nodes-chain n p zero a (x ∷ l) c z h = absurd (omega arith)
 nodes-chain n p (suc f) a [] c z h = simp (eq-eqb (n a) 0 (c .0))

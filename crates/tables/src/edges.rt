@@ -51,7 +51,7 @@ pub fn move_edge(head: Head, vt: &[u32], et: &mut [u32], n: u32, p: u32) -> Head
 }
 
 // An edge's row and its place in Eseq, without its words in the lists.
-fn place_edge(head: Head, vt: &[u32], et: &mut [u32], x: EdgeRecord, p: u32) -> Head
+pub fn place_edge(head: Head, vt: &[u32], et: &mut [u32], x: EdgeRecord, p: u32) -> Head
     requires { ⌜ CanPlaceEdge (x .number) p (st head (now vt) (now et)) ⌝ }
     ensures { λ r. ⌜ st r (now (vt .entry)) (now (et .exit)) ≡ placeEdgeS (x .number) (x .alpha) (x .omega) (x .sort) (x .reading) p (st head (now (vt .entry)) (now (et .entry))) ⌝ }
 {

@@ -1,0 +1,145 @@
+// The parts of an image, from the tables: each function writes words from a place on, and tells the place behind them.
+use ring::Ends;
+use ring::Lane;
+use tables::Head;
+use tables::rows::decimetres_of;
+use tables::rows::edge_type;
+use tables::rows::ends_of;
+use tables::rows::kind_of;
+use tables::rows::reading_at;
+use tables::rows::this;
+use tables::rows::vertex_type;
+use tables::rows::vertex_value;
+ghost use mathlib.Core.Path.{_≡_};
+ghost use mathlib.Core.List.{[], _∷_};
+ghost use Prim.Native.Nat.{ℕ, _+_, _≤_, _<_, _^_};
+ghost use lib.ListN.{length};
+ghost use lib.Seq.{sets};
+ghost use Rattle.image.specs.Image.{headerOf};
+ghost use Rattle.tables.specs.Tables.{VIn, EIn, vlane, elane, ilane, vends, eends, endsAt};
+ghost use Rattle.store.specs.Words.{vertexWords, edgeWords, listWords, vertexPart, edgePart, incidencePart, Fits, Some};
+
+fn three(out: &mut [u32], at: usize, a: u32, b: u32, c: u32)
+    requires { ⌜ at + 3 ≤ length (now out) ⌝ }
+    ensures { λ _. ⌜ now (out .exit) ≡ sets (now (out .entry)) at (a ∷ b ∷ c ∷ []) ⌝ }
+{
+    out[at] = a;
+    out[at + 1] = b;
+    out[at + 2] = c;
+}
+
+// V, E, the three offsets, the total.
+pub fn header(out: &mut [u32], v: u32, e: u32)
+    requires { ⌜ (v ≤ 1000) × (e ≤ 4000) × (6 ≤ length (now out)) ⌝ }
+    ensures { λ _. ⌜ now (out .exit) ≡ sets (now (out .entry)) 0 (headerOf v e) ⌝ }
+{
+    three(out, 0, v, e, 6);
+    three(out, 3, 6 + 3 * v, 6 + 3 * v + 6 * e, 6 + 3 * v + 8 * e);
+}
+
+// The record of vertex v.
+fn vertex(vt: &[u32], v: u32, out: &mut [u32], at: usize)
+    requires { ⌜ VIn (now vt) v × Fits at (vertexWords (now vt) v) (now out) ⌝ }
+    ensures { λ _. ⌜ now (out .exit) ≡ sets (now (out .entry)) at (vertexWords (now (vt .entry)) v) ⌝ }
+{
+    let t = vertex_type(vt, v);
+    let x = vertex_value(vt, v);
+    three(out, at, v, t, x);
+}
+
+// The record of edge e.
+fn edge(et: &[u32], e: u32, out: &mut [u32], at: usize)
+    requires { ⌜ EIn (now et) e × (e < 2 ^ 31) × Fits at (edgeWords (now et) e) (now out) ⌝ }
+    ensures { λ _. ⌜ now (out .exit) ≡ sets (now (out .entry)) at (edgeWords (now (et .entry)) e) ⌝ }
+{
+    let a = this(et, 2 * e);
+    let z = this(et, 2 * e + 1);
+    let t = edge_type(et, e);
+    let r = reading_at(et, e);
+    let k = kind_of(r);
+    let d = decimetres_of(r);
+    three(out, at, e, a, z);
+    three(out, at + 3, t, k, d);
+}
+
+// The vertex part.
+pub fn vertices(head: Head, vt: &[u32], out: &mut [u32], from: usize) -> usize
+    requires { ⌜ Some vlane (now vt) (vends head) × Fits from (vertexPart head (now vt)) (now out) ⌝ }
+    ensures { λ r. ⌜ (now (out .exit) ≡ sets (now (out .entry)) from (vertexPart head (now (vt .entry)))) × (r ≡ from + length (vertexPart head (now (vt .entry)))) ⌝ }
+{
+    let lane = Lane { stride: 8, skip: 2 };
+    let ends = Ends {
+        first: head.vfirst,
+        last: head.vlast,
+    };
+    let mut at = from;
+    let mut v = ring::next(vt, lane, ends, 0);
+    while v != 0 {
+        vertex(vt, v, out, at);
+        at += 3;
+        v = ring::next(vt, lane, ends, v);
+    }
+    at
+}
+
+// The edge part.
+pub fn edges(head: Head, et: &[u32], out: &mut [u32], from: usize) -> usize
+    requires { ⌜ Some elane (now et) (eends head) × (length (now et) < 2 ^ 31) × Fits from (edgePart head (now et)) (now out) ⌝ }
+    ensures { λ r. ⌜ (now (out .exit) ≡ sets (now (out .entry)) from (edgePart head (now (et .entry)))) × (r ≡ from + length (edgePart head (now (et .entry)))) ⌝ }
+{
+    let lane = Lane {
+        stride: 12,
+        skip: 2,
+    };
+    let ends = Ends {
+        first: head.efirst,
+        last: head.elast,
+    };
+    let mut at = from;
+    let mut e = ring::next(et, lane, ends, 0);
+    while e != 0 {
+        edge(et, e, out, at);
+        at += 6;
+        e = ring::next(et, lane, ends, e);
+    }
+    at
+}
+
+// The incidence list of v.
+fn list(vt: &[u32], et: &[u32], v: u32, out: &mut [u32], from: usize) -> usize
+    requires { ⌜ VIn (now vt) v × Some ilane (now et) (endsAt (now vt) v) × Fits from (listWords (now vt) (now et) v) (now out) ⌝ }
+    ensures { λ r. ⌜ (now (out .exit) ≡ sets (now (out .entry)) from (listWords (now (vt .entry)) (now (et .entry)) v)) × (r ≡ from + length (listWords (now (vt .entry)) (now (et .entry)) v)) ⌝ }
+{
+    let lane = Lane {
+        stride: 6,
+        skip: 12,
+    };
+    let ends = ends_of(vt, v);
+    let mut at = from;
+    let mut w = ring::next(et, lane, ends, 0);
+    while w != 0 {
+        out[at] = w;
+        at += 1;
+        w = ring::next(et, lane, ends, w);
+    }
+    at
+}
+
+// The incidence part.
+pub fn lists(head: Head, vt: &[u32], et: &[u32], out: &mut [u32], from: usize) -> usize
+    requires { ⌜ Some vlane (now vt) (vends head) × ((v : ℕ) → 1 ≤ v → Some ilane (now et) (endsAt (now vt) v)) × Fits from (incidencePart head (now vt) (now et)) (now out) ⌝ }
+    ensures { λ r. ⌜ (now (out .exit) ≡ sets (now (out .entry)) from (incidencePart head (now (vt .entry)) (now (et .entry)))) × (r ≡ from + length (incidencePart head (now (vt .entry)) (now (et .entry)))) ⌝ }
+{
+    let lane = Lane { stride: 8, skip: 2 };
+    let ends = Ends {
+        first: head.vfirst,
+        last: head.vlast,
+    };
+    let mut at = from;
+    let mut v = ring::next(vt, lane, ends, 0);
+    while v != 0 {
+        at = list(vt, et, v, out, at);
+        v = ring::next(vt, lane, ends, v);
+    }
+    at
+}
