@@ -1,0 +1,8 @@
+//! Document 01's plain machine, written from the document alone, and what the engine is compared with.
+
+pub mod examples;
+pub mod gen;
+pub mod image;
+pub mod machine;
+pub mod run;
+pub mod text;
