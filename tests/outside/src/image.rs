@@ -43,10 +43,7 @@ pub fn part(words: &[u32], which: u32) -> Option<(usize, usize)> {
 pub fn is_chart(g: &Graph, capacities: Capacities, types: u32) -> bool {
     let mut vertices = HashSet::new();
     let mut edges = HashSet::new();
-    let vertices_good = g
-        .vertices
-        .iter()
-        .all(|v| (1..=capacities.vertices).contains(&v.number) && v.ty < types && vertices.insert(v.number));
+    let vertices_good = g.vertices.iter().all(|v| (1..=capacities.vertices).contains(&v.number) && v.ty < types && vertices.insert(v.number));
     let edges_good = g.edges.iter().all(|e| {
         (1..=capacities.edges).contains(&e.number)
             && e.ty < types

@@ -20,7 +20,10 @@ pub struct Case {
 pub enum Outcome {
     Refused(u32),
     /// The words that answers and image begin with.
-    Done { answers: Vec<u32>, image: Vec<u32> },
+    Done {
+        answers: Vec<u32>,
+        image: Vec<u32>,
+    },
 }
 
 impl Case {
