@@ -463,14 +463,14 @@ static inline void step(struct store *s, const u32 *call, u32 *answer) {
         NEED_VERTEX(b);
         u32 v = vertex_row(s, a)[V_NEXT];
         while (v && v != b) v = vertex_row(s, v)[V_NEXT];
-        ANSWER(v != 0 && a != b);
+        ANSWER(v != 0);
     }
     case 47: {
         NEED_EDGE(a);
         NEED_EDGE(b);
         u32 e = edge_row(s, a)[E_NEXT];
         while (e && e != b) e = edge_row(s, e)[E_NEXT];
-        ANSWER(e != 0 && a != b);
+        ANSWER(e != 0);
     }
     case 48: {
         NEED_EDGE(a / 2);
@@ -478,7 +478,7 @@ static inline void step(struct store *s, const u32 *call, u32 *answer) {
         if (half(s, a)[W_THIS] != half(s, b)[W_THIS]) REFUSE(8);
         u32 w = half(s, a)[W_NEXT];
         while (w && w != b) w = half(s, w)[W_NEXT];
-        ANSWER(w != 0 && a != b);
+        ANSWER(w != 0);
     }
     case 49: {
         NEED_MARK(a);

@@ -70,9 +70,9 @@ pub enum Size {
 
 pub fn size_of(seed: u64) -> Size {
     match seed % 500 {
-        0 => Size::Full,
-        1 => Size::Long,
-        2..=40 => Size::Middle,
+        460..=497 => Size::Middle,
+        498 => Size::Long,
+        499 => Size::Full,
         _ => Size::Small,
     }
 }

@@ -370,7 +370,7 @@ mod compare {
             ("60,001 digits", filled(60_001, b'1')),
             ("60,000 newlines", filled(60_000, b'\n')),
             ("60,001 newlines", filled(60_001, b'\n')),
-            ("200,000 zeros bytes", filled(200_000, 0)),
+            ("200,000 zero bytes", filled(200_000, 0)),
         ]
     }
 
