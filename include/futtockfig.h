@@ -159,7 +159,8 @@ struct futtockfig_result {
  * The caller must see to it that
  * - each pointer is to as many words as its length says, is aligned for its type and is not NULL, also where the
  *   length is 0;
- * - no two of the eight slices overlap. The lengths are numbers of words, not of bytes;
+ * - vertices, edges, journal, answers and image overlap neither one another nor start, rows or calls;
+ * - lengths are numbers of words (rows: of 64-bit rows), not of bytes;
  * - no other thread touches the lent slices during the run;
  * - the stack has some 64 KB left.
  */
