@@ -6,7 +6,7 @@
 //!             [--vectors DIR]                   and the cases kept in DIR
 //!     outside --text                            chartrun on the plain machine: standard input to output
 
-use outside::gen::{self, Size};
+use outside::gen;
 use outside::image;
 use outside::machine::{is_change, is_kind, Call, Graph};
 use outside::run::{Case, Outcome};
@@ -184,7 +184,6 @@ fn demands(case: &Case, outcome: &Outcome, reached: &mut Reached) -> Result<(), 
 #[cfg(not(feature = "engine"))]
 mod compare {
     pub fn run(_: &super::Options) {
-        let _ = super::Size::Small;
         eprintln!("outside: built without the feature `engine`; only --self and --text run");
         std::process::exit(2)
     }
@@ -193,6 +192,7 @@ mod compare {
 #[cfg(feature = "engine")]
 mod compare {
     use super::*;
+    use outside::gen::Size;
     use outside::{engine, examples, vector};
     use std::process::{Command, Stdio};
     use std::sync::atomic::{AtomicU64, Ordering};
