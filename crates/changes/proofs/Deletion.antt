@@ -26,9 +26,9 @@ use Rattle.journal.specs.Rows.{rowed}
 use Rattle.tables.specs.Tables.{State, VIn, EIn, vfirst}
 use Rattle.tables.specs.Holds.{Holds}
 use Rattle.tables.specs.Edits.{applyS, Can}
-use Rattle.tables.specs.Plans.{Short, planRemoveEdge, planRemoveVertex}
-use Rattle.tables.proofs.Answers.{first-word, vertex-row, edge-row}
-use Rattle.tables.proofs.PlanLaws.{removal-is, plan-is}
+use Rattle.queries.specs.Plans.{Short, planRemoveEdge, planRemoveVertex}
+use Rattle.queries.proofs.Answers.{first-word, vertex-row, edge-row}
+use Rattle.queries.proofs.PlanLaws.{removal-is, plan-is}
 use Rattle.timeline.specs.declared.Position.{Position}
 use Rattle.timeline.specs.Steps.{Journal, Open}
 use Rattle.timeline.proofs.Steps.{stepWith, holds-current, same-current, open-start, open-within, open-can, open-more, open-holds, open-close}

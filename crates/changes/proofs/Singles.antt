@@ -20,14 +20,16 @@ use Rattle.graph.proofs.PlanBounds.{plan-in}
 use Rattle.graph.proofs.ChangeLaws.{Kind, deletion, single, kind?}
 use Rattle.history.specs.Machine.{Step, Timeline, current, extended}
 use Rattle.history.specs.Rules.{stepOf}
-use Rattle.tables.specs.Tables.{State, endsAt}
+use Rattle.tables.specs.Tables.{State, ilane, endsAt}
 use Rattle.tables.specs.Holds.{Holds}
 use Rattle.tables.specs.Capacities.{Sized}
-use Rattle.tables.specs.Plans.{planS, CanPlan}
-use Rattle.tables.specs.Walks.{CanWalk, edgeCount}
-use Rattle.tables.proofs.Answers.{can-walk}
-use Rattle.tables.proofs.Counts.{counted-few, edges-counted}
-use Rattle.tables.proofs.PlanLaws as table-plans
+use Rattle.tables.proofs.Frames.{fair-i}
+use Rattle.queries.specs.Plans.{planS, CanPlan}
+use Rattle.queries.specs.Walks.{CanWalk, countedAt, edgeCount}
+use Rattle.queries.proofs.Answers.{can-walk}
+use Rattle.queries.proofs.ListWalks.{sum-few}
+use Rattle.queries.proofs.Counts.{counted-le, edges-counted}
+use Rattle.queries.proofs.PlanLaws as table-plans
 use Rattle.timeline.specs.declared.Position.{Position}
 use Rattle.timeline.specs.Steps.{Journal}
 use Rattle.timeline.proofs.Steps.{stepWith, holds-current, sound-current, within-current}
@@ -59,7 +61,7 @@ module _ (b : Bounds) (s : State) (z : Sized b s) (g : Graph) (h : Holds s g) (c
 
   pub count-short : (n : ℕ) → n ≡ edgeCount (s .vt) (s .et) a → n + 1 < 2 ^ 32
   unfolding edgeCount
-  count-short n q = omega (arith, q, counted-few (s .et) (endsAt (s .vt) a) (can-count .list) (can-count .held), can-count .small)
+  count-short n q = omega (arith, q, sum-few (countedAt (s .et)) (counted-le (s .et)) ilane (s .et) (endsAt (s .vt) a) fair-i (can-count .list) (can-count .held), can-count .small)
 
 pub counted : (b : Bounds) (s : State) (g : Graph) → Holds s g → (c : Change) (a n : ℕ) → c ≡ DeleteVertex a → Allowed b g c → n ≡ edgeCount (s .vt) (s .et) a → n + 1 ≡ cost c g
 counted b s g h c a n e i q =

@@ -25,7 +25,7 @@ pub fn cost_of(head: Head, vt: &[u32], et: &[u32], change: Change) -> u32
     ensures { λ r. ⌜ ((b : Bounds) → (g : Graph) → Holds (st head (now (vt .entry)) (now (et .entry))) g → Allowed b g change → r ≡ cost change g) ⌝ }
 {
     match change {
-        Change::DeleteVertex(a) => tables::questions::count_edges(vt, et, a) + 1,
+        Change::DeleteVertex(a) => queries::questions::count_edges(vt, et, a) + 1,
         _ => 1,
     }
 }
@@ -52,7 +52,7 @@ fn remove_edges(
     let mut u = pos.used;
     let mut w = tables::rows::first_word(vt, a);
     while w != 0 {
-        let e = tables::plans::plan_remove_edge(et, w / 2);
+        let e = queries::plans::plan_remove_edge(et, w / 2);
         h = timeline::add_row(h, vt, et, t, u, e, rows);
         u = u + 1;
         w = tables::rows::first_word(vt, a);
@@ -76,7 +76,7 @@ fn delete_vertex(
     let r = remove_edges(pos, head, vt, et, t, a, rows);
     let bare = r.head;
     let u = r.used;
-    let e = tables::plans::plan_remove_vertex(vt, a);
+    let e = queries::plans::plan_remove_vertex(vt, a);
     let h = timeline::add_row(bare, vt, et, t, u, e, rows);
     let place = pos.place + 1;
     Moved {
@@ -105,6 +105,6 @@ pub fn make_step(
     if let Change::DeleteVertex(a) = change {
         return delete_vertex(pos, head, vt, et, t, a, rows);
     }
-    let e = tables::plans::plan(head, vt, et, change);
+    let e = queries::plans::plan(head, vt, et, change);
     timeline::add_step(pos, head, vt, et, t, e)
 }

@@ -5,7 +5,7 @@ use Rattle.graph.specs.Graph.{Graph}
 use Rattle.graph.specs.Changes.{VertexThere}
 use Rattle.history.specs.Machine.{current}
 use Rattle.tables.specs.Tables.{st}
-use Rattle.tables.proofs.Answers.{vertex-row}
+use Rattle.queries.proofs.Answers.{vertex-row}
 use Rattle.timeline.proofs.Steps.{holds-current, same-current}
 use Rattle.changes.proofs.Deletion.{Rowing, deleting-start, row-room, row-short, row-before, edge-here, edge-can, vertex-still, deleting-turn, deleting-end}
 use Rattle.changes.proofs.remove_edges.Statement.{statement}
