@@ -17,7 +17,7 @@ use Rattle.machine.specs.Codes.{free, refusal}
 -- ---- what an accepted question answers: "Questions (0 means none)"
 
 unfoldable pub asked : World → Machine → Call → ℕ
-unfolding free below degree twoWay grade standing
+unfolding free below degree twoWay grade
 asked w m x =
     (k == 30) ⇒ first (vertexNumbers g) else
     (k == 31) ⇒ after a (vertexNumbers g) else

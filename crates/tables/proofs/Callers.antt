@@ -9,6 +9,7 @@ use Rattle.graph.specs.Graph.{Graph, vn, en}
 use Rattle.graph.specs.WellFormed.{Bounds, WellFormed}
 use Rattle.graph.specs.Edits.{inverse, apply, Applies, EditIn}
 use Rattle.graph.proofs.Undoes.{undoes, inverse-applies}
+use Rattle.graph.proofs.EditBounds.{inverse-in}
 use Rattle.tables.specs.Tables.{State, vends, eends, VIn, EIn}
 use Rattle.tables.specs.Holds.{Holds}
 use Rattle.tables.specs.Edits.{applyS, Can, Small, Room}
@@ -62,17 +63,6 @@ module _ (b : Bounds) (s : State) (z : Sized b s) where
 
     pub edge-below : countBy en n (g .eseq) ≡ 1 → n ≤ b .edges
     edge-below c = omega (arith, edge-row c, z .edges)
-
-pub inverse-in : (b : Bounds) (e : Edit) → EditIn b e → EditIn b (inverse e)
-inverse-in b (InsertVertex n t v p) i = i
-inverse-in b (RemoveVertex n t v p) i = i
-inverse-in b (InsertEdge n x y t r p o j) i = i
-inverse-in b (RemoveEdge n x y t r p o j) i = i
-inverse-in b (SetVertex n t v t′ v′) i = (i .1, i .0)
-inverse-in b (SetEdge n t r t′ r′) i = (i .1, i .0)
-inverse-in b (MoveVertex n old new) i = tt
-inverse-in b (MoveEdge n old new) i = tt
-inverse-in b (MoveWord w v old u new) i = tt
 
 -- ---- an edit
 

@@ -11,9 +11,3 @@ pub mod Sizes
 pub mod Empty
 pub mod Callers
 pub mod GraphRead
-pub mod Removed
-pub mod Answers
-pub mod PlanLaws
-pub mod ListWalks
-pub mod DistinctSums
-pub mod Counts

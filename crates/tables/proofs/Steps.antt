@@ -1,18 +1,18 @@
 -- What a caller makes of what each call ensures.
-use Prim.Native.Nat.{ℕ, _+_, _*_}
+use Prim.Native.Nat.{ℕ, _+_, _-_}
 use mathlib.Core.Path.{_≡_, ap, sym, subst, _∙_}
-use Rattle.graph.specs.declared.Edit.{Edit}
-use Rattle.graph.specs.declared.Edit.the-variants.{RemoveEdge}
-use Rattle.graph.specs.declared.Reading.{Reading}
-use Rattle.lists.specs.Choice.{pick}
-use Rattle.tables.specs.Edits.{applyS, Can}
-use Rattle.tables.specs.Plans.{CanPlan, planS}
-use Rattle.graph.specs.declared.Change.{Change}
 use mathlib.Core.List.{List}
+use lib.ListN.{set}
 use Rattle.ring.specs.declared.Lane.{Lane}
 use Rattle.ring.specs.declared.Ends.{Ends}
-use Rattle.ring.specs.Links.{CanUnlink, CanInsert}
-use Rattle.tables.specs.Tables.{State, CanDropEdge, CanAttach, CanDetach}
+use Rattle.ring.specs.Links.{unlinkT, unlinkE, insertT, insertE, CanUnlink, CanInsert}
+use Rattle.graph.specs.declared.Reading.{Reading}
+use Rattle.graph.specs.declared.Reading.the-variants.{Untested}
+use Rattle.graph.specs.declared.Edit.{Edit}
+use Rattle.graph.specs.Graph.{readingKind, decimetres}
+use Rattle.tables.specs.declared.Head.{Head}
+use Rattle.tables.specs.Tables.{State, st, vlane, elane, ilane, vends, eends, endsAt, putEnds, withV, withE, countV, countE, eat, rowVT, rowET, thisET, moveT, moveE, detachS, CanDetach, attachS, CanAttach, moveVertexS, moveEdgeS, insertVertexS, removeVertexS, placeEdgeS, dropEdgeS, CanDropEdge}
+use Rattle.tables.specs.Edits.{applyS, Can}
 
 pub unlink-by : (lane : Lane) (t : List ℕ) {e e′ : Ends} (x : ℕ) → e ≡ e′ → CanUnlink lane t e′ x → CanUnlink lane t e x
 unlink-by lane t x q h = rw q h
@@ -43,17 +43,74 @@ can-by s q h = subst (λ (x : Edit). Can x s) q h
 pub did-by : (s : State) {s′ : State} {e e′ : Edit} → e ≡ e′ → s′ ≡ applyS e′ s → s′ ≡ applyS e s
 did-by s q h = h ∙ ap (λ (x : Edit). applyS x s) (sym q)
 
--- the parts of a removal
-pub removal-by : (n : ℕ) {a a′ z z′ t t′ p p′ o o′ i i′ q : ℕ} {r r′ : Reading} →
-    a ≡ a′ → z ≡ z′ → t ≡ t′ → r ≡ r′ → p ≡ p′ → i ≡ i′ → o ≡ o′ → q ≡ pick o (2 * n + 1) i o →
-    RemoveEdge n a z t r p q i ≡ RemoveEdge n a′ z′ t′ r′ p′ (pick o′ (2 * n + 1) i′ o′) i′
-removal-by n {o′ = o′} {i′ = i′} {q = q} ea ez et er ep ei eo eq =
-    let w : q ≡ pick o′ (2 * n + 1) i′ o′ = eq ∙ (λ k. pick (eo k) (2 * n + 1) (ei k) (eo k)) in
-    λ k. RemoveEdge n (ea k) (ez k) (et k) (er k) (ep k) (w k) (ei k)
+-- ---- what the calls of a step leave, as one equation of states
 
--- an arm of the match on a change
-pub asks-by : (s : State) {c c′ : Change} → c ≡ c′ → CanPlan c s → CanPlan c′ s
-asks-by s q h = subst (λ (x : Change). CanPlan x s) q h
+module _ (lane : Lane) (n p : ℕ) (t : List ℕ) (e : Ends) where
+  pub moved : {t′ t″ : List ℕ} {o r : Ends} →
+      (t′ ≡ unlinkT lane t e n) × (o ≡ unlinkE lane t e n) → (t″ ≡ insertT lane t′ o p n) × (r ≡ insertE lane t′ o p n) →
+      (t″ ≡ moveT lane n p t e) × (r ≡ moveE lane n p t e)
+  unfolding moveT moveE
+  moved a b = (b .0 ∙ (λ i. insertT lane (a .0 i) (a .1 i) p n), b .1 ∙ (λ i. insertE lane (a .0 i) (a .1 i) p n))
 
-pub plans-by : (s : State) {c c′ : Change} {r : Edit} → c ≡ c′ → r ≡ planS c′ s → r ≡ planS c s
-plans-by s q h = h ∙ ap (λ (x : Change). planS x s) (sym q)
+module _ (h : Head) (vt et : List ℕ) where
+  pub detached : (v w : ℕ) {e r : Ends} {vt′ et′ : List ℕ} → e ≡ endsAt vt v → (et′ ≡ unlinkT ilane et e w) × (r ≡ unlinkE ilane et e w) → vt′ ≡ putEnds v r vt →
+      st h vt′ et′ ≡ detachS v w (st h vt et)
+  unfolding detachS
+  detached v w {vt′ = vt′} {et′ = et′} a b c =
+      let x : et′ ≡ unlinkT ilane et (endsAt vt v) w = b .0 ∙ (λ i. unlinkT ilane et (a i) w) in
+      let y : vt′ ≡ putEnds v (unlinkE ilane et (endsAt vt v) w) vt = c ∙ (λ i. putEnds v (b .1 i) vt) ∙ (λ i. putEnds v (unlinkE ilane et (a i) w) vt) in
+      λ i. st h (y i) (x i)
+
+  pub attached : (v p w : ℕ) {e r : Ends} {vt′ et′ : List ℕ} → e ≡ endsAt vt v → (et′ ≡ insertT ilane et e p w) × (r ≡ insertE ilane et e p w) → vt′ ≡ putEnds v r vt →
+      st h vt′ et′ ≡ attachS v p w (st h vt et)
+  unfolding attachS
+  attached v p w {vt′ = vt′} {et′ = et′} a b c =
+      let x : et′ ≡ insertT ilane et (endsAt vt v) p w = b .0 ∙ (λ i. insertT ilane et (a i) p w) in
+      let y : vt′ ≡ putEnds v (insertE ilane et (endsAt vt v) p w) vt = c ∙ (λ i. putEnds v (b .1 i) vt) ∙ (λ i. putEnds v (insertE ilane et (a i) p w) vt) in
+      λ i. st h (y i) (x i)
+
+  pub vertex-moved : (n p : ℕ) {vt′ : List ℕ} {e : Ends} → (vt′ ≡ moveT vlane n p vt (vends h)) × (e ≡ moveE vlane n p vt (vends h)) → st (withV e h) vt′ et ≡ moveVertexS n p (st h vt et)
+  unfolding moveVertexS
+  vertex-moved n p a = λ i. st (withV (a .1 i) h) (a .0 i) et
+
+  pub edge-moved : (n p : ℕ) {et′ : List ℕ} {e : Ends} → (et′ ≡ moveT elane n p et (eends h)) × (e ≡ moveE elane n p et (eends h)) → st (withE e h) vt et′ ≡ moveEdgeS n p (st h vt et)
+  unfolding moveEdgeS
+  edge-moved n p a = λ i. st (withE (a .1 i) h) vt (a .0 i)
+
+  pub vertex-inserted : (n t x p : ℕ) {vt′ vt″ : List ℕ} {e : Ends} →
+      (vt′ ≡ insertT vlane vt (vends h) p n) × (e ≡ insertE vlane vt (vends h) p n) → vt″ ≡ rowVT n 1 t x vt′ →
+      st (countV (h .vertices + 1) (withV e h)) vt″ et ≡ insertVertexS n t x p (st h vt et)
+  unfolding insertVertexS
+  vertex-inserted n t x p {vt″ = vt″} a b =
+      let y : vt″ ≡ rowVT n 1 t x (insertT vlane vt (vends h) p n) = b ∙ (λ i. rowVT n 1 t x (a .0 i)) in
+      λ i. st (countV (h .vertices + 1) (withV (a .1 i) h)) (y i) et
+
+  pub vertex-removed : (n : ℕ) {vt′ vt″ : List ℕ} {e : Ends} →
+      (vt′ ≡ unlinkT vlane vt (vends h) n) × (e ≡ unlinkE vlane vt (vends h) n) → vt″ ≡ rowVT n 0 0 0 vt′ →
+      st (countV (h .vertices - 1) (withV e h)) vt″ et ≡ removeVertexS n (st h vt et)
+  unfolding removeVertexS
+  vertex-removed n {vt″ = vt″} a b =
+      let y : vt″ ≡ rowVT n 0 0 0 (unlinkT vlane vt (vends h) n) = b ∙ (λ i. rowVT n 0 0 0 (a .0 i)) in
+      λ i. st (countV (h .vertices - 1) (withV (a .1 i) h)) (y i) et
+
+  pub edge-placed : (n a z t : ℕ) (r : Reading) (p : ℕ) {t₁ t₂ t₃ : List ℕ} {e : Ends} →
+      (t₁ ≡ insertT elane et (eends h) p n) × (e ≡ insertE elane et (eends h) p n) → t₂ ≡ rowET n 1 t r t₁ → t₃ ≡ thisET n a z t₂ →
+      st (countE (h .edges + 1) (withE e h)) vt t₃ ≡ placeEdgeS n a z t r p (st h vt et)
+  unfolding placeEdgeS
+  edge-placed n a z t r p {t₃ = t₃} b c d =
+      let y : t₃ ≡ thisET n a z (rowET n 1 t r (insertT elane et (eends h) p n)) = d ∙ (λ i. thisET n a z (c i)) ∙ (λ i. thisET n a z (rowET n 1 t r (b .0 i))) in
+      λ i. st (countE (h .edges + 1) (withE (b .1 i) h)) vt (y i)
+
+  pub edge-dropped : (n : ℕ) {t₁ t₂ t₃ : List ℕ} {e : Ends} →
+      (t₁ ≡ unlinkT elane et (eends h) n) × (e ≡ unlinkE elane et (eends h) n) → t₂ ≡ rowET n 0 0 Untested t₁ → t₃ ≡ thisET n 0 0 t₂ →
+      st (countE (h .edges - 1) (withE e h)) vt t₃ ≡ dropEdgeS n (st h vt et)
+  unfolding dropEdgeS
+  edge-dropped n {t₃ = t₃} b c d =
+      let y : t₃ ≡ thisET n 0 0 (rowET n 0 0 Untested (unlinkT elane et (eends h) n)) = d ∙ (λ i. thisET n 0 0 (c i)) ∙ (λ i. thisET n 0 0 (rowET n 0 0 Untested (b .0 i))) in
+      λ i. st (countE (h .edges - 1) (withE (b .1 i) h)) vt (y i)
+
+-- the words of a reading
+pub edge-row-by : (e live t : ℕ) (r : Reading) (et : List ℕ) {k d : ℕ} → k ≡ readingKind r → d ≡ decimetres r →
+    set (set (set (set et (eat 3 e) live) (eat 4 e) t) (eat 5 e) k) (eat 9 e) d ≡ rowET e live t r et
+unfolding rowET
+edge-row-by e live t r et p q = λ i. set (set (set (set et (eat 3 e) live) (eat 4 e) t) (eat 5 e) (p i)) (eat 9 e) (q i)

@@ -8,8 +8,6 @@ pub mod vertices; // vertices put in, taken out, set and moved
 pub mod edges; // edges put in, taken out, set and moved
 pub mod edits; // the nine edits
 pub mod lookups; // is a number in the graph
-pub mod plans; // the edits that changes ask for
-pub mod questions; // answers that need more than one word
 
 // Ends of the two orders (0 is none), and how many vertices and edges there are.
 pub struct Head {

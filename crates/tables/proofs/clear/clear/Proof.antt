@@ -2,9 +2,6 @@ use Rattle.tables.specs.Tables.{st, noHead, cleared}
 use borrow.Author.Needs.{needs}
 use Rattle.tables.proofs.clear.clear.Statement.{statement}
 use Rattle.tables.proofs.clear.clear.Tie as tie
-use Rattle.tables.proofs.clear.clear.Reads as reads
-use Rattle.tables.proofs.clear.clear.Lts as lts
-use Rattle.tables.proofs.clear.zero.Reads as zero-reads
 
 zero-requires : tie.Need-zero-requires
 zero-requires c κs = search needs

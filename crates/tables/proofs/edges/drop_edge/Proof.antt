@@ -1,12 +1,7 @@
-use Rattle.tables.specs.Tables.{dropEdgeS}
+use Rattle.tables.proofs.Steps.{edge-dropped}
 use borrow.Author.Needs.{needs}
 use Rattle.tables.proofs.edges.drop_edge.Statement.{statement}
 use Rattle.tables.proofs.edges.drop_edge.Tie as tie
-use Rattle.tables.proofs.edges.drop_edge.Reads as reads
-use Rattle.tables.proofs.edges.drop_edge.Lts as lts
-use Rattle.tables.proofs.rows.put_edge.Reads as put-edge-reads
-use Rattle.tables.proofs.rows.put_this.Reads as put-this-reads
-use Rattle.ring.proofs.unlink.Reads as unlink-reads
 
 unlink-requires : tie.Need-unlink-requires
 unlink-requires c κs = search needs
@@ -24,8 +19,9 @@ same-length : tie.Need-same-length
 same-length c = search needs
 
 returns : tie.Need-returns
-unfolding dropEdgeS
-returns c = cc
+returns c =
+    let s = c .before .before .before .before .before .before .before .before .before .before .before .before .before .before .before in
+    edge-dropped (s .args .head) (s .args .vt .now) (s .args .et .now) (s .args .n) (c .before .before .before .before .before .before .before .before .before .before .before .unlink .ensures) (c .before .before .before .before .before .before .before .put-edge .ensures) (c .before .before .before .put-this .ensures)
 
 pub drop-edge-spec : {M : Type 1} → statement M
 drop-edge-spec =

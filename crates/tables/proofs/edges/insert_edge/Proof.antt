@@ -4,10 +4,6 @@ use Prim.Native.Nat.{_*_, _+_}
 use borrow.Author.Needs.{needs}
 use Rattle.tables.proofs.edges.insert_edge.Statement.{statement}
 use Rattle.tables.proofs.edges.insert_edge.Tie as tie
-use Rattle.tables.proofs.edges.insert_edge.Reads as reads
-use Rattle.tables.proofs.edges.insert_edge.Lts as lts
-use Rattle.tables.proofs.incidence.attach.Reads as attach-reads
-use Rattle.tables.proofs.edges.place_edge.Reads as place-edge-reads
 
 place-edge-requires : tie.Need-place-edge-requires
 place-edge-requires c κs = search needs

@@ -1,12 +1,7 @@
-use Rattle.tables.specs.Tables.{placeEdgeS}
+use Rattle.tables.proofs.Steps.{edge-placed}
 use borrow.Author.Needs.{needs}
 use Rattle.tables.proofs.edges.place_edge.Statement.{statement}
 use Rattle.tables.proofs.edges.place_edge.Tie as tie
-use Rattle.tables.proofs.edges.place_edge.Reads as reads
-use Rattle.tables.proofs.edges.place_edge.Lts as lts
-use Rattle.tables.proofs.rows.put_edge.Reads as put-edge-reads
-use Rattle.tables.proofs.rows.put_this.Reads as put-this-reads
-use Rattle.ring.proofs.insert_after.Reads as insert-after-reads
 
 insert-after-requires : tie.Need-insert-after-requires
 insert-after-requires c κs = search needs
@@ -24,8 +19,10 @@ same-length : tie.Need-same-length
 same-length c = search needs
 
 returns : tie.Need-returns
-unfolding placeEdgeS
-returns c = cc
+returns c =
+    let s = c .before .before .before .before .before .before .before .before .before .before .before .before .before .before .before in
+    let x = s .args .x in
+    edge-placed (s .args .head) (s .args .vt .now) (s .args .et .now) (x .number) (x .alpha) (x .omega) (x .sort) (x .reading) (s .args .p) (c .before .before .before .before .before .before .before .before .before .before .before .insert-after .ensures) (c .before .before .before .before .before .before .before .put-edge .ensures) (c .before .before .before .put-this .ensures)
 
 pub place-edge-spec : {M : Type 1} → statement M
 place-edge-spec =

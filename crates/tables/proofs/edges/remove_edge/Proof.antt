@@ -4,10 +4,6 @@ use Rattle.tables.proofs.Steps.{detach-by, drop-by, two, three}
 use borrow.Author.Needs.{needs}
 use Rattle.tables.proofs.edges.remove_edge.Statement.{statement}
 use Rattle.tables.proofs.edges.remove_edge.Tie as tie
-use Rattle.tables.proofs.edges.remove_edge.Reads as reads
-use Rattle.tables.proofs.edges.remove_edge.Lts as lts
-use Rattle.tables.proofs.incidence.detach.Reads as detach-reads
-use Rattle.tables.proofs.edges.drop_edge.Reads as drop-edge-reads
 
 mul-detach : tie.Need-mul-detach
 mul-detach c = search needs

@@ -1,10 +1,8 @@
+use Rattle.tables.specs.Tables.{st}
 use Rattle.tables.specs.Tables.{setEdgeS}
 use borrow.Author.Needs.{needs}
 use Rattle.tables.proofs.edges.set_edge.Statement.{statement}
 use Rattle.tables.proofs.edges.set_edge.Tie as tie
-use Rattle.tables.proofs.edges.set_edge.Reads as reads
-use Rattle.tables.proofs.edges.set_edge.Lts as lts
-use Rattle.tables.proofs.rows.put_edge.Reads as put-edge-reads
 
 put-edge-requires : tie.Need-put-edge-requires
 put-edge-requires c κs = search needs
@@ -14,7 +12,9 @@ same-length c = search needs
 
 returns : tie.Need-returns
 unfolding setEdgeS
-returns c = cc
+returns c =
+    let s = c .before .before .before .before .before .before in
+    λ i. st (s .args .head) (s .args .vt .now) (c .before .before .put-edge .ensures i)
 
 pub set-edge-spec : {M : Type 1} → statement M
 set-edge-spec = tie.close (tie.spec put-edge-requires same-length returns)

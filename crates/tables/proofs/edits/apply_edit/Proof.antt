@@ -3,17 +3,6 @@ use Rattle.tables.proofs.Steps.{can-by, did-by}
 use borrow.Author.Needs.{needs}
 use Rattle.tables.proofs.edits.apply_edit.Statement.{statement}
 use Rattle.tables.proofs.edits.apply_edit.Tie as tie
-use Rattle.tables.proofs.edits.apply_edit.Reads as reads
-use Rattle.tables.proofs.edits.apply_edit.Lts as lts
-use Rattle.tables.proofs.edges.insert_edge.Reads as insert-edge-reads
-use Rattle.tables.proofs.vertices.insert_vertex.Reads as insert-vertex-reads
-use Rattle.tables.proofs.edges.move_edge.Reads as move-edge-reads
-use Rattle.tables.proofs.vertices.move_vertex.Reads as move-vertex-reads
-use Rattle.tables.proofs.incidence.move_word.Reads as move-word-reads
-use Rattle.tables.proofs.edges.remove_edge.Reads as remove-edge-reads
-use Rattle.tables.proofs.vertices.remove_vertex.Reads as remove-vertex-reads
-use Rattle.tables.proofs.edges.set_edge.Reads as set-edge-reads
-use Rattle.tables.proofs.vertices.set_vertex.Reads as set-vertex-reads
 
 enum-known-edit : tie.Need-enum-known-edit
 enum-known-edit c = search needs

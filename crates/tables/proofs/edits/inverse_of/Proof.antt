@@ -3,8 +3,6 @@ use mathlib.Core.Path.{ap, sym}
 use borrow.Author.Needs.{needs}
 use Rattle.tables.proofs.edits.inverse_of.Statement.{statement}
 use Rattle.tables.proofs.edits.inverse_of.Tie as tie
-use Rattle.tables.proofs.edits.inverse_of.Reads as reads
-use Rattle.tables.proofs.edits.inverse_of.Lts as lts
 
 enum-known-edit : tie.Need-enum-known-edit
 enum-known-edit c = search needs

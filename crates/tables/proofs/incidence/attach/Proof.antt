@@ -1,14 +1,10 @@
+use Rattle.tables.proofs.Steps.{attached}
 use Rattle.tables.proofs.Steps.{insert-by}
-use Rattle.tables.specs.Tables.{ilane, attachS}
+use Rattle.tables.specs.Tables.{ilane}
 use mathlib.Core.Path.{refl}
 use borrow.Author.Needs.{needs}
 use Rattle.tables.proofs.incidence.attach.Statement.{statement}
 use Rattle.tables.proofs.incidence.attach.Tie as tie
-use Rattle.tables.proofs.incidence.attach.Reads as reads
-use Rattle.tables.proofs.incidence.attach.Lts as lts
-use Rattle.tables.proofs.rows.ends_of.Reads as ends-of-reads
-use Rattle.tables.proofs.rows.put_ends.Reads as put-ends-reads
-use Rattle.ring.proofs.insert_after.Reads as insert-after-reads
 
 ends-of-requires : tie.Need-ends-of-requires
 ends-of-requires c κs = search needs
@@ -29,8 +25,9 @@ same-length-2 : tie.Need-same-length-2
 same-length-2 c = search needs
 
 returns : tie.Need-returns
-unfolding attachS
-returns c = cc
+returns c =
+    let s = c .before .before .before .before .before .before .before .before .before .before .before .before in
+    attached (s .args .head) (s .args .vt .now) (s .args .et .now) (s .args .v) (s .args .p) (s .args .w) (c .before .before .before .before .before .before .before .before .ends-of .ensures) (c .before .before .before .before .before .before .insert-after .ensures) (c .before .before .put-ends .ensures)
 
 pub attach-spec : {M : Type 1} → statement M
 attach-spec =

@@ -1,13 +1,9 @@
+use Rattle.tables.proofs.Steps.{detached}
 use Rattle.tables.proofs.Steps.{unlink-by}
-use Rattle.tables.specs.Tables.{ilane, detachS}
+use Rattle.tables.specs.Tables.{ilane}
 use borrow.Author.Needs.{needs}
 use Rattle.tables.proofs.incidence.detach.Statement.{statement}
 use Rattle.tables.proofs.incidence.detach.Tie as tie
-use Rattle.tables.proofs.incidence.detach.Reads as reads
-use Rattle.tables.proofs.incidence.detach.Lts as lts
-use Rattle.tables.proofs.rows.ends_of.Reads as ends-of-reads
-use Rattle.tables.proofs.rows.put_ends.Reads as put-ends-reads
-use Rattle.ring.proofs.unlink.Reads as unlink-reads
 
 ends-of-requires : tie.Need-ends-of-requires
 ends-of-requires c κs = search needs
@@ -28,8 +24,9 @@ same-length-2 : tie.Need-same-length-2
 same-length-2 c = search needs
 
 returns : tie.Need-returns
-unfolding detachS
-returns c = cc
+returns c =
+    let s = c .before .before .before .before .before .before .before .before .before .before .before .before in
+    detached (s .args .head) (s .args .vt .now) (s .args .et .now) (s .args .v) (s .args .w) (c .before .before .before .before .before .before .before .before .ends-of .ensures) (c .before .before .before .before .before .before .unlink .ensures) (c .before .before .put-ends .ensures)
 
 pub detach-spec : {M : Type 1} → statement M
 detach-spec =

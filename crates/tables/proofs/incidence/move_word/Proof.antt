@@ -3,11 +3,6 @@ use Rattle.tables.proofs.Steps.{attach-by, three}
 use borrow.Author.Needs.{needs}
 use Rattle.tables.proofs.incidence.move_word.Statement.{statement}
 use Rattle.tables.proofs.incidence.move_word.Tie as tie
-use Rattle.tables.proofs.incidence.move_word.Reads as reads
-use Rattle.tables.proofs.incidence.move_word.Lts as lts
-use Rattle.tables.proofs.incidence.attach.Reads as attach-reads
-use Rattle.tables.proofs.incidence.detach.Reads as detach-reads
-use Rattle.tables.proofs.incidence.set_this.Reads as set-this-reads
 
 detach-requires : tie.Need-detach-requires
 detach-requires c κs = search needs

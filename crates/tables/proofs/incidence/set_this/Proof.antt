@@ -3,8 +3,6 @@ use Rattle.tables.specs.Tables.{setThisS}
 use borrow.Author.Needs.{needs}
 use Rattle.tables.proofs.incidence.set_this.Statement.{statement}
 use Rattle.tables.proofs.incidence.set_this.Tie as tie
-use Rattle.tables.proofs.incidence.set_this.Reads as reads
-use Rattle.tables.proofs.incidence.set_this.Lts as lts
 
 mul-et : tie.Need-mul-et
 mul-et c = search needs

@@ -3,8 +3,6 @@ use borrow.Author.Tests.{eq-eqb, ne-eqb, lt-ltb, le-ltb}
 use borrow.Author.Needs.{needs}
 use Rattle.tables.proofs.lookups.find_edge.Statement.{statement}
 use Rattle.tables.proofs.lookups.find_edge.Tie as tie
-use Rattle.tables.proofs.lookups.find_edge.Reads as reads
-use Rattle.tables.proofs.lookups.find_edge.Lts as lts
 
 returns : tie.Need-returns
 unfolding foundE

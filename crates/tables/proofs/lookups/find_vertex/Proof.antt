@@ -3,8 +3,6 @@ use borrow.Author.Tests.{eq-eqb, ne-eqb, lt-ltb, le-ltb}
 use borrow.Author.Needs.{needs}
 use Rattle.tables.proofs.lookups.find_vertex.Statement.{statement}
 use Rattle.tables.proofs.lookups.find_vertex.Tie as tie
-use Rattle.tables.proofs.lookups.find_vertex.Reads as reads
-use Rattle.tables.proofs.lookups.find_vertex.Lts as lts
 
 returns : tie.Need-returns
 unfolding foundV

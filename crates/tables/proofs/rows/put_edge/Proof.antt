@@ -1,13 +1,9 @@
-use Rattle.tables.specs.Tables.{rowET}
+use Rattle.tables.proofs.Steps.{edge-row-by}
 use native.Mathlib.Omega.{arith}
 use lib.ListN.{length-set}
 use borrow.Author.Needs.{needs}
 use Rattle.tables.proofs.rows.put_edge.Statement.{statement}
 use Rattle.tables.proofs.rows.put_edge.Tie as tie
-use Rattle.tables.proofs.rows.put_edge.Reads as reads
-use Rattle.tables.proofs.rows.put_edge.Lts as lts
-use Rattle.tables.proofs.rows.decimetres_of.Reads as decimetres-of-reads
-use Rattle.tables.proofs.rows.kind_of.Reads as kind-of-reads
 
 kind-of-requires : tie.Need-kind-of-requires
 kind-of-requires c κs = search needs
@@ -61,8 +57,9 @@ same-length : tie.Need-same-length
 same-length c = search needs
 
 returns : tie.Need-returns
-unfolding rowET
-returns c = cc
+returns c =
+    let s = c .before .before .before in
+    edge-row-by (s .args .e) (s .args .live) (s .args .sort) (s .args .r) (s .args .et .now) (c .before .kind-of .ensures) (c .decimetres-of .ensures)
 
 pub put-edge-spec : {M : Type 1} → statement M
 put-edge-spec =

@@ -5,8 +5,6 @@ use mathlib.Core.Path.{refl}
 use borrow.Author.Needs.{needs}
 use Rattle.tables.proofs.rows.put_ends.Statement.{statement}
 use Rattle.tables.proofs.rows.put_ends.Tie as tie
-use Rattle.tables.proofs.rows.put_ends.Reads as reads
-use Rattle.tables.proofs.rows.put_ends.Lts as lts
 
 mul-at : tie.Need-mul-at
 mul-at c = search needs

@@ -5,8 +5,6 @@ use lib.ListN.{length-set}
 use borrow.Author.Needs.{needs}
 use Rattle.tables.proofs.rows.put_this.Statement.{statement}
 use Rattle.tables.proofs.rows.put_this.Tie as tie
-use Rattle.tables.proofs.rows.put_this.Reads as reads
-use Rattle.tables.proofs.rows.put_this.Lts as lts
 
 mul-w : tie.Need-mul-w
 mul-w c = search needs

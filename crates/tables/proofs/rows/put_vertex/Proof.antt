@@ -5,8 +5,6 @@ use lib.ListN.{length-set}
 use borrow.Author.Needs.{needs}
 use Rattle.tables.proofs.rows.put_vertex.Statement.{statement}
 use Rattle.tables.proofs.rows.put_vertex.Tie as tie
-use Rattle.tables.proofs.rows.put_vertex.Reads as reads
-use Rattle.tables.proofs.rows.put_vertex.Lts as lts
 
 mul-at : tie.Need-mul-at
 mul-at c = search needs

@@ -1,8 +1,6 @@
 use borrow.Author.Tests.{eq-eqb, ne-eqb}
 use Rattle.tables.proofs.rows.reading_of.Statement.{statement}
 use Rattle.tables.proofs.rows.reading_of.Tie as tie
-use Rattle.tables.proofs.rows.reading_of.Reads as reads
-use Rattle.tables.proofs.rows.reading_of.Lts as lts
 
 returns : tie.Need-returns
 returns c = simp (eq-eqb _ _ (c .if1 .taken))

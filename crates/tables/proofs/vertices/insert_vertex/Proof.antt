@@ -1,11 +1,7 @@
-use Rattle.tables.specs.Tables.{insertVertexS}
+use Rattle.tables.proofs.Steps.{vertex-inserted}
 use borrow.Author.Needs.{needs}
 use Rattle.tables.proofs.vertices.insert_vertex.Statement.{statement}
 use Rattle.tables.proofs.vertices.insert_vertex.Tie as tie
-use Rattle.tables.proofs.vertices.insert_vertex.Reads as reads
-use Rattle.tables.proofs.vertices.insert_vertex.Lts as lts
-use Rattle.tables.proofs.rows.put_vertex.Reads as put-vertex-reads
-use Rattle.ring.proofs.insert_after.Reads as insert-after-reads
 
 insert-after-requires : tie.Need-insert-after-requires
 insert-after-requires c κs = search needs
@@ -20,8 +16,9 @@ same-length : tie.Need-same-length
 same-length c = search needs
 
 returns : tie.Need-returns
-unfolding insertVertexS
-returns c = cc
+returns c =
+    let s = c .before .before .before .before .before .before .before .before .before .before .before in
+    vertex-inserted (s .args .head) (s .args .vt .now) (s .args .et .now) (s .args .n) (s .args .sort) (s .args .value) (s .args .p) (c .before .before .before .before .before .before .before .insert-after .ensures) (c .before .before .before .put-vertex .ensures)
 
 pub insert-vertex-spec : {M : Type 1} → statement M
 insert-vertex-spec =

@@ -1,12 +1,8 @@
+use Rattle.tables.proofs.Steps.{moved}
 use Rattle.tables.proofs.Steps.{insert-by}
-use Rattle.tables.specs.Tables.{moveT, moveE}
 use borrow.Author.Needs.{needs}
 use Rattle.tables.proofs.vertices.relink.Statement.{statement}
 use Rattle.tables.proofs.vertices.relink.Tie as tie
-use Rattle.tables.proofs.vertices.relink.Reads as reads
-use Rattle.tables.proofs.vertices.relink.Lts as lts
-use Rattle.ring.proofs.insert_after.Reads as insert-after-reads
-use Rattle.ring.proofs.unlink.Reads as unlink-reads
 
 unlink-requires : tie.Need-unlink-requires
 unlink-requires c κs = search needs
@@ -21,8 +17,9 @@ same-length : tie.Need-same-length
 same-length c = search needs
 
 returns : tie.Need-returns
-unfolding moveT moveE
-returns c = (cc, cc)
+returns c =
+    let s = c .before .before .before .before .before .before .before .before .before in
+    moved (s .args .lane) (s .args .n) (s .args .p) (s .args .t .now) (s .args .e) (c .before .before .before .before .before .before .unlink .ensures) (c .before .before .insert-after .ensures)
 
 pub relink-spec : {M : Type 1} → statement M
 relink-spec = tie.close (tie.spec unlink-requires insert-after-requires same-length returns)

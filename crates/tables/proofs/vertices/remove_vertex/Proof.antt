@@ -1,11 +1,7 @@
-use Rattle.tables.specs.Tables.{removeVertexS}
+use Rattle.tables.proofs.Steps.{vertex-removed}
 use borrow.Author.Needs.{needs}
 use Rattle.tables.proofs.vertices.remove_vertex.Statement.{statement}
 use Rattle.tables.proofs.vertices.remove_vertex.Tie as tie
-use Rattle.tables.proofs.vertices.remove_vertex.Reads as reads
-use Rattle.tables.proofs.vertices.remove_vertex.Lts as lts
-use Rattle.tables.proofs.rows.put_vertex.Reads as put-vertex-reads
-use Rattle.ring.proofs.unlink.Reads as unlink-reads
 
 unlink-requires : tie.Need-unlink-requires
 unlink-requires c κs = search needs
@@ -20,8 +16,9 @@ same-length : tie.Need-same-length
 same-length c = search needs
 
 returns : tie.Need-returns
-unfolding removeVertexS
-returns c = cc
+returns c =
+    let s = c .before .before .before .before .before .before .before .before .before .before .before in
+    vertex-removed (s .args .head) (s .args .vt .now) (s .args .et .now) (s .args .n) (c .before .before .before .before .before .before .before .unlink .ensures) (c .before .before .before .put-vertex .ensures)
 
 pub remove-vertex-spec : {M : Type 1} → statement M
 remove-vertex-spec =

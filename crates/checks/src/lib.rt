@@ -1,0 +1,289 @@
+// Codes 2 to 9 of a change, read off the tables: the lowest that applies, 0 where none does.
+use graph::Change;
+use tables::Found;
+use tables::lookups::find_edge;
+use tables::lookups::find_vertex;
+use tables::rows::this;
+ghost use mathlib.Core.Path.{_≡_};
+ghost use mathlib.Core.Bool.{not, _&&_, _||_};
+ghost use Prim.Native.Nat.{_/_};
+ghost use lib.Dec.{leb};
+ghost use lib.ListN.{length};
+ghost use Rattle.lists.specs.Choice.{_⇒_else_, _==_, within};
+ghost use Rattle.graph.specs.Graph.{Graph, hasVertex, hasEdge, edgeOf, isReading};
+ghost use Rattle.graph.specs.Graph as chart;
+ghost use Rattle.commands.specs.Meaning.{lacksVertex, lacksEdge, changeCode};
+ghost use Rattle.checks.specs.Held.{HoldsV, HoldsE, HoldsVE, tableBounds};
+
+// 4: a vertex that is named.
+pub fn vertex_code(vt: &[u32], v: u32) -> u32
+    ensures { λ r. ⌜ ((g : Graph) → HoldsV (now (vt .entry)) g → r ≡ (lacksVertex g v ⇒ 4 else 0)) ⌝ }
+{
+    let f = find_vertex(vt, v);
+    let Found::At(_) = f else {
+        return 4;
+    };
+    0
+}
+
+// 4: two vertices that are named.
+pub fn vertices_code(vt: &[u32], a: u32, b: u32) -> u32
+    ensures { λ r. ⌜ ((g : Graph) → HoldsV (now (vt .entry)) g → r ≡ ((lacksVertex g a || lacksVertex g b) ⇒ 4 else 0)) ⌝ }
+{
+    let c = vertex_code(vt, a);
+    if c != 0 {
+        return 4;
+    }
+    vertex_code(vt, b)
+}
+
+// 5: an edge that is named.
+pub fn edge_code(et: &[u32], e: u32) -> u32
+    ensures { λ r. ⌜ ((g : Graph) → HoldsE (now (et .entry)) g → r ≡ (lacksEdge g e ⇒ 5 else 0)) ⌝ }
+{
+    let f = find_edge(et, e);
+    let Found::At(_) = f else {
+        return 5;
+    };
+    0
+}
+
+// 5: two edges that are named.
+pub fn edges_code(et: &[u32], a: u32, b: u32) -> u32
+    ensures { λ r. ⌜ ((g : Graph) → HoldsE (now (et .entry)) g → r ≡ ((lacksEdge g a || lacksEdge g b) ⇒ 5 else 0)) ⌝ }
+{
+    let c = edge_code(et, a);
+    if c != 0 {
+        return 5;
+    }
+    edge_code(et, b)
+}
+
+// 6: a type that is named.
+fn type_code(types: u32, t: u32) -> u32
+    ensures { λ r. ⌜ r ≡ (leb types t ⇒ 6 else 0) ⌝ }
+{
+    if types <= t {
+        return 6;
+    }
+    0
+}
+
+// 2: a number that is made, of a capacity.
+fn number_code(capacity: usize, n: u32) -> u32
+    ensures { λ r. ⌜ r ≡ (not (within 1 capacity n) ⇒ 2 else 0) ⌝ }
+{
+    if n == 0 {
+        return 2;
+    }
+    if capacity < n as usize {
+        return 2;
+    }
+    0
+}
+
+// 7: kind and decimetres of a reading.
+fn reading_code(k: u32, d: u32) -> u32
+    ensures { λ r. ⌜ r ≡ (not (isReading k d) ⇒ 7 else 0) ⌝ }
+{
+    if k <= 1 {
+        if d == 0 {
+            return 0;
+        }
+        return 7;
+    }
+    if k == 2 {
+        if d <= 9999 {
+            return 0;
+        }
+        return 7;
+    }
+    7
+}
+
+// 9: the same twice.
+fn twice_code(a: u32, b: u32) -> u32
+    ensures { λ r. ⌜ r ≡ ((a == b) ⇒ 9 else 0) ⌝ }
+{
+    if a == b {
+        return 9;
+    }
+    0
+}
+
+// 3: a vertex that is there already.
+fn vertex_used(vt: &[u32], n: u32) -> u32
+    ensures { λ r. ⌜ ((g : Graph) → HoldsV (now (vt .entry)) g → r ≡ (hasVertex g n ⇒ 3 else 0)) ⌝ }
+{
+    let f = find_vertex(vt, n);
+    let Found::At(_) = f else {
+        return 0;
+    };
+    3
+}
+
+// 3: an edge that is there already.
+fn edge_used(et: &[u32], n: u32) -> u32
+    ensures { λ r. ⌜ ((g : Graph) → HoldsE (now (et .entry)) g → r ≡ (hasEdge g n ⇒ 3 else 0)) ⌝ }
+{
+    let f = find_edge(et, n);
+    let Found::At(_) = f else {
+        return 0;
+    };
+    3
+}
+
+// 5 and 8: two words whose edges are there and that are seen from one vertex.
+pub fn words_code(et: &[u32], a: u32, b: u32) -> u32
+    ensures { λ r. ⌜ ((g : Graph) → HoldsE (now (et .entry)) g → r ≡ ((lacksEdge g (edgeOf a) || lacksEdge g (edgeOf b)) ⇒ 5 else not (chart.this g a == chart.this g b) ⇒ 8 else 0)) ⌝ }
+{
+    let f = find_edge(et, a / 2);
+    let Found::At(_) = f else {
+        return 5;
+    };
+    let h = find_edge(et, b / 2);
+    let Found::At(_) = h else {
+        return 5;
+    };
+    let u = this(et, a);
+    let v = this(et, b);
+    if u != v {
+        return 8;
+    }
+    0
+}
+
+// 1
+fn create_vertex(vt: &[u32], types: u32, n: u32, t: u32) -> u32
+    ensures { λ r. ⌜ ((g : Graph) → HoldsV (now (vt .entry)) g → r ≡ (not (within 1 (length (now (vt .entry)) / 8) n) ⇒ 2 else hasVertex g n ⇒ 3 else leb types t ⇒ 6 else 0)) ⌝ }
+{
+    let code1 = number_code(vt.len() / 8, n);
+    if code1 != 0 {
+        return code1;
+    }
+    let code2 = vertex_used(vt, n);
+    if code2 != 0 {
+        return code2;
+    }
+    type_code(types, t)
+}
+
+// 3
+fn create_edge(vt: &[u32], et: &[u32], types: u32, n: u32, x: u32, y: u32, t: u32) -> u32
+    ensures { λ r. ⌜ ((g : Graph) → HoldsVE (now (vt .entry)) (now (et .entry)) g → r ≡ (not (within 1 (length (now (et .entry)) / 12) n) ⇒ 2 else hasEdge g n ⇒ 3 else (lacksVertex g x || lacksVertex g y) ⇒ 4 else leb types t ⇒ 6 else 0)) ⌝ }
+{
+    let code1 = number_code(et.len() / 12, n);
+    if code1 != 0 {
+        return code1;
+    }
+    let code2 = edge_used(et, n);
+    if code2 != 0 {
+        return code2;
+    }
+    let code3 = vertices_code(vt, x, y);
+    if code3 != 0 {
+        return code3;
+    }
+    type_code(types, t)
+}
+
+// 5
+fn retype_vertex(vt: &[u32], types: u32, n: u32, t: u32) -> u32
+    ensures { λ r. ⌜ ((g : Graph) → HoldsV (now (vt .entry)) g → r ≡ (lacksVertex g n ⇒ 4 else leb types t ⇒ 6 else 0)) ⌝ }
+{
+    let code1 = vertex_code(vt, n);
+    if code1 != 0 {
+        return code1;
+    }
+    type_code(types, t)
+}
+
+// 6
+fn retype_edge(et: &[u32], types: u32, n: u32, t: u32) -> u32
+    ensures { λ r. ⌜ ((g : Graph) → HoldsE (now (et .entry)) g → r ≡ (lacksEdge g n ⇒ 5 else leb types t ⇒ 6 else 0)) ⌝ }
+{
+    let code1 = edge_code(et, n);
+    if code1 != 0 {
+        return code1;
+    }
+    type_code(types, t)
+}
+
+// 8
+fn set_reading(et: &[u32], n: u32, k: u32, d: u32) -> u32
+    ensures { λ r. ⌜ ((g : Graph) → HoldsE (now (et .entry)) g → r ≡ (lacksEdge g n ⇒ 5 else not (isReading k d) ⇒ 7 else 0)) ⌝ }
+{
+    let code1 = edge_code(et, n);
+    if code1 != 0 {
+        return code1;
+    }
+    reading_code(k, d)
+}
+
+// 9, 10
+fn set_end(vt: &[u32], et: &[u32], n: u32, v: u32) -> u32
+    ensures { λ r. ⌜ ((g : Graph) → HoldsVE (now (vt .entry)) (now (et .entry)) g → r ≡ (lacksVertex g v ⇒ 4 else lacksEdge g n ⇒ 5 else 0)) ⌝ }
+{
+    let code1 = vertex_code(vt, v);
+    if code1 != 0 {
+        return code1;
+    }
+    edge_code(et, n)
+}
+
+// 11, 12
+fn order_vertices(vt: &[u32], x: u32, y: u32) -> u32
+    ensures { λ r. ⌜ ((g : Graph) → HoldsV (now (vt .entry)) g → r ≡ ((lacksVertex g x || lacksVertex g y) ⇒ 4 else (x == y) ⇒ 9 else 0)) ⌝ }
+{
+    let code1 = vertices_code(vt, x, y);
+    if code1 != 0 {
+        return code1;
+    }
+    twice_code(x, y)
+}
+
+// 13, 14
+fn order_edges(et: &[u32], x: u32, y: u32) -> u32
+    ensures { λ r. ⌜ ((g : Graph) → HoldsE (now (et .entry)) g → r ≡ ((lacksEdge g x || lacksEdge g y) ⇒ 5 else (x == y) ⇒ 9 else 0)) ⌝ }
+{
+    let code1 = edges_code(et, x, y);
+    if code1 != 0 {
+        return code1;
+    }
+    twice_code(x, y)
+}
+
+// 15, 16
+fn order_words(et: &[u32], x: u32, y: u32) -> u32
+    ensures { λ r. ⌜ ((g : Graph) → HoldsE (now (et .entry)) g → r ≡ ((lacksEdge g (edgeOf x) || lacksEdge g (edgeOf y)) ⇒ 5 else not (chart.this g x == chart.this g y) ⇒ 8 else (x == y) ⇒ 9 else 0)) ⌝ }
+{
+    let code1 = words_code(et, x, y);
+    if code1 != 0 {
+        return code1;
+    }
+    twice_code(x, y)
+}
+
+// The code of any change; types is their number.
+pub fn change_code(vt: &[u32], et: &[u32], types: u32, change: Change) -> u32
+    ensures { λ r. ⌜ ((g : Graph) → HoldsVE (now (vt .entry)) (now (et .entry)) g → r ≡ changeCode (tableBounds (now (vt .entry)) (now (et .entry)) types) g change) ⌝ }
+{
+    match change {
+        Change::CreateVertex(n, t, _) => create_vertex(vt, types, n, t),
+        Change::DeleteVertex(a) => vertex_code(vt, a),
+        Change::CreateEdge(n, a, o, t) => create_edge(vt, et, types, n, a, o, t),
+        Change::DeleteEdge(a) => edge_code(et, a),
+        Change::RetypeVertex(a, t) => retype_vertex(vt, types, a, t),
+        Change::RetypeEdge(a, t) => retype_edge(et, types, a, t),
+        Change::SetValue(a, _) => vertex_code(vt, a),
+        Change::SetReading(a, k, d) => set_reading(et, a, k, d),
+        Change::SetAlpha(e, v) => set_end(vt, et, e, v),
+        Change::SetOmega(e, v) => set_end(vt, et, e, v),
+        Change::VertexBefore(a, b) => order_vertices(vt, a, b),
+        Change::VertexAfter(a, b) => order_vertices(vt, a, b),
+        Change::EdgeBefore(a, b) => order_edges(et, a, b),
+        Change::EdgeAfter(a, b) => order_edges(et, a, b),
+        Change::WordBefore(a, b) => order_words(et, a, b),
+        Change::WordAfter(a, b) => order_words(et, a, b),
+    }
+}

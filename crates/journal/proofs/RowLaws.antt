@@ -1,0 +1,132 @@
+-- A row that was written is read back, and the rows before it stand.
+use Prim.Native.Nat.{ℕ, zero, suc, _+_, _-_, _*_, _≤_, _<_}
+use mathlib.Core.Path.{_≡_, refl, sym, ap, _∙_}
+use mathlib.Core.List.{List, [], _∷_}
+use native.Mathlib.Omega.{arith}
+use lib.ListN.{length, getD, set, length-set}
+use lib.Seq.{getD-set-same, getD-set-other}
+use Rattle.graph.specs.declared.Reading.{Reading}
+use Rattle.graph.specs.declared.Reading.the-variants.{Untested, Silent, Heard}
+use Rattle.graph.specs.declared.Edit.{Edit}
+use Rattle.graph.specs.declared.Edit.the-variants.{InsertVertex, RemoveVertex, InsertEdge, RemoveEdge, SetVertex, SetEdge, MoveVertex, MoveEdge, MoveWord}
+use Rattle.graph.specs.Graph.{readingKind, decimetres, readingOf}
+use Rattle.journal.specs.Rows.{wordsOf, editOf, editAt, storeFrom, rowAt, costAt, rowed, Below}
+
+-- ---- words stored one after another
+
+pub store-length : (q : ℕ) (l t : List ℕ) → length (storeFrom q l t) ≡ length t
+store-length q [] t = refl
+store-length q (x ∷ l) t = store-length (q + 1) l (set t (q + 0) x) ∙ simp length-set
+
+store-before : (q : ℕ) (l t : List ℕ) (j : ℕ) → j < q → getD (storeFrom q l t) j 0 ≡ getD t j 0
+store-before q [] t j h = refl
+store-before q (x ∷ l) t j h = store-before (q + 1) l (set t (q + 0) x) j (omega arith) ∙ getD-set-other t (q + 0) j x 0 (λ e. omega arith)
+
+store-at : (q : ℕ) (l t : List ℕ) (i : ℕ) → i < length l → q + length l ≤ length t → getD (storeFrom q l t) (q + i) 0 ≡ getD l i 0
+store-at q [] t i h f = absurd (omega arith)
+store-at q (x ∷ l) t zero h f = store-before (q + 1) l (set t (q + 0) x) (q + 0) (omega arith) ∙ getD-set-same t (q + 0) x 0 (omega arith)
+store-at q (x ∷ l) t (suc i) h f =
+    let e : q + suc i ≡ q + 1 + i = omega arith in
+    rw e (store-at (q + 1) l (set t (q + 0) x) i (omega arith) (simp length-set (omega arith)))
+
+-- ---- an edit as words, and back
+
+reading-back : (r : Reading) → readingOf (readingKind r) (decimetres r) ≡ r
+reading-back Untested = refl
+reading-back Silent = refl
+reading-back (Heard d) = refl
+
+pub words-length : (e : Edit) → length (wordsOf e) ≡ 10
+words-length (InsertVertex n t v p) = refl
+words-length (RemoveVertex n t v p) = refl
+words-length (InsertEdge n a z t r p o i) = refl
+words-length (RemoveEdge n a z t r p o i) = refl
+words-length (SetVertex n t v t′ v′) = refl
+words-length (SetEdge n t r t′ r′) = refl
+words-length (MoveVertex n old new) = refl
+words-length (MoveEdge n old new) = refl
+words-length (MoveWord w v old u new) = refl
+
+-- the edit of a list of ten words
+abbrev pub listed : List ℕ → Edit
+listed l = editOf (getD l 0 0) (getD l 1 0) (getD l 2 0) (getD l 3 0) (getD l 4 0) (getD l 5 0) (getD l 6 0) (getD l 7 0) (getD l 8 0) (getD l 9 0)
+
+-- decoding is the inverse of encoding
+pub listed-words : (e : Edit) → listed (wordsOf e) ≡ e
+unfolding editOf
+listed-words (InsertVertex n t v p) = refl
+listed-words (RemoveVertex n t v p) = refl
+listed-words (InsertEdge n a z t r p o i) = ap (λ (x : Reading). InsertEdge n a z t x p o i) (reading-back r)
+listed-words (RemoveEdge n a z t r p o i) = ap (λ (x : Reading). RemoveEdge n a z t x p o i) (reading-back r)
+listed-words (SetVertex n t v t′ v′) = refl
+listed-words (SetEdge n t r t′ r′) = ap (λ (x : Reading). SetEdge n t x t′ (readingOf (readingKind r′) (decimetres r′))) (reading-back r) ∙ ap (λ (x : Reading). SetEdge n t r t′ x) (reading-back r′)
+listed-words (MoveVertex n old new) = refl
+listed-words (MoveEdge n old new) = refl
+listed-words (MoveWord w v old u new) = refl
+
+-- the edit at a word, from the ten words there
+edit-at : (t l : List ℕ) (q : ℕ) → ((i : ℕ) → i < 10 → getD t (q + i) 0 ≡ getD l i 0) → editAt t q ≡ listed l
+edit-at t l q at =
+    rw (at 0 (omega arith), at 1 (omega arith), at 2 (omega arith), at 3 (omega arith), at 4 (omega arith), at 5 (omega arith), at 6 (omega arith), at 7 (omega arith), at 8 (omega arith), at 9 (omega arith))
+
+-- ---- words that agree below row u
+
+pub below-less : (u v : ℕ) (t t′ : List ℕ) → v ≤ u → Below u t t′ → Below v t t′
+below-less u v t t′ h b j l = b j (omega arith)
+
+pub row-agree : (u i : ℕ) (t t′ : List ℕ) → Below u t t′ → i < u → rowAt t′ i ≡ rowAt t i
+unfolding rowAt
+row-agree u i t t′ b h =
+    rw (
+      b (12 * i + 0) (omega arith),
+      b (12 * i + 1) (omega arith),
+      b (12 * i + 2) (omega arith),
+      b (12 * i + 3) (omega arith),
+      b (12 * i + 4) (omega arith),
+      b (12 * i + 5) (omega arith),
+      b (12 * i + 6) (omega arith),
+      b (12 * i + 7) (omega arith),
+      b (12 * i + 8) (omega arith),
+      b (12 * i + 9) (omega arith),
+    )
+
+pub cost-agree : (u i : ℕ) (t t′ : List ℕ) → Below u t t′ → i < u → costAt t′ i ≡ costAt t i
+unfolding costAt
+cost-agree u i t t′ b h = b (12 * i + 10) (omega arith)
+
+-- ---- row u is written
+
+module _ (u : ℕ) (e : Edit) (c : ℕ) (t t′ : List ℕ) (q : t′ ≡ rowed u e c t) (room : 12 * u + 12 ≤ length t) where
+  pub rowed-length : length t′ ≡ length t
+  unfolding rowed
+  rowed-length = rw q (simp (length-set, store-length (12 * u) (wordsOf e) t))
+
+  pub rowed-below : Below u t t′
+  unfolding rowed
+  rowed-below j l = rw q (getD-set-other (storeFrom (12 * u) (wordsOf e) t) (12 * u + 10) j c 0 (λ x. omega arith) ∙ store-before (12 * u) (wordsOf e) t j l)
+
+  pub rowed-cost : costAt t′ u ≡ c
+  unfolding rowed costAt
+  rowed-cost = rw q (getD-set-same (storeFrom (12 * u) (wordsOf e) t) (12 * u + 10) c 0 (omega (arith, store-length (12 * u) (wordsOf e) t)))
+
+  pub rowed-row : rowAt t′ u ≡ e
+  unfolding rowed rowAt
+  rowed-row =
+      let w = storeFrom (12 * u) (wordsOf e) t in
+      edit-at t′ (wordsOf e) (12 * u) (λ i h. rw q (getD-set-other w (12 * u + 10) (12 * u + i) c 0 (λ x. omega arith)
+      ∙ store-at (12 * u) (wordsOf e) t i (omega (arith, words-length e)) (omega (arith, words-length e))))
+      ∙ listed-words e
+
+-- ---- the calls
+
+pub row-read : (t : List ℕ) (i w : ℕ) (e : Edit) → e ≡ editAt t (12 * w) → w ≡ i → e ≡ rowAt t i
+unfolding rowAt
+row-read t i w e a b = a ∙ ap (λ (x : ℕ). editAt t (12 * x)) b
+
+pub cost-read : (t : List ℕ) (i w c : ℕ) → c ≡ getD t (12 * w + 10) 0 → w ≡ i → c ≡ costAt t i
+unfolding costAt
+cost-read t i w c a b = a ∙ ap (λ (x : ℕ). getD t (12 * x + 10) 0) b
+
+pub row-written : (t t′ : List ℕ) (i w : ℕ) (e : Edit) (c : ℕ) → t′ ≡ storeFrom (12 * w) (wordsOf e) t → w ≡ i → set t′ (12 * w + 10) c ≡ rowed i e c t
+unfolding rowed
+row-written t t′ i w e c a b = ap (λ (x : List ℕ). set x (12 * w + 10) c) a ∙ ap (λ (x : ℕ). set (storeFrom (12 * x) (wordsOf e) t) (12 * x + 10) c) b

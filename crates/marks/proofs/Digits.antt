@@ -1,0 +1,113 @@
+-- Numbers by their binary digits: one digit read, one digit changed, the count of ones.
+use Prim.Native.Nat.{ℕ, zero, suc, _+_, _-_, _*_, _/_, _%_, _^_, _≤_, _<_}
+use mathlib.Core.Bool.{Bool, true, false}
+use mathlib.Core.Path.{_≡_, refl, sym, ap, _∙_}
+use mathlib.Core.Logic.{_≢_}
+use mathlib.Core.List.{List, [], _∷_, _++_}
+use native.Mathlib.Omega.{arith}
+use native.Mathlib.Nat.{div-div-eq-div-mul, pow-suc, mul-comm, one-mul, mod-eq-of-lt}
+use lib.Pow.{pow-lt, pow-add}
+use lib.Bits.{bitAnd, bitOr, bitXor, and-high, or-add-and, xor-add-and}
+use lib.Count.{ones, ones-step}
+use lib.ListN.{length}
+use Rattle.lists.specs.Choice.{_⇒_else_, bit}
+use Rattle.lists.specs.Lists.{keep, upto}
+use Rattle.lists.proofs.Sums.{bit-le}
+use Rattle.marks.specs.Marked.{digits}
+
+module _ (n k : ℕ) (b : ℕ → Bool) where
+  half : (bit (b k) + 2 * digits n (suc k) b) / 2 ≡ digits n (suc k) b
+  half = omega (arith, bit-le (b k))
+
+  odd : (bit (b k) + 2 * digits n (suc k) b) % 2 ≡ bit (b k)
+  odd = omega (arith, bit-le (b k))
+
+pub digits-at : (n k i : ℕ) (b : ℕ → Bool) → i < n → digits n k b / 2 ^ i % 2 ≡ bit (b (k + i))
+unfolding digits
+digits-at zero k i b h = absurd (omega arith)
+digits-at (suc n) k zero b h =
+    let e : k + 0 ≡ k = omega arith in
+    rw e (omega (arith, bit-le (b k)))
+digits-at (suc n) k (suc i) b h =
+    let c : 2 ^ suc i ≡ 2 * 2 ^ i = pow-suc 2 i ∙ mul-comm (2 ^ i) 2 in
+    let e : k + suc i ≡ suc k + i = omega arith in
+    rw (e, c, ← div-div-eq-div-mul (bit (b k) + 2 * digits n (suc k) b) 2 (2 ^ i), half n k b) (digits-at n (suc k) i b (omega arith))
+
+pub digits-agree : (n k : ℕ) (b c : ℕ → Bool) → ((j : ℕ) → k ≤ j → c j ≡ b j) → digits n k c ≡ digits n k b
+unfolding digits
+digits-agree zero k b c h = refl
+digits-agree (suc n) k b c h = rw (h k (omega arith), digits-agree n (suc k) b c (λ j l. h j (omega arith)))
+
+-- digit i is 0 in one and 1 in the other, and the others agree
+pub digits-more : (n k i : ℕ) (b c : ℕ → Bool) → i < n → ((j : ℕ) → j ≢ k + i → c j ≡ b j) → b (k + i) ≡ false → c (k + i) ≡ true → digits n k c ≡ digits n k b + 2 ^ i
+unfolding digits
+digits-more zero k i b c h f x y = absurd (omega arith)
+digits-more (suc n) k zero b c h f x y =
+    let e : k + 0 ≡ k = omega arith in
+    let p : b k ≡ false = ap b (sym e) ∙ x in
+    let q : c k ≡ true = ap c (sym e) ∙ y in
+    rw (p, q, digits-agree n (suc k) b c (λ j l. f j (λ z. omega arith))) (omega arith)
+digits-more (suc n) k (suc i) b c h f x y =
+    let e : k + suc i ≡ suc k + i = omega arith in
+    rw (f k (λ z. omega arith))
+    (omega (arith, digits-more n (suc k) i b c (omega arith) (λ j z. f j (λ w. z (w ∙ e))) (ap b (sym e) ∙ x) (ap c (sym e) ∙ y), pow-suc 2 i))
+
+-- ---- the count of ones
+
+tally : ℕ → ℕ → (ℕ → Bool) → ℕ
+tally zero k b = 0
+tally (suc n) k b = bit (b k) + tally n (suc k) b
+
+ones-tally : (n k : ℕ) (b : ℕ → Bool) → ones (digits n k b) ≡ tally n k b
+unfolding digits tally ones
+ones-tally zero k b = refl
+ones-tally (suc n) k b = rw (ones-step (bit (b k) + 2 * digits n (suc k) b), half n k b, odd n k b, ones-tally n (suc k) b)
+
+tally-last : (n k : ℕ) (b : ℕ → Bool) → tally (suc n) k b ≡ tally n k b + bit (b (k + n))
+unfolding tally
+tally-last zero k b =
+    let e : k + 0 ≡ k = omega arith in
+    rw e (omega arith)
+tally-last (suc n) k b =
+    let e : k + suc n ≡ suc k + n = omega arith in
+    rw e (omega (arith, tally-last n (suc k) b))
+
+keep-last : (p : ℕ → Bool) (xs : List ℕ) (x : ℕ) → length (keep p (xs ++ (x ∷ []))) ≡ length (keep p xs) + bit (p x)
+keep-last p [] x = go (p x)
+  where
+    go : (t : Bool) → length (t ⇒ (x ∷ []) else []) ≡ 0 + bit t
+    go true = refl
+    go false = refl
+keep-last p (y ∷ xs) x = go (keep-last p xs x) (p y)
+  where
+    go : length (keep p (xs ++ (x ∷ []))) ≡ length (keep p xs) + bit (p x) → (t : Bool) →
+        length (t ⇒ (y ∷ keep p (xs ++ (x ∷ []))) else keep p (xs ++ (x ∷ []))) ≡ length (t ⇒ (y ∷ keep p xs) else keep p xs) + bit (p x)
+    go h true = omega (arith, h)
+    go h false = h
+
+keep-tally : (n : ℕ) (b : ℕ → Bool) → length (keep (λ i. b (suc i)) (upto n)) ≡ tally n 1 b
+unfolding tally
+keep-tally zero b = refl
+keep-tally (suc n) b =
+    let e : 1 + n ≡ suc n = omega arith in
+    keep-last (λ i. b (suc i)) (upto n) n ∙ ap (λ (x : ℕ). x + bit (b (suc n))) (keep-tally n b) ∙ ap (λ (x : ℕ). tally n 1 b + bit (b x)) (sym e) ∙ sym (tally-last n 1 b)
+
+-- the count of ones of digits 1 to n is how many of the first n hold
+pub ones-count : (n : ℕ) (b : ℕ → Bool) → ones (digits n 1 b) ≡ length (keep (λ i. b (suc i)) (upto n))
+ones-count n b = ones-tally n 1 b ∙ sym (keep-tally n b)
+
+-- ---- one bit put in, taken out
+
+pub one-shl : (k : ℕ) → k < 64 → (1 * 2 ^ k) % 2 ^ 64 ≡ 2 ^ k
+one-shl k h = rw (one-mul (2 ^ k)) (mod-eq-of-lt (pow-lt h))
+
+and-bit : (n k : ℕ) → bitAnd n (2 ^ k) ≡ (n / 2 ^ k % 2) * 2 ^ k
+and-bit n k =
+    let e : 2 ^ (1 + k) - 2 ^ k ≡ 2 ^ k = omega (arith, pow-add 2 1 k) in
+    rw e at (and-high n 1 k)
+
+pub or-bit : (n k : ℕ) → n / 2 ^ k % 2 ≡ 0 → bitOr n (2 ^ k) ≡ n + 2 ^ k
+or-bit n k h = omega (arith, or-add-and n (2 ^ k), rw h at (and-bit n k))
+
+pub xor-bit : (n k : ℕ) → n / 2 ^ k % 2 ≡ 1 → bitXor n (2 ^ k) + 2 ^ k ≡ n
+xor-bit n k h = omega (arith, xor-add-and n (2 ^ k), rw h at (and-bit n k))

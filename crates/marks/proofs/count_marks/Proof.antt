@@ -1,0 +1,9 @@
+use Rattle.marks.proofs.MarkLaws.{count-is}
+use Rattle.marks.proofs.count_marks.Statement.{statement}
+use Rattle.marks.proofs.count_marks.Tie as tie
+
+returns : tie.Need-returns
+returns c = λ places ms h. count-is ms (c .args .set) places h
+
+pub count-marks-spec : {M : Type 1} → statement M
+count-marks-spec = tie.close (tie.spec returns)

@@ -1,0 +1,3 @@
+pub mod Tapes
+pub mod Steps
+pub mod Going

@@ -1,0 +1,321 @@
+-- The steps in the rows: undo, redo, a step more, commit, free changes.
+use Prim.Native.Nat.{ℕ, zero, suc, _+_, _-_, _*_, _^_, _≤_, _<_}
+use mathlib.Core.Path.{_≡_, refl, sym, ap, subst, _∙_}
+use mathlib.Core.List.{List, [], _∷_, _++_, map}
+use native.Mathlib.Omega.{arith}
+use lib.ListN.{length, take}
+use Rattle.lists.proofs.Picks.{Same, same, differ, same?}
+use Rattle.graph.specs.declared.Edit.{Edit}
+use Rattle.graph.specs.Graph.{Graph}
+use Rattle.graph.specs.WellFormed.{Bounds, WellFormed, Within}
+use Rattle.graph.specs.Edits.{Applies, EditIn, apply}
+use Rattle.history.specs.Machine.{Step, Timeline, begun, graphAt, current, placed, extended, costs, freeOf}
+use Rattle.history.proofs.Timelines.{length-cut}
+use Rattle.journal.specs.Rows.{costAt, rowed, Below}
+use Rattle.journal.proofs.RowLaws.{below-less, cost-agree, rowed-below, rowed-cost, rowed-length}
+use Rattle.tables.specs.Tables.{State}
+use Rattle.tables.specs.Holds.{Holds}
+use Rattle.tables.specs.Edits.{applyS, Can}
+use Rattle.tables.specs.Capacities.{Sized}
+use Rattle.tables.proofs.GraphRead.{holds-one}
+use Rattle.timeline.specs.declared.Position.{Position}
+use Rattle.timeline.specs.Tape.{made, Tape}
+use Rattle.timeline.specs.Steps.{rowsTo, StepAt, Laid, Journal, Open}
+use Rattle.timeline.proofs.Tapes.{tape-can, tape-sound, made-within, made-agree, tape-cut, made-more, tape-more}
+
+abbrev pub stepWith : ℕ → Graph → Step
+stepWith c g = record { cost = c; graph = g }
+
+rows-from : (i p : ℕ) (ss : List Step) → i ≤ rowsTo i p ss
+rows-from i zero ss = omega arith
+rows-from i (suc p) [] = omega arith
+rows-from i (suc p) (x ∷ ss) = omega (arith, rows-from (i + x .cost) p ss)
+
+-- step p + 1 in the rows
+record Turn (t : List ℕ) (i p : ℕ) (ss : List Step) : Type 0 where
+  cost : ℕ
+  some : 1 ≤ cost
+  next : rowsTo i (suc p) ss ≡ rowsTo i p ss + cost
+  first : costAt t (rowsTo i p ss) ≡ cost
+  last : costAt t (rowsTo i (suc p) ss - 1) ≡ cost
+  within : rowsTo i (suc p) ss ≤ rowsTo i (length ss) ss
+
+turn-at : (t : List ℕ) (g : Graph) (i p : ℕ) (ss : List Step) → Laid t g i ss → p < length ss → Turn t i p ss
+turn-at t g i p [] l h = absurd (omega arith)
+turn-at t g i zero (x ∷ ss) l h = record {
+  cost = x .cost;
+  some = l .0 .some;
+  next = refl;
+  first = l .0 .first;
+  last = l .0 .last;
+  within = rows-from (i + x .cost) (length ss) ss;
+}
+turn-at t g i (suc p) (x ∷ ss) l h =
+    let r = turn-at t g (i + x .cost) p ss (l .1) (omega arith) in
+    record { cost = r .cost; some = r .some; next = r .next; first = r .first; last = r .last; within = r .within }
+
+-- the first p steps' rows make Gp
+makes-current : (t : List ℕ) (g : Graph) (i p : ℕ) (ss : List Step) → Laid t g i ss → p ≤ length ss → graphAt p (made t g i) ss ≡ made t g (rowsTo i p ss)
+makes-current t g i zero ss l h = refl
+makes-current t g i (suc p) [] l h = absurd (omega arith)
+makes-current t g i (suc p) (x ∷ ss) l h = ap (λ (y : Graph). graphAt p y ss) (l .0 .makes) ∙ makes-current t g (i + x .cost) p ss (l .1) (omega arith)
+
+-- ---- what the journal says of the present graph
+
+module _ (b : Bounds) (j : Position) (s : State) (t : List ℕ) (l : Timeline) (k : Journal b j s t l) where
+  current-made : current l ≡ made t (l .start) (j .used)
+  current-made = makes-current t (l .start) 0 (l .place) (l .steps) (k .laid) (k .inside) ∙ ap (made t (l .start)) (sym (k .used))
+
+  -- the tables hold Gp
+  pub holds-current : Holds s (current l)
+  holds-current = subst (λ (x : Graph). Holds s x) (sym current-made) (k .tape .holds)
+
+  pub sound-current : WellFormed (current l)
+  sound-current = holds-current .sound
+
+  pub within-current : Within b (current l)
+  within-current =
+      subst (Within b) (sym current-made)
+      (made-within b t (l .start) _ (k .tape .applies) (k .tape .inside) (k .tape .bounded) (j .used) (k .tape .upto))
+
+  pub can-current : (e : Edit) → Applies e (current l) → EditIn b e → Can e s
+  can-current e a i = tape-can b t (l .start) _ s (j .used) e (k .tape) (subst (Applies e) current-made a) i
+
+-- two timelines of the same words have the same present graph
+pub same-current : (b b′ : Bounds) (j : Position) (s : State) (t : List ℕ) (l l′ : Timeline) → Journal b j s t l → Journal b′ j s t l′ → current l ≡ current l′
+same-current b b′ j s t l l′ k k′ = holds-one s (current l) (current l′) (holds-current b j s t l k) (holds-current b′ j s t l′ k′)
+
+-- ---- cut at place p, and one step more
+
+step-agree : (t t′ : List ℕ) (g : Graph) (i : ℕ) (x : Step) → Below (i + x .cost) t t′ → StepAt t g i x → StepAt t′ g i x
+step-agree t t′ g i x b k = record {
+  some = k .some;
+  first = cost-agree (i + x .cost) i t t′ b (omega (arith, k .some)) ∙ k .first;
+  last = cost-agree (i + x .cost) (i + x .cost - 1) t t′ b (omega (arith, k .some)) ∙ k .last;
+  makes = k .makes ∙ sym (made-agree (i + x .cost) t t′ g b (i + x .cost) (omega arith));
+}
+
+laid-more : (t t′ : List ℕ) (g : Graph) (i p : ℕ) (ss : List Step) (x : Step) → Laid t g i ss → p ≤ length ss → Below (rowsTo i p ss) t t′
+    → StepAt t′ g (rowsTo i p ss) x → Laid t′ g i (take p ss ++ (x ∷ []))
+laid-more t t′ g i zero ss x l h b k = (k, tt)
+laid-more t t′ g i (suc p) [] x l h b k = absurd (omega arith)
+laid-more t t′ g i (suc p) (y ∷ ss) x l h b k = (
+  step-agree t t′ g i y (below-less (rowsTo (i + y .cost) p ss) (i + y .cost) t t′ (rows-from (i + y .cost) p ss) b) (l .0),
+  laid-more t t′ g (i + y .cost) p ss x (l .1) (omega arith) b k,
+)
+
+rows-more : (i p : ℕ) (ss : List Step) (x : Step) → p ≤ length ss → rowsTo i (suc p) (take p ss ++ (x ∷ [])) ≡ rowsTo i p ss + x .cost
+rows-more i zero ss x h = refl
+rows-more i (suc p) [] x h = absurd (omega arith)
+rows-more i (suc p) (y ∷ ss) x h = rows-more (i + y .cost) p ss x (omega arith)
+
+-- ---- undo
+
+pub record Back (j : Position) (t : List ℕ) (l : Timeline) : Type 0 where
+  pub cost : ℕ
+  pub some : 1 ≤ cost
+  pub word : costAt t (j .used - 1) ≡ cost
+  pub before : rowsTo 0 (l .place - 1) (l .steps) + cost ≡ j .used
+  pub fits : 12 * j .used ≤ length t
+
+pub back-of : (b : Bounds) (j : Position) (s : State) (t : List ℕ) (l : Timeline) → Journal b j s t l → 1 ≤ j .place → Back j t l
+back-of b j s t l k h =
+    let r = turn-at t (l .start) 0 (l .place - 1) (l .steps) (k .laid) (omega (arith, k .place, k .inside)) in
+    let e : suc (l .place - 1) ≡ l .place = omega (arith, k .place) in
+    let u : rowsTo 0 (suc (l .place - 1)) (l .steps) ≡ j .used = ap (λ (x : ℕ). rowsTo 0 x (l .steps)) e ∙ sym (k .used) in
+    record {
+      cost = r .cost;
+      some = r .some;
+      word = ap (λ (x : ℕ). costAt t (x - 1)) (sym u) ∙ r .last;
+      before = sym (r .next) ∙ u;
+      fits = omega (arith, k .tape .within, k .tape .upto);
+    }
+
+pub journal-undo : (b : Bounds) (j j′ : Position) (s s′ : State) (t : List ℕ) (l : Timeline) → Journal b j s t l → 1 ≤ j .place → (c : ℕ) → c ≡ costAt t (j .used - 1)
+    → j′ .place ≡ j .place - 1 → j′ .steps ≡ j .steps → j′ .used ≡ j .used - c
+    → ((b : Bounds) (g : Graph) (n : ℕ) → Tape b t g n s (j .used) → Tape b t g n s′ (j .used - c)) → Journal b j′ s′ t (placed (l .place - 1) l)
+journal-undo b j j′ s s′ t l k h c q x y d f =
+    let r = back-of b j s t l k h in
+    record {
+      tape = subst (Tape b t (l .start) (rowsTo 0 (length (l .steps)) (l .steps)) s′) (sym d) (f b (l .start) (rowsTo 0 (length (l .steps)) (l .steps)) (k .tape));
+      laid = k .laid;
+      place = x ∙ ap (λ (i : ℕ). i - 1) (k .place);
+      inside = omega (arith, k .inside);
+      steps = y ∙ k .steps;
+      used = omega (arith, d, q, r .word, r .before);
+    }
+
+-- ---- redo
+
+pub record Fore (j : Position) (t : List ℕ) (l : Timeline) : Type 0 where
+  pub cost : ℕ
+  pub some : 1 ≤ cost
+  pub word : costAt t (j .used) ≡ cost
+  pub after : rowsTo 0 (suc (l .place)) (l .steps) ≡ j .used + cost
+  pub inside : j .used + cost ≤ rowsTo 0 (length (l .steps)) (l .steps)
+  pub fits : 12 * (j .used + cost) ≤ length t
+
+pub fore-of : (b : Bounds) (j : Position) (s : State) (t : List ℕ) (l : Timeline) → Journal b j s t l → j .place < j .steps → Fore j t l
+fore-of b j s t l k h =
+    let r = turn-at t (l .start) 0 (l .place) (l .steps) (k .laid) (omega (arith, k .place, k .steps)) in
+    let i : j .used + r .cost ≤ rowsTo 0 (length (l .steps)) (l .steps) = omega (arith, r .next, r .within, k .used) in
+    record {
+      cost = r .cost;
+      some = r .some;
+      word = ap (costAt t) (k .used) ∙ r .first;
+      after = r .next ∙ ap (λ (x : ℕ). x + r .cost) (sym (k .used));
+      inside = i;
+      fits = omega (arith, k .tape .within, i);
+    }
+
+pub journal-redo : (b : Bounds) (j j′ : Position) (s s′ : State) (t : List ℕ) (l : Timeline) → Journal b j s t l → j .place < j .steps → (c : ℕ) → c ≡ costAt t (j .used)
+    → j′ .place ≡ j .place + 1 → j′ .steps ≡ j .steps → j′ .used ≡ j .used + c
+    → ((b : Bounds) (g : Graph) (n : ℕ) → j .used + c ≤ n → Tape b t g n s (j .used) → Tape b t g n s′ (j .used + c)) → Journal b j′ s′ t (placed (suc (l .place)) l)
+journal-redo b j j′ s s′ t l k h c q x y d f =
+    let r = fore-of b j s t l k h in
+    record {
+      tape = subst (Tape b t (l .start) (rowsTo 0 (length (l .steps)) (l .steps)) s′) (sym d)
+          (f b (l .start) (rowsTo 0 (length (l .steps)) (l .steps)) (omega (arith, q, r .word, r .inside)) (k .tape));
+      laid = k .laid;
+      place = omega (arith, x, k .place);
+      inside = omega (arith, k .place, k .steps);
+      steps = y ∙ k .steps;
+      used = omega (arith, d, q, r .word, r .after);
+    }
+
+-- ---- a step more
+
+rows-count : (t : List ℕ) (g : Graph) (i p : ℕ) (ss : List Step) → Laid t g i ss → p ≤ length ss → i + p ≤ rowsTo i p ss
+rows-count t g i zero ss l h = omega arith
+rows-count t g i (suc p) [] l h = absurd (omega arith)
+rows-count t g i (suc p) (x ∷ ss) l h = omega (arith, l .0 .some, rows-count t g (i + x .cost) p ss (l .1) (omega arith))
+
+-- place, steps and rows used fit into words
+pub place-short : (b : Bounds) (j : Position) (s : State) (t : List ℕ) (l : Timeline) → Journal b j s t l → 12 * j .place ≤ length t
+place-short b j s t l k = omega (arith, rows-count t (l .start) 0 (l .place) (l .steps) (k .laid) (k .inside), k .place, k .used, k .tape .within, k .tape .upto)
+
+-- rows written after the rows of step p are a step
+journal-close : (b : Bounds) (j j′ : Position) (s s′ : State) (t t′ : List ℕ) (l : Timeline) (x : Step) → Journal b j s t l → Below (j .used) t t′ → StepAt t′ (l .start) (j .used) x
+    → Tape b t′ (l .start) (j .used + x .cost) s′ (j .used + x .cost)
+    → j′ .place ≡ j .place + 1 → j′ .steps ≡ j .place + 1 → j′ .used ≡ j .used + x .cost → Journal b j′ s′ t′ (extended x l)
+journal-close b j j′ s s′ t t′ l x k w y z p q r =
+    let ss = take (l .place) (l .steps) ++ (x ∷ []) in
+    let n : length ss ≡ suc (l .place) = length-cut (l .place) (l .steps) x (k .inside) in
+    let u : rowsTo 0 (suc (l .place)) ss ≡ j .used + x .cost = rows-more 0 (l .place) (l .steps) x (k .inside) ∙ ap (λ (i : ℕ). i + x .cost) (sym (k .used)) in
+    let v : rowsTo 0 (length ss) ss ≡ j .used + x .cost = ap (λ (i : ℕ). rowsTo 0 i ss) n ∙ u in
+    record {
+      tape = rw (r, v) z;
+      laid = laid-more t t′ (l .start) 0 (l .place) (l .steps) x (k .laid) (k .inside)
+          (subst (λ (i : ℕ). Below i t t′) (k .used) w) (subst (λ (i : ℕ). StepAt t′ (l .start) i x) (k .used) y);
+      place = omega (arith, p, k .place);
+      inside = omega (arith, n);
+      steps = omega (arith, q, n, k .place);
+      used = r ∙ sym u;
+    }
+
+-- ---- a step of several rows
+
+module _ (b : Bounds) (j : Position) (s₀ : State) (t₀ : List ℕ) (l : Timeline) (c : ℕ) where
+  pub open-start : (u : ℕ) → j .used ≡ u → Journal b j s₀ t₀ l → Open b j s₀ t₀ l c s₀ t₀ u
+  open-start u q k = subst (Open b j s₀ t₀ l c s₀ t₀) q (record {
+    journal = k;
+    below = λ i h. refl;
+    tape = tape-cut b t₀ (l .start) _ s₀ (j .used) (k .tape);
+    low = omega arith;
+    costs = λ i l h. absurd (omega arith);
+    size = refl;
+  })
+
+  module _ (s : State) (t : List ℕ) (u : ℕ) (k : Open b j s₀ t₀ l c s t u) where
+    open-now : (g : Graph) → Holds s g → g ≡ made t (l .start) u
+    open-now g h = holds-one s g (made t (l .start) u) h (k .tape .holds)
+
+    pub open-within : (g : Graph) → Holds s g → Within b g
+    open-within g h =
+        subst (Within b) (sym (open-now g h))
+        (made-within b t (l .start) u (k .tape .applies) (k .tape .inside) (k .tape .bounded) u (k .tape .upto))
+
+    pub open-can : (g : Graph) (e : Edit) → Holds s g → Applies e g → EditIn b e → Can e s
+    open-can g e h a i = tape-can b t (l .start) u s u e (k .tape) (subst (Applies e) (open-now g h) a) i
+
+    -- one row more
+    module _ (g : Graph) (e : Edit) (h : Holds s g) (a : Applies e g) (i : EditIn b e) (f : 12 * u + 12 ≤ length t) (s′ : State) (t′ : List ℕ) (u′ : ℕ)
+        (q : t′ ≡ rowed u e c t) (d : s′ ≡ applyS e s) (n : u′ ≡ suc u) where
+      pub open-more : Open b j s₀ t₀ l c s′ t′ u′
+      open-more = subst (Open b j s₀ t₀ l c s′ t′) (sym n) (record {
+        journal = k .journal;
+        below = λ x y. rowed-below u e c t t′ q f x (omega (arith, k .low)) ∙ k .below x y;
+        tape = tape-more b t t′ (l .start) s s′ u e c (k .tape) f (subst (Applies e) (open-now g h) a) i q d;
+        low = omega (arith, k .low);
+        costs = λ x o y. elim (same? x u) [
+          | same v w ↦ subst (λ (z : ℕ). costAt t′ z ≡ c) w (rowed-cost u e c t t′ q f)
+          | differ v w ↦ cost-agree u x t t′ (rowed-below u e c t t′ q f) (omega arith) ∙ k .costs x o (omega arith)
+        ];
+        size = rowed-length u e c t t′ q f ∙ k .size;
+      })
+
+      pub open-holds : Holds s′ (apply e g)
+      open-holds =
+          let x = tape-more b t t′ (l .start) s s′ u e c (k .tape) f (subst (Applies e) (open-now g h) a) i q d .holds in
+          subst (λ (y : Graph). Holds s′ y)
+          (made-more b t t′ (l .start) s s′ u e c (k .tape) f (subst (Applies e) (open-now g h) a) i q d ∙ ap (apply e) (sym (open-now g h))) x
+
+    pub open-close : (j′ : Position) (g : Graph) → 1 ≤ c → u ≡ j .used + c → Holds s g → j′ .place ≡ j .place + 1 → j′ .steps ≡ j .place + 1 → j′ .used ≡ u
+        → Journal b j′ s t (extended (stepWith c g) l)
+    open-close j′ g o n h x y z =
+        journal-close b j j′ s₀ s t₀ t l (stepWith c g) (k .journal) (k .below)
+        (record {
+          some = o;
+          first = k .costs (j .used) (omega arith) (omega arith);
+          last = k .costs (j .used + c - 1) (omega arith) (omega arith);
+          makes = open-now g h ∙ ap (made t (l .start)) n;
+        })
+        (subst (λ (i : ℕ). Tape b t (l .start) i s i) n (k .tape)) x y (z ∙ n)
+
+-- an edit is a step of one row
+pub journal-step : (b : Bounds) (j j′ : Position) (s s′ : State) (t t′ : List ℕ) (l : Timeline) (e : Edit) → Journal b j s t l → Applies e (current l) → EditIn b e
+    → 12 * j .used + 12 ≤ length t → t′ ≡ rowed (j .used) e 1 t → s′ ≡ applyS e s
+    → j′ .place ≡ j .place + 1 → j′ .steps ≡ j .place + 1 → j′ .used ≡ j .used + 1 → Journal b j′ s′ t′ (extended (stepWith 1 (apply e (current l))) l)
+journal-step b j j′ s s′ t t′ l e k a i f q d x y z =
+    let u = j .used in
+    let o = open-start b j s t l 1 u refl k in
+    let n : u + 1 ≡ suc u = omega arith in
+    let h = holds-current b j s t l k in
+    open-close b j s t l 1 s′ t′ (u + 1) (open-more b j s t l 1 s t u o (current l) e h a i f s′ t′ (u + 1) q d n) j′ (apply e (current l)) (omega arith) refl
+    (open-holds b j s t l 1 s t u o (current l) e h a i f s′ t′ (u + 1) q d n) x y z
+
+-- ---- a start, commit, and free changes
+
+pub journal-begin : (b : Bounds) (j : Position) (s : State) (t : List ℕ) (g : Graph) → Sized b s → Within b g → Holds s g → length t < 2 ^ 32
+    → j .place ≡ 0 → j .steps ≡ 0 → j .used ≡ 0 → Journal b j s t (begun g)
+journal-begin b j s t g z w h e x y u = record {
+  tape = rw u (record {
+    sized = z;
+    sound = h .sound;
+    bounded = w;
+    applies = λ i k. absurd (omega arith);
+    inside = λ i k. absurd (omega arith);
+    within = omega arith;
+    short = e;
+    upto = omega arith;
+    holds = h;
+  });
+  laid = tt;
+  place = x;
+  inside = omega arith;
+  steps = y;
+  used = u;
+}
+
+pub journal-commit : (b : Bounds) (j j′ : Position) (s : State) (t : List ℕ) (l : Timeline) → Journal b j s t l → j′ .place ≡ 0 → j′ .steps ≡ 0 → j′ .used ≡ 0
+    → Journal b j′ s t (begun (current l))
+journal-commit b j j′ s t l k x y u =
+    journal-begin b j′ s t (current l) (k .tape .sized) (within-current b j s t l k) (holds-current b j s t l k) (k .tape .short) x y u
+
+rows-total : (i p : ℕ) (ss : List Step) → rowsTo i p ss ≡ i + costs (take p ss)
+rows-total i zero ss = omega arith
+rows-total i (suc p) [] = omega arith
+rows-total i (suc p) (x ∷ ss) = omega (arith, rows-total (i + x .cost) p ss)
+
+pub journal-free : (b : Bounds) (j : Position) (s : State) (t : List ℕ) (l : Timeline) (capacity : ℕ) → Journal b j s t l → capacity - j .used ≡ freeOf capacity l
+journal-free b j s t l capacity k = omega (arith, k .used, rows-total 0 (l .place) (l .steps))

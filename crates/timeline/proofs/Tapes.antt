@@ -1,0 +1,200 @@
+-- The rows: one back, one on, cut, one more.
+use Prim.Native.Nat.{ℕ, zero, suc, _+_, _-_, _*_, _≤_, _<_}
+use mathlib.Core.Path.{_≡_, refl, sym, ap, subst, _∙_}
+use mathlib.Core.List.{List}
+use native.Mathlib.Omega.{arith}
+use lib.ListN.{length}
+use Rattle.lists.proofs.Picks.{Same, same, differ, same?}
+use Rattle.graph.specs.declared.Edit.{Edit}
+use Rattle.graph.specs.Graph.{Graph}
+use Rattle.graph.specs.WellFormed.{Bounds, WellFormed, Within}
+use Rattle.graph.specs.Edits.{Applies, EditIn, apply, inverse}
+use Rattle.graph.proofs.Keeps.{keeps-formed}
+use Rattle.graph.proofs.EditBounds.{keeps-within}
+use Rattle.journal.specs.Rows.{rowAt, costAt, rowed, Below}
+use Rattle.journal.proofs.RowLaws.{row-agree, rowed-length, rowed-below, rowed-row}
+use Rattle.tables.specs.Tables.{State}
+use Rattle.tables.specs.Holds.{Holds}
+use Rattle.tables.specs.Edits.{applyS, Can}
+use Rattle.tables.specs.Capacities.{Sized}
+use Rattle.tables.proofs.Sizes.{Alike, same-size}
+use Rattle.tables.proofs.Callers.{can-apply, edited, edited-sized, can-revert, reverted, reverted-sized}
+use Rattle.timeline.specs.Tape.{made, Tape}
+
+alike-by : (e : Edit) (s s′ : State) → s′ ≡ applyS e s → Alike s s′
+alike-by e s s′ q = subst (λ (x : State). Alike s x) (sym q) (same-size e s)
+
+-- ---- what the rows make is well formed and within the bounds
+
+module _ (b : Bounds) (t : List ℕ) (g : Graph) (n : ℕ) (applies : (i : ℕ) → i < n → Applies (rowAt t i) (made t g i)) where
+  pub made-sound : WellFormed g → (u : ℕ) → u ≤ n → WellFormed (made t g u)
+  made-sound w zero h = w
+  made-sound w (suc u) h = keeps-formed (rowAt t u) (made t g u) (applies u (omega arith)) (made-sound w u (omega arith))
+
+  pub made-within : ((i : ℕ) → i < n → EditIn b (rowAt t i)) → Within b g → (u : ℕ) → u ≤ n → Within b (made t g u)
+  made-within i w zero h = w
+  made-within i w (suc u) h = keeps-within b (rowAt t u) (made t g u) (applies u (omega arith)) (i u (omega arith)) (made-within i w u (omega arith))
+
+module _ (b : Bounds) (t : List ℕ) (g : Graph) (n : ℕ) (s : State) where
+  pub tape-sound : (u v : ℕ) → Tape b t g n s u → v ≤ n → WellFormed (made t g v)
+  tape-sound u v k h = made-sound b t g n (k .applies) (k .sound) v h
+
+  -- other tables that hold what v rows make
+  moved : (s′ : State) (u v : ℕ) → Tape b t g n s u → Sized b s′ → v ≤ n → Holds s′ (made t g v) → Tape b t g n s′ v
+  moved s′ u v k z i h = record {
+    sized = z;
+    sound = k .sound;
+    bounded = k .bounded;
+    applies = k .applies;
+    inside = k .inside;
+    within = k .within;
+    short = k .short;
+    upto = i;
+    holds = h;
+  }
+
+  -- one row back
+  module _ (u : ℕ) (k : Tape b t g n s (suc u)) where
+    last : u < n
+    last = omega (arith, k .upto)
+
+    sound : WellFormed (made t g u)
+    sound = tape-sound (suc u) u k (omega (arith, last))
+
+    pub can-back : Can (inverse (rowAt t u)) s
+    can-back = can-revert b s (k .sized) (rowAt t u) (made t g u) sound (k .applies u last) (k .inside u last) (k .holds) _ refl
+
+    pub tape-back : (s′ : State) → s′ ≡ applyS (inverse (rowAt t u)) s → Tape b t g n s′ u
+    tape-back s′ q =
+        moved s′ (suc u) u k (reverted-sized b s (k .sized) (rowAt t u) (made t g u) sound (k .applies u last) (k .inside u last) (k .holds) _ s′ refl q)
+        (omega (arith, last)) (reverted b s (k .sized) (rowAt t u) (made t g u) sound (k .applies u last) (k .inside u last) (k .holds) _ s′ refl q)
+
+  -- one row on
+  module _ (u : ℕ) (k : Tape b t g n s u) (l : u < n) where
+    pub can-on : Can (rowAt t u) s
+    can-on = can-apply b s (k .sized) (made t g u) (k .holds) (rowAt t u) (k .applies u l) (k .inside u l)
+
+    pub tape-on : (s′ : State) → s′ ≡ applyS (rowAt t u) s → Tape b t g n s′ (suc u)
+    tape-on s′ q =
+        moved s′ u (suc u) k (edited-sized b s (k .sized) (made t g u) (k .holds) (rowAt t u) (k .applies u l) (k .inside u l) s′ q)
+        (omega arith) (edited b s (k .sized) (made t g u) (k .holds) (rowAt t u) (k .applies u l) (k .inside u l) s′ q)
+
+  pub tape-cut : (u : ℕ) → Tape b t g n s u → Tape b t g u s u
+  tape-cut u k = record {
+    sized = k .sized;
+    sound = k .sound;
+    bounded = k .bounded;
+    applies = λ j l. k .applies j (omega (arith, k .upto));
+    inside = λ j l. k .inside j (omega (arith, k .upto));
+    within = omega (arith, k .within, k .upto);
+    short = k .short;
+    upto = omega arith;
+    holds = k .holds;
+  }
+
+-- an edit that applies to what the tables hold can be carried out there
+pub tape-can : (b : Bounds) (t : List ℕ) (g : Graph) (n : ℕ) (s : State) (u : ℕ) (e : Edit) → Tape b t g n s u → Applies e (made t g u) → EditIn b e → Can e s
+tape-can b t g n s u e k a i = can-apply b s (k .sized) (made t g u) (k .holds) e a i
+
+pub made-agree : (u : ℕ) (t t′ : List ℕ) (g : Graph) → Below u t t′ → (i : ℕ) → i ≤ u → made t′ g i ≡ made t g i
+made-agree u t t′ g b zero h = refl
+made-agree u t t′ g b (suc i) h = rw (row-agree u i t t′ b (omega arith), made-agree u t t′ g b i (omega arith))
+
+-- ---- what a caller makes of what each call ensures
+
+pub can-by : (s : State) {e e′ : Edit} → e ≡ e′ → Can e′ s → Can e s
+can-by s q h = subst (λ (x : Edit). Can x s) (sym q) h
+
+pub did-by : (s : State) {s′ : State} {e e′ : Edit} → e ≡ e′ → s′ ≡ applyS e s → s′ ≡ applyS e′ s
+did-by s q h = h ∙ ap (λ (x : Edit). applyS x s) q
+
+-- ---- the loops over rows
+
+pub record BackTo (t : List ℕ) (s₀ s : State) (from to u : ℕ) : Type 0 where
+  pub vlen : length (s .vt) ≡ length (s₀ .vt)
+  pub elen : length (s .et) ≡ length (s₀ .et)
+  pub low : to ≤ u
+  pub goes : (b : Bounds) (g : Graph) (n : ℕ) → Tape b t g n s₀ from → Tape b t g n s u
+
+pub record OnTo (t : List ℕ) (s₀ s : State) (from to u : ℕ) : Type 0 where
+  pub vlen : length (s .vt) ≡ length (s₀ .vt)
+  pub elen : length (s .et) ≡ length (s₀ .et)
+  pub high : u ≤ to
+  pub goes : (b : Bounds) (g : Graph) (n : ℕ) → to ≤ n → Tape b t g n s₀ from → Tape b t g n s u
+
+-- the row number is written `u - 1` there
+module _ (b : Bounds) (t : List ℕ) (g : Graph) (n : ℕ) (s : State) (u v : ℕ) (q : u ≡ suc v) (k : Tape b t g n s u) where
+  pub back-can : Can (inverse (rowAt t v)) s
+  back-can = can-back b t g n s v (subst (Tape b t g n s) q k)
+
+  pub back-room : 12 * v + 12 ≤ length t
+  back-room = omega (arith, k .upto, k .within, q)
+
+pub back-turn : (t : List ℕ) (s₀ s s′ : State) (from to u v : ℕ) → BackTo t s₀ s from to u → to < u → u ≡ suc v → s′ ≡ applyS (inverse (rowAt t v)) s → BackTo t s₀ s′ from to v
+back-turn t s₀ s s′ from to u v k h q d =
+    let a = alike-by (inverse (rowAt t v)) s s′ d in
+    record {
+      vlen = a .vt ∙ k .vlen;
+      elen = a .et ∙ k .elen;
+      low = omega arith;
+      goes = λ b g n x. tape-back b t g n s v (subst (Tape b t g n s) q (k .goes b g n x)) s′ d;
+    }
+
+pub on-room : (b : Bounds) (t : List ℕ) (g : Graph) (n : ℕ) (s : State) (u : ℕ) → u < n → Tape b t g n s u → 12 * u + 12 ≤ length t
+on-room b t g n s u h k = omega (arith, k .within)
+
+pub on-turn : (t : List ℕ) (s₀ s s′ : State) (from to u v : ℕ) → OnTo t s₀ s from to u → u < to → v ≡ suc u → s′ ≡ applyS (rowAt t u) s → OnTo t s₀ s′ from to v
+on-turn t s₀ s s′ from to u v k h q d =
+    let a = alike-by (rowAt t u) s s′ d in
+    record {
+      vlen = a .vt ∙ k .vlen;
+      elen = a .et ∙ k .elen;
+      high = omega arith;
+      goes = λ b g n i x. subst (Tape b t g n s′) (sym q) (tape-on b t g n s u (k .goes b g n i x) (omega arith) s′ d);
+    }
+
+pub back-end : (t : List ℕ) (s₀ s : State) (from to u : ℕ) → BackTo t s₀ s from to u → u ≤ to → (b : Bounds) (g : Graph) (n : ℕ) → Tape b t g n s₀ from → Tape b t g n s to
+back-end t s₀ s from to u k h b g n x = let q : u ≡ to = omega (arith, k .low) in subst (Tape b t g n s) q (k .goes b g n x)
+
+pub on-end : (t : List ℕ) (s₀ s : State) (from to u : ℕ) → OnTo t s₀ s from to u → to ≤ u → (b : Bounds) (g : Graph) (n : ℕ) → to ≤ n → Tape b t g n s₀ from → Tape b t g n s to
+on-end t s₀ s from to u k h b g n i x = let q : u ≡ to = omega (arith, k .high) in subst (Tape b t g n s) q (k .goes b g n i x)
+
+-- ---- an edit is carried out and written down as the row after the last
+
+module _ (b : Bounds) (t t′ : List ℕ) (g : Graph) (s s′ : State) (u : ℕ) (e : Edit) (c : ℕ) (k : Tape b t g u s u) (room : 12 * u + 12 ≤ length t)
+    (a : Applies e (made t g u)) (i : EditIn b e) (q : t′ ≡ rowed u e c t) (d : s′ ≡ applyS e s) where
+  below : Below u t t′
+  below = rowed-below u e c t t′ q room
+
+  row : rowAt t′ u ≡ e
+  row = rowed-row u e c t t′ q room
+
+  old : (i : ℕ) → i ≤ u → made t′ g i ≡ made t g i
+  old i h = made-agree u t t′ g below i h
+
+  pub made-more : made t′ g (suc u) ≡ apply e (made t g u)
+  made-more = rw (row, old u (omega arith))
+
+  by-row : (P : Edit → ℕ → Type 0) → ((i : ℕ) → i < u → P (rowAt t i) i) → P e u → (i : ℕ) → i < suc u → P (rowAt t′ i) i
+  by-row P f z i h = elim (same? i u) [
+    | same x y ↦ subst (λ (j : ℕ). P (rowAt t′ j) j) y (subst (λ (b : Edit). P b u) (sym row) z)
+    | differ x y ↦
+        let l : i < u = omega arith in
+        subst (λ (b : Edit). P b i) (sym (row-agree u i t t′ below l)) (f i l)
+  ]
+
+  applies′ : (i : ℕ) → i < suc u → Applies (rowAt t′ i) (made t′ g i)
+  applies′ i h = subst (λ (x : Graph). Applies (rowAt t′ i) x) (sym (old i (omega arith))) (by-row (λ b j. Applies b (made t g j)) (k .applies) a i h)
+
+  pub tape-more : Tape b t′ g (suc u) s′ (suc u)
+  tape-more = record {
+    sized = edited-sized b s (k .sized) (made t g u) (k .holds) e a i s′ d;
+    sound = k .sound;
+    bounded = k .bounded;
+    applies = applies′;
+    inside = by-row (λ x j. EditIn b x) (k .inside) i;
+    within = omega (arith, rowed-length u e c t t′ q room);
+    short = rw (rowed-length u e c t t′ q room) (k .short);
+    upto = omega arith;
+    holds = subst (λ (x : Graph). Holds s′ x) (sym made-more) (edited b s (k .sized) (made t g u) (k .holds) e a i s′ d);
+  }

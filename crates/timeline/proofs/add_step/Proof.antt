@@ -1,0 +1,48 @@
+use mathlib.Core.Path.{refl, subst}
+use Rattle.graph.specs.Edits.{Applies}
+use native.Mathlib.Omega.{arith}
+use Rattle.tables.specs.Tables.{st}
+use Rattle.timeline.proofs.Steps.{place-short, can-current, same-current, journal-step}
+use borrow.Author.Needs.{needs}
+use Rattle.timeline.proofs.add_step.Statement.{statement}
+use Rattle.timeline.proofs.add_step.Tie as tie
+
+add-row-requires : tie.Need-add-row-requires
+add-row-requires c κs =
+    let s = c .before .before .before .before .before .before in
+    let a = s .args in
+    let p = s .pre .1 in
+    (s .pre .0, can-current (p .0) (a .pos) (st (a .head) (a .vt .now) (a .et .now)) (a .t .now) (p .1) (p .4) (a .edit) (p .3) (p .2))
+
+add-place : tie.Need-add-place
+add-place c =
+    let s = c .before .before .before .before .before .before .before .before .before .before .before .before .before .before in
+    let a = s .args in
+    let p = s .pre .1 in
+    omega (arith, place-short (p .0) (a .pos) (st (a .head) (a .vt .now) (a .et .now)) (a .t .now) (p .1) (p .4), p .4 .tape .short)
+
+add-t16 : tie.Need-add-t16
+add-t16 c = search needs
+
+same-length : tie.Need-same-length
+same-length c = search needs
+
+same-length-2 : tie.Need-same-length-2
+same-length-2 c = search needs
+
+same-length-3 : tie.Need-same-length-3
+same-length-3 c = search needs
+
+returns : tie.Need-returns
+returns c =
+    λ b l i k.
+    let s = c .before .before .before .before .before .before .before .before .before .before .before .before .before .before in
+    let a = s .args in
+    let p = s .pre .1 in
+    let e = c .before .before .before .before .before .before .before .add-row .ensures in
+    journal-step b (a .pos) _ (st (a .head) (a .vt .now) (a .et .now)) _ (a .t .now) _ l (a .edit) k (subst (Applies (a .edit)) (same-current (p .0) b (a .pos) (st (a .head) (a .vt .now) (a .et .now)) (a .t .now) (p .1) l (p .4) k) (p .3)) i (s .pre .0) (e .0) (e .1) refl refl refl
+
+pub add-step-spec : {M : Type 1} → statement M
+add-step-spec =
+    tie.close
+    (tie.spec add-row-requires add-place add-t16 same-length same-length-2 same-length-3 returns)

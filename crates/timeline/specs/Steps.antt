@@ -1,0 +1,48 @@
+-- The steps of the timeline in the rows of the journal.
+use Prim.Native.Nat.{ℕ, zero, suc, _+_, _-_, _≤_, _<_}
+use mathlib.Core.Path.{_≡_}
+use mathlib.Core.List.{List, [], _∷_}
+use lib.ListN.{length}
+use Rattle.graph.specs.Graph.{Graph}
+use Rattle.graph.specs.WellFormed.{Bounds}
+use Rattle.history.specs.Machine.{Step, Timeline}
+use Rattle.journal.specs.Rows.{costAt, Below}
+use Rattle.tables.specs.Tables.{State}
+use Rattle.timeline.specs.declared.Position.{Position}
+use Rattle.timeline.specs.Tape.{made, Tape}
+
+-- i and the costs of the first p steps: the row where step p + 1 begins, if the first step begins at row i
+abbrev pub rowsTo : ℕ → ℕ → List Step → ℕ
+rowsTo i zero ss = i
+rowsTo i (suc p) [] = i
+rowsTo i (suc p) (x ∷ ss) = rowsTo (i + x .cost) p ss
+
+-- the rows of step x begin at row i: as many as it costs, the first and the last with its cost, and they make its graph
+pub record StepAt (t : List ℕ) (g : Graph) (i : ℕ) (x : Step) : Type 0 where
+  pub some : 1 ≤ x .cost
+  pub first : costAt t i ≡ x .cost
+  pub last : costAt t (i + x .cost - 1) ≡ x .cost
+  pub makes : x .graph ≡ made t g (i + x .cost)
+
+-- the rows of the steps, one after another from row i on
+abbrev pub Laid : List ℕ → Graph → ℕ → List Step → Type 0
+Laid t g i [] = Unit {0}
+Laid t g i (x ∷ ss) = StepAt t g i x × Laid t g (i + x .cost) ss
+
+-- the position, the tables s and the journal's words t stand for the timeline l
+pub record Journal (b : Bounds) (j : Position) (s : State) (t : List ℕ) (l : Timeline) : Type 0 where
+  pub tape : Tape b t (l .start) (rowsTo 0 (length (l .steps)) (l .steps)) s (j .used)
+  pub laid : Laid t (l .start) 0 (l .steps)
+  pub place : j .place ≡ l .place
+  pub inside : l .place ≤ length (l .steps)
+  pub steps : j .steps ≡ length (l .steps)
+  pub used : j .used ≡ rowsTo 0 (l .place) (l .steps)
+
+-- a step of cost c that is being made: rows were written after those of step p, up to row u
+pub record Open (b : Bounds) (j : Position) (s₀ : State) (t₀ : List ℕ) (l : Timeline) (c : ℕ) (s : State) (t : List ℕ) (u : ℕ) : Type 0 where
+  pub journal : Journal b j s₀ t₀ l
+  pub below : Below (j .used) t₀ t
+  pub tape : Tape b t (l .start) u s u
+  pub low : j .used ≤ u
+  pub costs : (i : ℕ) → j .used ≤ i → i < u → costAt t i ≡ c
+  pub size : length t ≡ length t₀

@@ -1,0 +1,20 @@
+use mathlib.Core.Path.{refl}
+use Rattle.versions.proofs.Calls.{free-done}
+use borrow.Author.Needs.{needs}
+use Rattle.versions.proofs.free_changes.Statement.{statement}
+use Rattle.versions.proofs.free_changes.Tie as tie
+
+cast-capacity : tie.Need-cast-capacity
+cast-capacity c = search needs
+
+free-changes-requires : tie.Need-free-changes-requires
+free-changes-requires c κs = search needs
+
+returns : tie.Need-returns
+returns c =
+    λ b vt et places m h.
+    let a = c .before .before .before .args in
+    free-done b (a .x) vt et (a .t .now) places m h _ _ refl (c .free-changes .ensures b _ (a .t .now) (m .line) (h .journal))
+
+pub free-changes-spec : {M : Type 1} → statement M
+free-changes-spec = tie.close (tie.spec cast-capacity free-changes-requires returns)
