@@ -25,12 +25,11 @@ use Rattle.tables.specs.Holds.{Core}
 use Rattle.tables.specs.Capacities.{Sized}
 use Rattle.tables.proofs.Keys.{keys-count, keys-last}
 use Rattle.tables.proofs.Frames.{fair-v, fair-e}
-use Rattle.tables.proofs.Answers.{last-is}
 use Rattle.tables.proofs.Callers.{vertex-in, edge-in}
 use Rattle.tables.proofs.VertexLaws.{can-put-vertex, core-insert-vertex}
 use Rattle.tables.proofs.EdgeLaws.{can-put-edge, core-place-edge}
 use Rattle.store.specs.Filling.{bare, vertexS, edgeS, CanLoad}
-use Rattle.store.proofs.Cuts.{count-append, count-map, all-at, read, read-first}
+use Rattle.store.proofs.Cuts.{count-append, count-map, all-at, read, read-first, last-is}
 use Rattle.store.proofs.Parts.{given, most-vertices, most-edges, sized-by}
 use Rattle.store.proofs.Fills.{Fill, Turn, fill-room, fill-next}
 
@@ -56,7 +55,7 @@ module _ {A : Type 0} (key : A → ℕ) (lane : Lane) (t : List ℕ) (e : Ends) 
   order-once n = omega (arith, ordered lane t e (map key l) fair h n, keys-count key n l)
 
   order-last : e .last ≡ lastBy key 0 l
-  order-last = last-is lane t e (map key l) fair h ∙ keys-last key 0 l
+  order-last = last-is lane t e (map key l) h ∙ keys-last key 0 l
 
   order-there : 1 ≤ is 0 (e .last) + countBy key (e .last) l
   order-there = rw order-last (last-in key 0 l)

@@ -1,12 +1,11 @@
 -- Loading what was saved, and saving what was loaded, through what `save` and `load` ensure; and what callers show to call them.
 use Prim.Native.Nat.{ℕ, _≤_}
-use mathlib.Core.Path.{_≡_, refl, sym, ap, _∙_, subst}
-use mathlib.Core.Bool.{Bool, true, false}
+use mathlib.Core.Path.{_≡_, sym, ap, _∙_, subst}
+use mathlib.Core.Bool.{true}
 use mathlib.Core.List.{List}
 use native.Mathlib.Omega.{arith}
 use lib.ListN.{length, take, drop}
 use lib.Seq.{take-at}
-use Rattle.lists.specs.Choice.{_⇒_else_}
 use Rattle.lists.specs.Lists.{over}
 use Rattle.graph.specs.Graph.{Graph}
 use Rattle.graph.specs.WellFormed.{Bounds, Within, wellFormed}
@@ -16,6 +15,7 @@ use Rattle.image.specs.Checks.{codeOf, loadCode}
 use Rattle.image.specs.declared.Verdict.{Verdict}
 use Rattle.image.specs.declared.Verdict.the-variants.{Sound}
 use Rattle.image.proofs.Loads.{image-length, saved-same, saved-loads, loaded, loaded-same}
+use Rattle.image.proofs.Verdicts.{code-sound}
 use Rattle.image.proofs.Room.{few-vertices, few-edges}
 use Rattle.tables.specs.Tables.{State, st, noHead}
 use Rattle.tables.specs.Holds.{Holds}
@@ -27,11 +27,7 @@ use Rattle.store.specs.Filling.{CanLoad}
 
 -- words that `image::check` has found sound can be loaded
 pub checked : (b : Bounds) (words : List ℕ) (r : Verdict) → codeOf r ≡ loadCode b words → r ≡ Sound → loadable b words ≡ true
-checked b words r h e = go (loadable b words) (sym (ap codeOf e) ∙ h)
-  where
-    go : (t : Bool) → _≡_ {A = ℕ} 0 (t ⇒ 0 else 105) → t ≡ true
-    go true z = refl
-    go false z = absurd (omega (arith, z))
+checked b words r h e = code-sound r (loadable b words) e h
 
 -- what is loaded is within the bounds
 pub within-loaded : (b : Bounds) (words : List ℕ) → loadable b words ≡ true → Within b (load words)
