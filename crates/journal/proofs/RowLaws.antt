@@ -6,10 +6,10 @@ use native.Mathlib.Omega.{arith}
 use lib.ListN.{length, getD, set, length-set}
 use lib.Seq.{getD-set-same, getD-set-other}
 use Rattle.graph.specs.declared.Reading.{Reading}
-use Rattle.graph.specs.declared.Reading.the-variants.{Untested, Silent, Heard}
 use Rattle.graph.specs.declared.Edit.{Edit}
 use Rattle.graph.specs.declared.Edit.the-variants.{InsertVertex, RemoveVertex, InsertEdge, RemoveEdge, SetVertex, SetEdge, MoveVertex, MoveEdge, MoveWord}
 use Rattle.graph.specs.Graph.{readingKind, decimetres, readingOf}
+use Rattle.graph.proofs.Readings.{reading-back}
 use Rattle.journal.specs.Rows.{wordsOf, editOf, editAt, storeFrom, rowAt, costAt, rowed, Below}
 
 -- ---- words stored one after another
@@ -30,11 +30,6 @@ store-at q (x ∷ l) t (suc i) h f =
     rw e (store-at (q + 1) l (set t (q + 0) x) i (omega arith) (simp length-set (omega arith)))
 
 -- ---- an edit as words, and back
-
-reading-back : (r : Reading) → readingOf (readingKind r) (decimetres r) ≡ r
-reading-back Untested = refl
-reading-back Silent = refl
-reading-back (Heard d) = refl
 
 pub words-length : (e : Edit) → length (wordsOf e) ≡ 10
 words-length (InsertVertex n t v p) = refl

@@ -1,44 +1,13 @@
 // The journal's rows: twelve words each, of which ten are an edit and one is the cost of the edit's step.
 use graph::Edit;
-use graph::Reading;
+use tables::rows::decimetres_of;
+use tables::rows::kind_of;
+use tables::rows::reading_of;
 ghost use mathlib.Core.Path.{_≡_};
 ghost use mathlib.Core.List.{[], _∷_};
 ghost use Prim.Native.Nat.{_+_, _*_, _≤_};
 ghost use lib.ListN.{length};
-ghost use Rattle.graph.specs.Graph.{readingKind, decimetres, readingOf};
 ghost use Rattle.journal.specs.Rows.{wordsOf, editOf, editAt, storeFrom, rowAt, costAt, rowed};
-
-fn kind_of(r: Reading) -> u32
-    ensures { λ k. ⌜ k ≡ readingKind r ⌝ }
-{
-    match r {
-        Reading::Untested => 0,
-        Reading::Silent => 1,
-        Reading::Heard(_) => 2,
-    }
-}
-
-fn decimetres_of(r: Reading) -> u32
-    ensures { λ k. ⌜ k ≡ decimetres r ⌝ }
-{
-    match r {
-        Reading::Untested => 0,
-        Reading::Silent => 0,
-        Reading::Heard(d) => d,
-    }
-}
-
-fn reading_of(k: u32, d: u32) -> Reading
-    ensures { λ r. ⌜ r ≡ readingOf k d ⌝ }
-{
-    if k == 0 {
-        return Reading::Untested;
-    }
-    if k == 1 {
-        return Reading::Silent;
-    }
-    Reading::Heard(d)
-}
 
 // Five words, half of an edit.
 pub struct Five {

@@ -8,7 +8,8 @@ use lib.Dec.{eqb, ltb}
 use Rattle.lists.specs.Choice.{_⇒_else_, _==_}
 use borrow.Author.Tests.{eq-eqb, ne-eqb, le-ltb, eqb-false}
 use Rattle.lists.specs.Keyed.{countBy}
-use Rattle.graph.specs.Graph.{Graph, vn, en}
+use Rattle.graph.specs.Graph.{Graph, vn, en, hasVertex, hasEdge}
+use Rattle.graph.proofs.Numbers.{vertex-none, edge-none, vertex-once, edge-once}
 use Rattle.tables.specs.declared.Found.the-variants.{At, Missing}
 use Rattle.tables.specs.Tables.{State, vat, eat, vends, eends, foundV, foundE}
 use Rattle.tables.specs.Holds.{Holds}
@@ -47,3 +48,18 @@ module _ (s : State) (g : Graph) (h : Holds s g) (n : ℕ) where
       go true d p = refl
       go false true p = refl
       go false false p = simp (eq-eqb (getD (s .et) (eat 3 n) 0) 0 (h .core .erows n (positive n p) .live ∙ c))
+
+  -- the same as one equation with the test of document 01's codes 3, 4 and 5
+  pub found-vertex : foundV (s .vt) n ≡ (hasVertex g n ⇒ At (8 * n - 8) else Missing)
+  found-vertex = go (hasVertex g n) refl
+    where
+      go : (b : Bool) → hasVertex g n ≡ b → foundV (s .vt) n ≡ (b ⇒ At (8 * n - 8) else Missing)
+      go true e = vertex-found (vertex-once g n (h .sound) e)
+      go false e = vertex-missing (vertex-none g n e)
+
+  pub found-edge : foundE (s .et) n ≡ (hasEdge g n ⇒ At (12 * n - 12) else Missing)
+  found-edge = go (hasEdge g n) refl
+    where
+      go : (b : Bool) → hasEdge g n ≡ b → foundE (s .et) n ≡ (b ⇒ At (12 * n - 12) else Missing)
+      go true e = edge-found (edge-once g n (h .sound) e)
+      go false e = edge-missing (edge-none g n e)

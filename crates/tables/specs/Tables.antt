@@ -1,4 +1,4 @@
--- The tables: where each word of a vertex and of an edge stands, and what each step does to the words.
+-- The tables, "8 words a vertex, 12 an edge": where each word stands, and what each step does to the words.
 use Prim.Native.Nat.{ℕ, _+_, _-_, _*_, _^_, _≤_, _<_}
 use mathlib.Core.Path.{_≡_}
 use mathlib.Core.List.{List}
@@ -15,7 +15,7 @@ use Rattle.tables.specs.declared.Head.{Head}
 use Rattle.tables.specs.declared.Found.{Found}
 use Rattle.tables.specs.declared.Found.the-variants.{At, Missing}
 
--- the links of vseq, of eseq, and of the incidence lists
+-- the links of "Vseq lists all vertices, Eseq all edges", and of the incidence lists
 abbrev pub vlane : Lane
 vlane = record { stride = 8; skip = 2 }
 
@@ -262,7 +262,7 @@ pub record CanRemoveEdge (n a z : ℕ) (s : State) : Type 0 where
   pub out : CanDetach a (2 * n) (detachS z (2 * n + 1) s)
   pub row : CanDropEdge n (detachS a (2 * n) (detachS z (2 * n + 1) s))
 
--- ---- look-ups
+-- ---- look-ups: "A call that names a missing unit or reading stops there"
 
 unfoldable pub foundV : List ℕ → ℕ → Found
 foundV vt v = (v == 0) ⇒ Missing else ltb (length vt) (8 * v) ⇒ Missing else (getD vt (vat 0 v) 0 == 0) ⇒ Missing else At (8 * v - 8)

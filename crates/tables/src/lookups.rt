@@ -1,6 +1,7 @@
-// Is a number in the graph, and where does its row start.
+// Is a number in the graph, and where does its row start. Any number may be asked for.
 use crate::Found;
 ghost use mathlib.Core.Path.{_≡_};
+ghost use Prim.Native.Nat.{_/_};
 ghost use Rattle.tables.specs.Tables.{foundV, foundE};
 
 // Where v's row starts.
@@ -37,4 +38,11 @@ pub fn find_edge(et: &[u32], e: u32) -> Found
         return Found::Missing;
     }
     Found::At(at)
+}
+
+// Where the row of word w's edge starts: "a call that names such a word names its edge".
+pub fn find_word(et: &[u32], w: u32) -> Found
+    ensures { λ r. ⌜ r ≡ foundE (now (et .entry)) (w / 2) ⌝ }
+{
+    find_edge(et, w / 2)
 }

@@ -1,0 +1,162 @@
+//! The four loads: lists of calls on a full graph, all of them accepted.
+
+use outside::gen::{self, Random};
+use outside::image;
+use outside::machine::{Call, Capacities, Graph};
+use outside::run::Case;
+
+pub const CAPACITIES: Capacities = Capacities { vertices: 1_000, edges: 4_000, changes: 20_000 };
+/// Types 0 to 7, with 2 and 3 below 1 and 4 below 2.
+pub const ROWS: [u64; 8] = [0, 0, 1 << 1, 1 << 1, 1 << 2, 0, 0, 0];
+
+pub struct Load {
+    pub name: &'static str,
+    pub case: Case,
+    /// The same load with fewer calls, for the plain machine.
+    pub short: Case,
+}
+
+pub fn all() -> Vec<Load> {
+    let start = gen::graph(&mut Random::new(1), CAPACITIES, ROWS.len() as u32, (1_000, 4_000), true);
+    let case = |calls: Vec<Call>| {
+        let mut case = Case::new(CAPACITIES, &ROWS, &calls);
+        case.start = image::save(&start);
+        case
+    };
+    let load = |name, calls: Vec<Call>, short: Vec<Call>| Load { name, case: case(calls), short: case(short) };
+    let edits = edits(&start, 20_000);
+    let questions = questions(&start, 100_000);
+    vec![
+        load("20,000 edits", edits.clone(), edits[..1_000].to_vec()),
+        load("64 marks over 19,200 steps", marks(&edits, 64, 300, 128), marks(&edits, 16, 60, 128)),
+        load("100,000 questions", questions.clone(), questions[..5_000].to_vec()),
+        load("load and save", vec![], vec![]),
+    ]
+}
+
+/// Ends and lists of the graph, kept along with the edits so that each is accepted.
+struct Model {
+    ends: Vec<[usize; 2]>,
+    lists: Vec<Vec<u32>>,
+}
+
+impl Model {
+    fn detach(&mut self, word: u32) {
+        let at = self.ends[word as usize / 2][word as usize % 2];
+        self.lists[at].retain(|w| *w != word);
+    }
+
+    fn attach(&mut self, word: u32, to: usize) {
+        self.ends[word as usize / 2][word as usize % 2] = to;
+        self.lists[to].push(word);
+    }
+}
+
+/// Changes of every kind that keeps the graph full; an edge deleted is made again by the next call.
+fn edits(start: &Graph, count: usize) -> Vec<Call> {
+    let mut r = Random::new(2);
+    let mut model = Model { ends: vec![[0; 2]; 4_001], lists: vec![vec![]; 1_001] };
+    for e in &start.edges {
+        model.ends[e.number as usize] = [e.alpha as usize, e.omega as usize];
+    }
+    for v in &start.vertices {
+        model.lists[v.number as usize] = v.list.clone();
+    }
+    let mut calls: Vec<Call> = Vec::new();
+    while calls.len() < count {
+        let v = r.between(1, 1_000);
+        let e = r.between(1, 4_000);
+        let kind = r.between(4, 16) as u32;
+        let other = |r: &mut Random, than: usize, limit: usize| (than - 1 + r.between(1, limit - 1)) % limit + 1;
+        let call = match kind {
+            4 => {
+                if calls.len() + 1 == count {
+                    continue;
+                }
+                calls.push([4, e as u32, 0, 0, 0]);
+                model.detach(2 * e as u32);
+                model.detach(2 * e as u32 + 1);
+                let omega = other(&mut r, v, 1_000);
+                model.attach(2 * e as u32, v);
+                model.attach(2 * e as u32 + 1, omega);
+                [3, e as u32, v as u32, omega as u32, r.under(8) as u32]
+            }
+            5 => [5, v as u32, r.under(8) as u32, 0, 0],
+            6 => [6, e as u32, r.under(8) as u32, 0, 0],
+            7 => [7, v as u32, r.word(), 0, 0],
+            8 => [8, e as u32, 2, r.under(10_000) as u32, 0],
+            9 | 10 => {
+                let word = 2 * e as u32 + (kind - 9);
+                model.detach(word);
+                model.attach(word, v);
+                [kind, e as u32, v as u32, 0, 0]
+            }
+            11 | 12 => [kind, v as u32, other(&mut r, v, 1_000) as u32, 0, 0],
+            13 | 14 => [kind, e as u32, other(&mut r, e, 4_000) as u32, 0, 0],
+            _ => {
+                let list = &model.lists[v];
+                if list.len() < 2 {
+                    continue;
+                }
+                let i = r.under(list.len());
+                let j = (i + r.between(1, list.len() - 1)) % list.len();
+                [kind, list[i], list[j], 0, 0]
+            }
+        };
+        calls.push(call);
+    }
+    calls
+}
+
+/// Marks after each `apart` edits, then `trips` from mark to mark.
+fn marks(edits: &[Call], count: usize, apart: usize, trips: usize) -> Vec<Call> {
+    let mut r = Random::new(3);
+    let mut calls = Vec::new();
+    for mark in 0..count {
+        calls.extend(&edits[mark * apart..(mark + 1) * apart]);
+        calls.push([17, mark as u32 + 1, 0, 0, 0]);
+    }
+    for _ in 0..trips {
+        calls.push([21, r.between(1, count) as u32, 0, 0, 0]);
+    }
+    calls
+}
+
+/// Questions of every kind. 46 and 47, which walk the whole of an order, are one in a hundred.
+fn questions(start: &Graph, count: usize) -> Vec<Call> {
+    let mut r = Random::new(4);
+    let heard: Vec<(u32, u32)> = pairs(start);
+    let mut calls = Vec::new();
+    while calls.len() < count {
+        let v = r.between(1, 1_000) as u32;
+        let e = r.between(1, 4_000) as u32;
+        let word = 2 * e + r.under(2) as u32;
+        let kind = if r.once_in(100) { r.one_of(&[46, 47]) } else { r.one_of(&[31, 33, 34, 35, 36, 37, 38, 39, 40, 41, 42, 43, 44, 45, 48, 52, 53, 54]) };
+        calls.push(match kind {
+            31 | 34 | 40 | 42 => [kind, v, 0, 0, 0],
+            35 | 38 | 39 => [kind, word, 0, 0, 0],
+            45 => [45, v, r.under(8) as u32, r.under(3) as u32, 0],
+            46 => [46, v, r.between(1, 1_000) as u32, 0, 0],
+            47 => [47, e, r.between(1, 4_000) as u32, 0, 0],
+            48 => {
+                let list = &start.vertex(start.this(word).unwrap()).unwrap().list;
+                [48, word, list[r.under(list.len())], 0, 0]
+            }
+            52 => [52, r.under(8) as u32, r.under(8) as u32, 0, 0],
+            53 | 54 => {
+                let (a, b) = r.one_of(&heard);
+                [kind, a, b, 0, 0]
+            }
+            _ => [kind, e, 0, 0, 0],
+        });
+    }
+    calls
+}
+
+/// Pairs with something heard both ways.
+fn pairs(g: &Graph) -> Vec<(u32, u32)> {
+    let ways: std::collections::HashSet<(u32, u32)> = g.edges.iter().filter(|e| e.reading.kind() == 2).map(|e| (e.alpha, e.omega)).collect();
+    let mut both: Vec<(u32, u32)> = ways.iter().filter(|w| ways.contains(&(w.1, w.0))).copied().collect();
+    both.sort();
+    both
+}

@@ -1,0 +1,189 @@
+//! Times the engine, the same data structure by hand in C, and the plain machine on four loads.
+//! Answers and images are compared before anything is timed.
+
+mod loads;
+
+use outside::gen::{self, Random};
+use outside::run::{Case, Outcome};
+use std::time::{Duration, Instant};
+
+#[repr(C)]
+#[derive(Clone, Copy, PartialEq, Debug)]
+struct RunResult {
+    code: u32,
+    done: usize,
+    words: usize,
+}
+
+#[rustfmt::skip]
+type Run = unsafe extern "C" fn(
+    *const u32, usize, *const u64, usize, *const u32, usize,
+    *mut u32, usize, *mut u32, usize, *mut u32, usize, *mut u32, usize, *mut u32, usize,
+) -> RunResult;
+
+#[rustfmt::skip]
+extern "C" {
+    fn futtockfig_run(
+        start: *const u32, start_len: usize, rows: *const u64, rows_len: usize, calls: *const u32, calls_len: usize,
+        vertices: *mut u32, vertices_len: usize, edges: *mut u32, edges_len: usize, journal: *mut u32, journal_len: usize,
+        answers: *mut u32, answers_len: usize, image: *mut u32, image_len: usize,
+    ) -> RunResult;
+    fn by_hand_run(
+        start: *const u32, start_len: usize, rows: *const u64, rows_len: usize, calls: *const u32, calls_len: usize,
+        vertices: *mut u32, vertices_len: usize, edges: *mut u32, edges_len: usize, journal: *mut u32, journal_len: usize,
+        answers: *mut u32, answers_len: usize, image: *mut u32, image_len: usize,
+    ) -> RunResult;
+}
+
+#[repr(C)]
+struct TimeSpec {
+    seconds: i64,
+    nanoseconds: i64,
+}
+
+extern "C" {
+    fn clock_gettime(clock: i32, time: *mut TimeSpec) -> i32;
+}
+
+/// The processor time of this thread, which other programs on the machine do not count in.
+fn now() -> Duration {
+    const CLOCK_THREAD_CPUTIME_ID: i32 = 3;
+    let mut time = TimeSpec { seconds: 0, nanoseconds: 0 };
+    // SAFETY: the pointer is to a live struct of the C library's layout on 64-bit Linux.
+    unsafe { clock_gettime(CLOCK_THREAD_CPUTIME_ID, &mut time) };
+    Duration::new(time.seconds as u64, time.nanoseconds as u32)
+}
+
+/// The slices that both programs are lent in turn.
+struct Buffers {
+    vertices: Vec<u32>,
+    edges: Vec<u32>,
+    journal: Vec<u32>,
+    answers: Vec<u32>,
+    image: Vec<u32>,
+}
+
+impl Buffers {
+    fn new(case: &Case) -> Buffers {
+        let mut r = Random::new(9);
+        Buffers {
+            vertices: r.junk(case.vertices),
+            edges: r.junk(case.edges),
+            journal: r.junk(case.journal),
+            answers: r.junk(case.answers),
+            image: r.junk(case.image),
+        }
+    }
+
+    fn run(&mut self, program: Run, case: &Case) -> (RunResult, Duration) {
+        let begun = now();
+        // SAFETY: each pointer is to its own slice of the given length.
+        let result = unsafe {
+            program(
+                case.start.as_ptr(),
+                case.start.len(),
+                case.rows.as_ptr(),
+                case.rows.len(),
+                case.calls.as_ptr(),
+                case.calls.len(),
+                self.vertices.as_mut_ptr(),
+                self.vertices.len(),
+                self.edges.as_mut_ptr(),
+                self.edges.len(),
+                self.journal.as_mut_ptr(),
+                self.journal.len(),
+                self.answers.as_mut_ptr(),
+                self.answers.len(),
+                self.image.as_mut_ptr(),
+                self.image.len(),
+            )
+        };
+        (result, now() - begun)
+    }
+
+    fn outcome(&mut self, program: Run, case: &Case) -> Outcome {
+        let (result, _) = self.run(program, case);
+        match result.code {
+            0 => Outcome::Done { answers: self.answers[..2 * result.done].to_vec(), image: self.image[..result.words].to_vec() },
+            code => Outcome::Refused(code),
+        }
+    }
+}
+
+fn check(what: &str, same: bool) {
+    if !same {
+        println!("bench: {what}");
+        std::process::exit(1);
+    }
+}
+
+/// The C by hand answers as the plain machine does, and both programs alike on the whole loads.
+fn compare(all: &[loads::Load]) {
+    for seed in 0..500 {
+        let case = gen::case(seed % 498);
+        check(&format!("the C by hand differs from the plain machine at seed {seed}"), Buffers::new(&case).outcome(by_hand_run, &case) == case.run());
+    }
+    for load in all {
+        let mut buffers = Buffers::new(&load.short);
+        let plain = load.short.run();
+        check(&format!("{}: the C by hand differs from the plain machine", load.name), buffers.outcome(by_hand_run, &load.short) == plain);
+        check(&format!("{}: the engine differs from the plain machine", load.name), buffers.outcome(futtockfig_run, &load.short) == plain);
+        let mut buffers = Buffers::new(&load.case);
+        let by_hand = buffers.outcome(by_hand_run, &load.case);
+        let accepted = matches!(&by_hand, Outcome::Done { answers, .. } if answers.chunks(2).all(|a| a[0] == 0));
+        check(&format!("{}: a call was refused", load.name), accepted);
+        check(&format!("{}: the engine differs from the C by hand", load.name), buffers.outcome(futtockfig_run, &load.case) == by_hand);
+    }
+}
+
+/// The best time of each program over rounds in turn.
+fn best(case: &Case, programs: &[Run], time: Duration) -> Vec<Duration> {
+    let mut buffers = Buffers::new(case);
+    let mut best = vec![Duration::MAX; programs.len()];
+    let begun = Instant::now();
+    let mut rounds = 0;
+    while rounds < 5 || begun.elapsed() < time {
+        for (i, program) in programs.iter().enumerate() {
+            best[i] = best[i].min(buffers.run(*program, case).1);
+        }
+        rounds += 1;
+    }
+    best
+}
+
+fn micros(time: Duration) -> f64 {
+    time.as_nanos() as f64 / 1_000.0
+}
+
+fn main() {
+    let seconds: u64 = std::env::args().nth(1).map_or(4, |s| s.parse().expect("seconds a load"));
+    let all = loads::all();
+    compare(&all);
+    println!("1,000 vertices, 4,000 edges, room for 20,000 changes. Best of alternating runs over {seconds} s a load, processor time.");
+    println!("Every run loads the start image and saves the end image. Both programs are lent the same buffers in turn;");
+    println!("buffers are not cleared between runs. The plain machine runs a shorter list of the same load, best of 3;");
+    println!("its ratio is against the C by hand on that list.");
+    println!();
+    println!("| load | C by hand, µs | engine, µs | engine ÷ C | plain machine ÷ C |");
+    println!("|---|---|---|---|---|");
+    for load in &all {
+        let times = best(&load.case, &[by_hand_run, futtockfig_run], Duration::from_secs(seconds));
+        let short = best(&load.short, &[by_hand_run], Duration::from_millis(300))[0];
+        let plain = (0..3)
+            .map(|_| {
+                let begun = now();
+                std::hint::black_box(load.short.run());
+                now() - begun
+            })
+            .min()
+            .unwrap();
+        println!(
+            "| {} | {:.1} | {:.1} | {:.2} | {:.0} |",
+            load.name,
+            micros(times[0]),
+            micros(times[1]),
+            micros(times[1]) / micros(times[0]),
+            micros(plain) / micros(short)
+        );
+    }
+}

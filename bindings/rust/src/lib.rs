@@ -1,0 +1,283 @@
+//! Futtockfig: an ordered graph with history and marks, kept in tables that the caller lends.
+//!
+//! A list of calls is run by [`run`]; each call is five words and is answered by two, a code and a number. The graph
+//! goes in and out as an image, whose parts [`part`] finds. `include/futtockfig.h` describes the graph, every kind of
+//! call ([`kind`] has their numbers), every code and the words of an image.
+//!
+//! The crate links `libfuttockfig.a`, from the folder that the environment variable `FUTTOCKFIG_LIB_DIR` names when it
+//! is built, else from `target/staticlib` of the repository. It allocates nothing and needs no standard library.
+//!
+//! ```
+//! use futtockfig::{answers, image_words, kind, run, Call, Lent, EMPTY};
+//!
+//! let calls: [Call; 2] = [[kind::CREATE_VERTEX, 1, 0, 7, 0], [kind::VALUE, 1, 0, 0, 0]];
+//! let (mut vertices, mut edges, mut journal) = ([0; 8 * 10], [0; 12 * 10], [0; 12 * 20]);
+//! let (mut answer_words, mut image) = ([0; 4], [0; image_words(10, 10)]);
+//! let lent = Lent {
+//!     vertices: &mut vertices,
+//!     edges: &mut edges,
+//!     journal: &mut journal,
+//!     answers: &mut answer_words,
+//!     image: &mut image,
+//! };
+//! let done = run(&EMPTY, &[0], &calls.concat(), lent).unwrap();
+//! assert_eq!(done.image, [1, 0, 6, 9, 9, 9, 1, 0, 7]);
+//! assert!(answers(done.answers).eq([Ok(1), Ok(7)]));
+//! ```
+
+#![no_std]
+#![warn(missing_docs)]
+
+use core::fmt;
+
+/// Kind, a, b, c, d.
+pub type Call = [u32; 5];
+
+/// The image of the graph without vertices.
+pub const EMPTY: [u32; 6] = [0, 0, 6, 6, 6, 6];
+
+/// Words of a row of the vertex table.
+pub const VERTEX_WORDS: usize = 8;
+/// Words of a row of the edge table.
+pub const EDGE_WORDS: usize = 12;
+/// Words of a row of the journal.
+pub const CHANGE_WORDS: usize = 12;
+
+/// Words of an image with this many vertices and edges. With the capacities: what [`Lent::image`] needs.
+pub const fn image_words(vertices: usize, edges: usize) -> usize {
+    6 + 3 * vertices + 8 * edges
+}
+
+/// The kinds of call. The words that each uses, and its answer, are in `include/futtockfig.h`.
+#[allow(missing_docs)]
+pub mod kind {
+    pub const CREATE_VERTEX: u32 = 1;
+    pub const DELETE_VERTEX: u32 = 2;
+    pub const CREATE_EDGE: u32 = 3;
+    pub const DELETE_EDGE: u32 = 4;
+    pub const RETYPE_VERTEX: u32 = 5;
+    pub const RETYPE_EDGE: u32 = 6;
+    pub const SET_VALUE: u32 = 7;
+    pub const SET_READING: u32 = 8;
+    pub const SET_ALPHA: u32 = 9;
+    pub const SET_OMEGA: u32 = 10;
+    pub const VERTEX_BEFORE: u32 = 11;
+    pub const VERTEX_AFTER: u32 = 12;
+    pub const EDGE_BEFORE: u32 = 13;
+    pub const EDGE_AFTER: u32 = 14;
+    pub const WORD_BEFORE: u32 = 15;
+    pub const WORD_AFTER: u32 = 16;
+    pub const SET_MARK: u32 = 17;
+    pub const DROP_MARK: u32 = 18;
+    pub const UNDO: u32 = 19;
+    pub const REDO: u32 = 20;
+    pub const GO_TO_MARK: u32 = 21;
+    pub const COMMIT: u32 = 22;
+    pub const FIRST_VERTEX: u32 = 30;
+    pub const NEXT_VERTEX: u32 = 31;
+    pub const FIRST_EDGE: u32 = 32;
+    pub const NEXT_EDGE: u32 = 33;
+    pub const FIRST_WORD: u32 = 34;
+    pub const NEXT_WORD: u32 = 35;
+    pub const ALPHA: u32 = 36;
+    pub const OMEGA: u32 = 37;
+    pub const THIS: u32 = 38;
+    pub const THAT: u32 = 39;
+    pub const VERTEX_TYPE: u32 = 40;
+    pub const EDGE_TYPE: u32 = 41;
+    pub const VALUE: u32 = 42;
+    pub const READING_KIND: u32 = 43;
+    pub const DECIMETRES: u32 = 44;
+    pub const DEGREE: u32 = 45;
+    pub const VERTEX_IS_BEFORE: u32 = 46;
+    pub const EDGE_IS_BEFORE: u32 = 47;
+    pub const WORD_IS_BEFORE: u32 = 48;
+    pub const STEPS_BETWEEN: u32 = 49;
+    pub const MARKS_STANDING: u32 = 50;
+    pub const FREE_CHANGES: u32 = 51;
+    pub const IS_BELOW: u32 = 52;
+    pub const RANGE: u32 = 53;
+    pub const GRADE: u32 = 54;
+}
+
+/// What a run writes to. The words found there do not matter.
+pub struct Lent<'a> {
+    /// 8 words a vertex; the capacity, 1 to 1,000, is the length ÷ 8, rounded down.
+    pub vertices: &'a mut [u32],
+    /// 12 words an edge; the capacity, 1 to 4,000, is the length ÷ 12, rounded down.
+    pub edges: &'a mut [u32],
+    /// 12 words a change; the capacity, 1 to 20,000, is the length ÷ 12, rounded down.
+    pub journal: &'a mut [u32],
+    /// At least two words a call.
+    pub answers: &'a mut [u32],
+    /// At least [`image_words`] of the capacities.
+    pub image: &'a mut [u32],
+}
+
+/// What an accepted list gives. Words of the lent slices beyond these stay as they were.
+#[derive(Debug, PartialEq, Eq)]
+pub struct Done<'a> {
+    /// Code and number of each call, in order.
+    pub answers: &'a [u32],
+    /// The graph at the end.
+    pub image: &'a [u32],
+}
+
+/// Why a whole list was refused. Nothing was written.
+#[derive(Clone, Copy, Debug, PartialEq, Eq)]
+pub enum Refused {
+    /// 101: the words of the calls are no multiple of five.
+    Calls,
+    /// 102: fewer than two words a call for the answers.
+    Answers,
+    /// 103: a capacity out of range.
+    Capacity,
+    /// 104: no type row, over 64, or a bit set that names no type.
+    Rows,
+    /// 105: the start is not the image of a graph within the capacities and types.
+    Start,
+    /// 106: too few words for the image.
+    Image,
+    /// A code that the header does not name.
+    Other(u32),
+}
+
+impl Refused {
+    /// The code of the header.
+    pub fn code(self) -> u32 {
+        match self {
+            Refused::Calls => 101,
+            Refused::Answers => 102,
+            Refused::Capacity => 103,
+            Refused::Rows => 104,
+            Refused::Start => 105,
+            Refused::Image => 106,
+            Refused::Other(code) => code,
+        }
+    }
+
+    fn of(code: u32) -> Refused {
+        match code {
+            101 => Refused::Calls,
+            102 => Refused::Answers,
+            103 => Refused::Capacity,
+            104 => Refused::Rows,
+            105 => Refused::Start,
+            106 => Refused::Image,
+            _ => Refused::Other(code),
+        }
+    }
+}
+
+impl fmt::Display for Refused {
+    fn fmt(&self, f: &mut fmt::Formatter<'_>) -> fmt::Result {
+        let why = match self {
+            Refused::Calls => "calls are not a multiple of five words",
+            Refused::Answers => "answers have under two words a call",
+            Refused::Capacity => "a capacity is out of range",
+            Refused::Rows => "the type rows are not 1 to 64 rows of bits below their number",
+            Refused::Start => "the start is not an image within capacities and types",
+            Refused::Image => "the image has too few words for the capacities",
+            Refused::Other(_) => "unknown code",
+        };
+        write!(f, "list refused, code {}: {why}", self.code())
+    }
+}
+
+/// Runs a list of calls from the first to the last.
+///
+/// `start` is the image to start from ([`EMPTY`] for no vertices), `rows` the type rows, `calls` five words a call.
+/// A call that is refused answers its code and 0 and changes nothing, and the list goes on.
+pub fn run<'a>(start: &[u32], rows: &[u64], calls: &[u32], lent: Lent<'a>) -> Result<Done<'a>, Refused> {
+    let Lent { vertices, edges, journal, answers, image } = lent;
+    // SAFETY: each pointer and length is that of a slice, so no pointer is null; the slices that are written are
+    // borrowed mutably, so none overlaps another. The function keeps no pointer.
+    let result = unsafe {
+        futtockfig_run(
+            start.as_ptr(),
+            start.len(),
+            rows.as_ptr(),
+            rows.len(),
+            calls.as_ptr(),
+            calls.len(),
+            vertices.as_mut_ptr(),
+            vertices.len(),
+            edges.as_mut_ptr(),
+            edges.len(),
+            journal.as_mut_ptr(),
+            journal.len(),
+            answers.as_mut_ptr(),
+            answers.len(),
+            image.as_mut_ptr(),
+            image.len(),
+        )
+    };
+    match result.code {
+        0 => Ok(Done { answers: &answers[..2 * result.done], image: &image[..result.words] }),
+        code => Err(Refused::of(code)),
+    }
+}
+
+/// The answers one by one: the number of an accepted call, or the code (1 to 16) of a refused one.
+pub fn answers(words: &[u32]) -> impl Iterator<Item = Result<u32, u32>> + '_ {
+    words.chunks_exact(2).map(|answer| match answer[0] {
+        0 => Ok(answer[1]),
+        code => Err(code),
+    })
+}
+
+/// A part of an image.
+#[derive(Clone, Copy, Debug, PartialEq, Eq)]
+pub enum Part {
+    /// Three words a vertex: number, type, value.
+    Vertices = 1,
+    /// Six words an edge: number, alpha, omega, type, reading kind, decimetres.
+    Edges = 2,
+    /// The list of each vertex, one after another.
+    Lists = 3,
+}
+
+/// That part of the caller's own words; empty where the header (length, offsets, total) is not sound.
+pub fn part(words: &[u32], which: Part) -> &[u32] {
+    // SAFETY: pointer and length are those of a slice.
+    let span = unsafe { futtockfig_part(words.as_ptr(), words.len(), which as u32) };
+    match span.len {
+        0 => &[],
+        len => &words[span.offset..span.offset + len],
+    }
+}
+
+#[repr(C)]
+struct RunResult {
+    code: u32,
+    done: usize,
+    words: usize,
+}
+
+#[repr(C)]
+struct Span {
+    offset: usize,
+    len: usize,
+}
+
+extern "C" {
+    fn futtockfig_run(
+        start: *const u32,
+        start_len: usize,
+        rows: *const u64,
+        rows_len: usize,
+        calls: *const u32,
+        calls_len: usize,
+        vertices: *mut u32,
+        vertices_len: usize,
+        edges: *mut u32,
+        edges_len: usize,
+        journal: *mut u32,
+        journal_len: usize,
+        answers: *mut u32,
+        answers_len: usize,
+        image: *mut u32,
+        image_len: usize,
+    ) -> RunResult;
+    fn futtockfig_part(words: *const u32, words_len: usize, part: u32) -> Span;
+}

@@ -1,0 +1,59 @@
+//! Document 01's examples through the safe functions.
+
+use futtockfig::{answers, image_words, kind, part, run, Done, Lent, Part, Refused, EMPTY};
+
+/// Runs calls with capacities 10, 10, 20 and one type, in lent words that are full of junk.
+fn with<T>(calls: &[u32], start: &[u32], then: impl FnOnce(Result<Done, Refused>) -> T) -> T {
+    let (mut vertices, mut edges, mut journal) = ([7; 85], [9; 125], [3; 245]);
+    let mut answer_words = vec![1; calls.len() / 5 * 2 + 1];
+    let mut image = [5; image_words(10, 10) + 4];
+    let lent = Lent { vertices: &mut vertices, edges: &mut edges, journal: &mut journal, answers: &mut answer_words, image: &mut image };
+    then(run(start, &[0], calls, lent))
+}
+
+const SEVEN: [u32; 55] = [
+    1, 1, 0, 0, 0, 1, 2, 0, 0, 0, 1, 3, 0, 0, 0, 1, 4, 0, 0, 0, 3, 1, 1, 1, 0, 3, 2, 1, 2, 0, 3, 3, 1, 2, 0, 3, 4, 2, 1, 0, 3, 5, 4, 1, 0, 3, 6, 4, 2, 0, 3, 7,
+    4, 4, 0,
+];
+
+fn seven() -> Vec<u32> {
+    with(&SEVEN, &EMPTY, |done| done.unwrap().image.to_vec())
+}
+
+#[test]
+fn seven_and_its_parts() {
+    let image = seven();
+    assert_eq!(part(&image, Part::Vertices), [1, 0, 0, 2, 0, 0, 3, 0, 0, 4, 0, 0]);
+    assert_eq!(part(&image, Part::Edges).len(), 42);
+    assert_eq!(part(&image, Part::Lists), [2, 3, 4, 6, 9, 11, 5, 7, 8, 13, 10, 12, 14, 15]);
+    // The part is within the caller's words.
+    assert!(image.as_ptr_range().contains(&part(&image, Part::Lists).as_ptr()));
+    assert!(part(&image[1..], Part::Vertices).is_empty());
+    assert!(part(&[], Part::Vertices).is_empty());
+}
+
+#[test]
+fn delete_and_undo() {
+    let calls = [[kind::DELETE_VERTEX, 1, 0, 0, 0], [kind::UNDO, 0, 0, 0, 0], [kind::UNDO, 0, 0, 0, 0]].concat();
+    let start = seven();
+    with(&calls, &start, |done| {
+        let done = done.unwrap();
+        assert!(answers(done.answers).eq([Ok(6), Ok(1), Err(14)]));
+        assert_eq!(done.image, start);
+    });
+}
+
+#[test]
+fn lists_refused() {
+    with(&[0; 6], &EMPTY, |done| assert_eq!(done, Err(Refused::Calls)));
+    with(&[], &[0, 0, 6, 6, 6, 7], |done| assert_eq!(done, Err(Refused::Start)));
+    with(&[], &[], |done| assert_eq!(done.unwrap_err().to_string(), "list refused, code 105: the start is not an image within capacities and types"));
+    with(&[], &EMPTY, |done| assert_eq!(done, Ok(Done { answers: &[], image: &EMPTY })));
+}
+
+#[test]
+fn empty_slices() {
+    let lent = || Lent { vertices: &mut [], edges: &mut [], journal: &mut [], answers: &mut [], image: &mut [] };
+    assert_eq!(run(&[], &[], &[], lent()), Err(Refused::Capacity));
+    assert_eq!(run(&[], &[], &[1, 1, 0, 0, 0], lent()), Err(Refused::Answers));
+}

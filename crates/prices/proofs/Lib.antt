@@ -1,0 +1,4 @@
+pub mod Largest
+pub mod Passes
+pub mod Heard
+pub mod BothWays

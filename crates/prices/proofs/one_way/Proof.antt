@@ -1,0 +1,121 @@
+-- The invariant: the way so far, after what is ahead, is the way after the whole list. The measure is the length of what is ahead.
+use Prim.Native.Nat.{ℕ, _/_}
+use mathlib.Core.Path.{_≡_, refl, sym, ap, _∙_}
+use mathlib.Core.List.{List}
+use borrow.Author.Needs.{needs}
+use Rattle.lists.specs.Lists.{sumOf}
+use Rattle.ring.specs.declared.Ends.{Ends}
+use Rattle.ring.specs.Links.{nxt, linkOf, nodes}
+use Rattle.graph.specs.declared.Reading.{Reading}
+use Rattle.tables.specs.Tables.{st, ilane, EIn}
+use Rattle.tables.proofs.Frames.{fair-i}
+use Rattle.queries.proofs.ListWalks.{Walk, Step, left, walk-start, walk-step, held-by}
+use Rattle.prices.specs.declared.Way.{Way}
+use Rattle.prices.specs.declared.Way.the-variants.{Nothing}
+use Rattle.prices.specs.Ways.{withReading, readingTo, along}
+use Rattle.prices.proofs.Heard.{way-is}
+use Rattle.prices.proofs.Passes.{ahead, ahead-end, ahead-on}
+use Rattle.prices.proofs.one_way.Statement.{statement}
+use Rattle.prices.proofs.one_way.Tie as tie
+
+abbrev Row : List ℕ → ℕ → Type 0
+Row et x = EIn et (x / 2)
+
+-- the walk stands at w; it adds no numbers up
+abbrev Stands : List ℕ → Ends → ℕ → Type 0
+Stands et e w = Walk (λ x. 0) (Row et) ilane et e w 0 (sumOf (λ x. 0) (nodes ilane et e))
+
+abbrev Inv-loop : tie.InvT-loop
+Inv-loop vt et a b e way₀ w₀ way w =
+    Stands et e w × (along (readingTo et b) way (ahead ilane et e w) ≡ along (readingTo et b) Nothing (nodes ilane et e))
+
+abbrev μ-loop : tie.MeasureT-loop
+μ-loop vt et a b e way₀ w₀ way w = left ilane et e w
+
+module _ (et : List ℕ) (e : Ends) (w : ℕ) (k : Stands et e w) (z : w ≡ 0 → ⊥) where
+  step : Step (λ x. 0) (Row et) ilane et e w 0 (sumOf (λ x. 0) (nodes ilane et e))
+  step = walk-step (λ x. 0) (Row et) ilane et e w 0 (sumOf (λ x. 0) (nodes ilane et e)) k z
+
+  on : (b : ℕ) (way way′ : Way) (r : Reading) (y : ℕ) → r ≡ readingTo et b w → way′ ≡ withReading way r → y ≡ linkOf nxt ilane et e w →
+      along (readingTo et b) way (ahead ilane et e w) ≡ along (readingTo et b) Nothing (nodes ilane et e) →
+      along (readingTo et b) way′ (ahead ilane et e y) ≡ along (readingTo et b) Nothing (nodes ilane et e)
+  on b way way′ r y p q n h =
+      ap (λ (x : Way). along (readingTo et b) x (ahead ilane et e y)) (q ∙ ap (withReading way) p)
+      ∙ sym (ap (along (readingTo et b) way) (ahead-on (λ x. 0) (Row et) ilane et e w 0 (sumOf (λ x. 0) (nodes ilane et e)) k z y n))
+      ∙ h
+
+ends-of-requires : tie.Need-ends-of-requires Inv-loop μ-loop
+ends-of-requires c κs = c .before .before .pre .row
+
+next-requires : tie.Need-next-requires Inv-loop μ-loop
+next-requires c κs = (fair-i, λ z. absurd (z refl))
+
+loop-holds : tie.Need-loop-holds Inv-loop μ-loop
+unfolding nodes
+loop-holds c =
+    let s = c .before .before .before .before in
+    let et = s .args .et .now in
+    let e = c .before .ends-of in (
+      walk-start (λ x. 0) (Row et) ilane et (e .result) fair-i (s .pre .list) (held-by ilane et (s .pre .list) (e .ensures) (s .pre .held)) (s .pre .rows) (c .next .result) (c .next .ensures),
+      ap (λ (w : ℕ). along (readingTo et (s .args .b)) Nothing (ahead ilane et (e .result) w)) (c .next .ensures),
+    )
+
+reading-to-requires : tie.Need-reading-to-requires Inv-loop μ-loop
+reading-to-requires c κs =
+    let l = c .before .loop in
+    step (c .before .before .before .before .before .before .args .et .now) (c .before .before .before .ends-of .result) (l .w) (l .inv .0) (c .loop-test .taken) .holds
+
+with-reading-requires : tie.Need-with-reading-requires Inv-loop μ-loop
+with-reading-requires c κs = search needs
+
+next-requires-2 : tie.Need-next-requires-2 Inv-loop μ-loop
+next-requires-2 c κs =
+    let l = c .before .before .before .loop in
+    (fair-i, step (c .before .before .before .before .before .before .before .before .args .et .now) (c .before .before .before .before .before .ends-of .result) (l .w) (l .inv .0) (c .before .before .loop-test .taken) .inside)
+
+loop-less : tie.Need-loop-less Inv-loop μ-loop
+loop-less c =
+    let l = c .before .before .before .before .loop in
+    step (c .before .before .before .before .before .before .before .before .before .args .et .now) (c .before .before .before .before .before .before .ends-of .result) (l .w) (l .inv .0) (c .before .before .before .loop-test .taken)
+    .less (c .next2 .result) (c .next2 .ensures)
+
+loop-again : tie.Need-loop-again Inv-loop μ-loop
+loop-again c =
+    let l = c .before .before .before .before .loop in
+    let s = c .before .before .before .before .before .before .before .before .before in
+    let et = s .args .et .now in
+    let e = c .before .before .before .before .before .before .ends-of .result in
+    let z = c .before .before .before .loop-test .taken in
+    let r = c .before .before .reading-to in
+    let n = c .before .with-reading in (
+      step et e (l .w) (l .inv .0) z .next (c .next2 .result) (c .next2 .ensures),
+      on et e (l .w) (l .inv .0) z (s .args .b) (l .way) (n .result) (r .result) (c .next2 .result) (r .ensures) (n .ensures) (c .next2 .ensures) (l .inv .1),
+    )
+
+returns : tie.Need-returns Inv-loop μ-loop
+returns c =
+    let l = c .before .loop in
+    let s = c .before .before .before .before .before .before in
+    let et = s .args .et .now in
+    let e = c .before .before .before .ends-of in
+    λ h g holds there.
+    sym (ap (along (readingTo et (s .args .b)) (l .way)) (ahead-end (λ x. 0) (Row et) ilane et (e .result) (l .w) 0 0 (c .loop-test .left)))
+    ∙ l .inv .1
+    ∙ ap (λ (x : Ends). along (readingTo et (s .args .b)) Nothing (nodes ilane et x)) (e .ensures)
+    ∙ way-is (st h (s .args .vt .now) et) g holds (s .args .a) (s .args .b) there
+
+pub one-way-spec : {M : Type 1} → statement M
+one-way-spec =
+    tie.close
+    (tie.spec
+    Inv-loop
+    μ-loop
+    ends-of-requires
+    next-requires
+    loop-holds
+    reading-to-requires
+    with-reading-requires
+    next-requires-2
+    loop-less
+    loop-again
+    returns)

@@ -1,0 +1,139 @@
+// The price list, read off the lent tables.
+use graph::Reading;
+use ring::Lane;
+use tables::rows::ends_of;
+use tables::rows::reading_at;
+use tables::rows::this;
+ghost use mathlib.Core.Path.{_≡_};
+ghost use Prim.Native.Nat.{_/_, min};
+ghost use Rattle.graph.specs.Graph.{Graph};
+ghost use Rattle.graph.specs.Changes.{VertexThere};
+ghost use Rattle.tables.specs.declared.Head.{Head};
+ghost use Rattle.tables.specs.Tables.{EIn, st};
+ghost use Rattle.tables.specs.Holds.{Holds};
+ghost use Rattle.queries.specs.Walks.{CanWalk};
+ghost use Rattle.pricing.specs.Prices.{heard, gradeOf};
+ghost use Rattle.prices.specs.Ways.{wayOf, largerOf, withReading, readingTo, bothWays, priceOf};
+
+// What is heard one way: nothing, or some decimetres.
+pub enum Way {
+    Nothing,
+    Heard(u32),
+}
+
+// Code 16 where a way has nothing heard, else 0 and the two-way range.
+pub struct Price {
+    pub code: u32,
+    pub range: u32,
+}
+
+// A way after d is heard too: the larger decimetres.
+fn larger(way: Way, d: u32) -> Way
+    ensures { λ r. ⌜ r ≡ largerOf way d ⌝ }
+{
+    let Way::Heard(m) = way else {
+        return Way::Heard(d);
+    };
+    if m < d {
+        return Way::Heard(d);
+    }
+    Way::Heard(m)
+}
+
+// A way after one reading more.
+fn with_reading(way: Way, reading: Reading) -> Way
+    ensures { λ r. ⌜ r ≡ withReading way reading ⌝ }
+{
+    match reading {
+        Reading::Untested => way,
+        Reading::Silent => way,
+        Reading::Heard(d) => larger(way, d),
+    }
+}
+
+// The reading of the edge of word w where it goes out to b, else untested.
+fn reading_to(et: &[u32], b: u32, w: u32) -> Reading
+    requires { ⌜ EIn (now et) (w / 2) ⌝ }
+    ensures { λ r. ⌜ r ≡ readingTo (now (et .entry)) b w ⌝ }
+{
+    if w % 2 != 0 {
+        return Reading::Untested;
+    }
+    let z = this(et, w + 1);
+    if z != b {
+        return Reading::Untested;
+    }
+    reading_at(et, w / 2)
+}
+
+// One way from a to b: a walk along the list of a.
+pub fn one_way(vt: &[u32], et: &[u32], a: u32, b: u32) -> Way
+    requires { ⌜ CanWalk (now vt) (now et) a ⌝ }
+    ensures { λ r. ⌜ ((h : Head) (g : Graph) → Holds (st h (now (vt .entry)) (now (et .entry))) g → VertexThere g a → r ≡ wayOf (heard g a b)) ⌝ }
+{
+    let e = ends_of(vt, a);
+    let mut way = Way::Nothing;
+    let mut w = ring::next(
+        et,
+        Lane {
+            stride: 6,
+            skip: 12,
+        },
+        e,
+        0,
+    );
+    while w != 0 {
+        let reading = reading_to(et, b, w);
+        way = with_reading(way, reading);
+        w = ring::next(
+            et,
+            Lane {
+                stride: 6,
+                skip: 12,
+            },
+            e,
+            w,
+        );
+    }
+    way
+}
+
+fn smaller(x: u32, y: u32) -> u32
+    ensures { λ r. ⌜ r ≡ min x y ⌝ }
+{
+    if x < y {
+        return x;
+    }
+    y
+}
+
+// The price of two ways: the smaller of both.
+fn both_ways(there: Way, back: Way) -> Price
+    ensures { λ r. ⌜ r ≡ bothWays there back ⌝ }
+{
+    let Way::Heard(x) = there else {
+        return Price { code: 16, range: 0 };
+    };
+    let Way::Heard(y) = back else {
+        return Price { code: 16, range: 0 };
+    };
+    let range = smaller(x, y);
+    Price { code: 0, range }
+}
+
+// Code 16 or 0, and the two-way range, of the vertices a and b.
+pub fn price_of(vt: &[u32], et: &[u32], a: u32, b: u32) -> Price
+    requires { ⌜ CanWalk (now vt) (now et) a × CanWalk (now vt) (now et) b ⌝ }
+    ensures { λ r. ⌜ ((h : Head) (g : Graph) → Holds (st h (now (vt .entry)) (now (et .entry))) g → VertexThere g a → VertexThere g b → r ≡ priceOf g a b) ⌝ }
+{
+    let there = one_way(vt, et, a, b);
+    let back = one_way(vt, et, b, a);
+    both_ways(there, back)
+}
+
+// The grade of a range.
+pub fn grade_of(range: u32) -> u32
+    ensures { λ r. ⌜ r ≡ gradeOf range ⌝ }
+{
+    range / 250
+}

@@ -1,0 +1,25 @@
+-- A price is the same seen from both vertices.
+use Prim.Native.Nat.{ℕ}
+use mathlib.Core.Path.{_≡_, refl, ap}
+use mathlib.Core.Bool.{Bool, true, false, _||_}
+use native.Mathlib.Omega.{arith}
+use Rattle.graph.specs.Graph.{Graph}
+use Rattle.pricing.specs.Prices.{heard, isNone, twoWay, nothingHeard, gradeOf, grade}
+
+or-swap : (p q : Bool) → (p || q) ≡ (q || p)
+or-swap true true = refl
+or-swap true false = refl
+or-swap false true = refl
+or-swap false false = refl
+
+pub two-way-symmetric : (g : Graph) (a b : ℕ) → twoWay g a b ≡ twoWay g b a
+unfolding twoWay
+two-way-symmetric g a b = omega arith
+
+pub nothing-heard-symmetric : (g : Graph) (a b : ℕ) → nothingHeard g a b ≡ nothingHeard g b a
+unfolding nothingHeard
+nothing-heard-symmetric g a b = or-swap (isNone (heard g a b)) (isNone (heard g b a))
+
+pub grade-symmetric : (g : Graph) (a b : ℕ) → grade g a b ≡ grade g b a
+unfolding grade
+grade-symmetric g a b = ap gradeOf (two-way-symmetric g a b)

@@ -1,0 +1,164 @@
+//! The compiled engine, called through its C interface with guarded slices full of junk.
+
+use crate::gen::Random;
+use crate::image;
+use crate::run::{Case, Outcome};
+
+#[repr(C)]
+struct Raw {
+    code: u32,
+    done: usize,
+    words: usize,
+}
+
+#[repr(C)]
+struct Span {
+    offset: usize,
+    len: usize,
+}
+
+extern "C" {
+    fn futtockfig_run(
+        start: *const u32,
+        start_len: usize,
+        rows: *const u64,
+        rows_len: usize,
+        calls: *const u32,
+        calls_len: usize,
+        vertices: *mut u32,
+        vertices_len: usize,
+        edges: *mut u32,
+        edges_len: usize,
+        journal: *mut u32,
+        journal_len: usize,
+        answers: *mut u32,
+        answers_len: usize,
+        image: *mut u32,
+        image_len: usize,
+    ) -> Raw;
+    fn futtockfig_part(words: *const u32, words_len: usize, part: u32) -> Span;
+}
+
+/// Words before and after each lent slice, which no run may touch.
+const GUARD: usize = 64;
+
+/// A lent slice of junk between guards.
+struct Lent {
+    words: Vec<u32>,
+    before: Vec<u32>,
+}
+
+impl Lent {
+    fn new(r: &mut Random, len: usize) -> Lent {
+        let words = r.junk(len + 2 * GUARD);
+        Lent { before: words.clone(), words }
+    }
+
+    fn slice(&mut self) -> &mut [u32] {
+        let end = self.words.len() - GUARD;
+        &mut self.words[GUARD..end]
+    }
+
+    fn whole(&self) -> bool {
+        self.words == self.before
+    }
+
+    fn guards_kept(&self) -> bool {
+        let end = self.words.len() - GUARD;
+        self.words[..GUARD] == self.before[..GUARD] && self.words[end..] == self.before[end..]
+    }
+
+    /// Whether the slice begins with these words and is else as it was.
+    fn begins_with(&self, wanted: &[u32]) -> Result<(), String> {
+        let end = GUARD + wanted.len();
+        for (i, word) in wanted.iter().enumerate() {
+            if self.words[GUARD + i] != *word {
+                return Err(format!("word {i} is {}, should be {word}", self.words[GUARD + i]));
+            }
+        }
+        match (end..self.words.len()).find(|i| self.words[*i] != self.before[*i]) {
+            Some(i) => Err(format!("word {}, beyond what is written, changed", i - GUARD)),
+            None => Ok(()),
+        }
+    }
+}
+
+/// Runs the engine on the case and says how it differs from what is wanted.
+pub fn compare(case: &Case, wanted: &Outcome, junk: u64) -> Result<(), String> {
+    let mut r = Random::new(junk);
+    let mut vertices = Lent::new(&mut r, case.vertices);
+    let mut edges = Lent::new(&mut r, case.edges);
+    let mut journal = Lent::new(&mut r, case.journal);
+    let mut answers = Lent::new(&mut r, case.answers);
+    let mut image = Lent::new(&mut r, case.image);
+    let (start, rows, calls) = (case.start.clone(), case.rows.clone(), case.calls.clone());
+    let raw = {
+        let (v, e, j, a, i) = (vertices.slice(), edges.slice(), journal.slice(), answers.slice(), image.slice());
+        // SAFETY: every pointer is to its own slice of the given length, and no two overlap.
+        unsafe {
+            futtockfig_run(
+                start.as_ptr(),
+                start.len(),
+                rows.as_ptr(),
+                rows.len(),
+                calls.as_ptr(),
+                calls.len(),
+                v.as_mut_ptr(),
+                v.len(),
+                e.as_mut_ptr(),
+                e.len(),
+                j.as_mut_ptr(),
+                j.len(),
+                a.as_mut_ptr(),
+                a.len(),
+                i.as_mut_ptr(),
+                i.len(),
+            )
+        }
+    };
+    if (&start, &rows, &calls) != (&case.start, &case.rows, &case.calls) {
+        return Err("a word lent for reading changed".into());
+    }
+    for (name, lent) in [("vertices", &vertices), ("edges", &edges), ("journal", &journal), ("answers", &answers), ("image", &image)] {
+        if !lent.guards_kept() {
+            return Err(format!("a word outside {name} changed"));
+        }
+    }
+    let result = (raw.code, raw.done, raw.words);
+    match wanted {
+        Outcome::Refused(code) => {
+            if result != (*code, 0, 0) {
+                return Err(format!("result is {result:?}, should be {:?}", (code, 0, 0)));
+            }
+            for (name, lent) in [("vertices", &vertices), ("edges", &edges), ("journal", &journal), ("answers", &answers), ("image", &image)] {
+                if !lent.whole() {
+                    return Err(format!("the list was refused, and a word of {name} changed"));
+                }
+            }
+            Ok(())
+        }
+        Outcome::Done { answers: wanted_answers, image: wanted_image } => {
+            let due = (0, wanted_answers.len() / 2, wanted_image.len());
+            if result != due {
+                return Err(format!("result is {result:?}, should be {due:?}"));
+            }
+            answers.begins_with(wanted_answers).map_err(|e| format!("answers: {e}"))?;
+            image.begins_with(wanted_image).map_err(|e| format!("image: {e}"))
+        }
+    }
+}
+
+/// Compares the parts of some words.
+pub fn compare_parts(words: &[u32]) -> Result<(), String> {
+    for which in [0, 1, 2, 3, 4, u32::MAX] {
+        // SAFETY: the pointer is to a slice of the given length.
+        let span = unsafe { futtockfig_part(words.as_ptr(), words.len(), which) };
+        let (offset, len) = image::part(words, which).unwrap_or((0, 0));
+        // An empty part may lie anywhere within the words.
+        let same_place = span.offset == offset || (len == 0 && span.offset <= words.len());
+        if span.len != len || !same_place {
+            return Err(format!("part {which} is {} words from {}, should be {len} from {offset}", span.len, span.offset));
+        }
+    }
+    Ok(())
+}

@@ -1,0 +1,95 @@
+//! The saved chart: its words, its parts, and which words load.
+
+use crate::machine::{Capacities, Edge, Graph, Reading, Vertex};
+use std::collections::HashSet;
+
+/// The words that a graph saves as.
+pub fn save(g: &Graph) -> Vec<u32> {
+    let (v, e) = (g.vertices.len() as u32, g.edges.len() as u32);
+    let mut words = vec![v, e, 6, 6 + 3 * v, 6 + 3 * v + 6 * e, 6 + 3 * v + 8 * e];
+    for v in &g.vertices {
+        words.extend([v.number, v.ty, v.value]);
+    }
+    for e in &g.edges {
+        words.extend([e.number, e.alpha, e.omega, e.ty, e.reading.kind(), e.reading.decimetres()]);
+    }
+    for v in &g.vertices {
+        words.extend(&v.list);
+    }
+    words
+}
+
+/// Whether length, offsets and total are those of the counts.
+pub fn sound_header(words: &[u32]) -> bool {
+    if words.len() < 6 {
+        return false;
+    }
+    let at = |i: usize| words[i] as u64;
+    let (v, e) = (at(0), at(1));
+    at(2) == 6 && at(3) == 6 + 3 * v && at(4) == 6 + 3 * v + 6 * e && at(5) == 6 + 3 * v + 8 * e && at(5) == words.len() as u64
+}
+
+/// Part 1, 2 or 3 as offset and length; else, and without a sound header, nothing.
+pub fn part(words: &[u32], which: u32) -> Option<(usize, usize)> {
+    if !sound_header(words) || !(1..=3).contains(&which) {
+        return None;
+    }
+    let from = words[1 + which as usize] as usize;
+    let to = words[2 + which as usize] as usize;
+    Some((from, to - from))
+}
+
+/// Whether a graph is a chart of document 01 within the capacities and with types below `types`.
+pub fn is_chart(g: &Graph, capacities: Capacities, types: u32) -> bool {
+    let mut vertices = HashSet::new();
+    let mut edges = HashSet::new();
+    let vertices_good = g.vertices.iter().all(|v| (1..=capacities.vertices).contains(&v.number) && v.ty < types && vertices.insert(v.number));
+    let edges_good = g.edges.iter().all(|e| {
+        (1..=capacities.edges).contains(&e.number)
+            && e.ty < types
+            && edges.insert(e.number)
+            && vertices.contains(&e.alpha)
+            && vertices.contains(&e.omega)
+            && Reading::of(e.reading.kind(), e.reading.decimetres()) == Some(e.reading)
+    });
+    if !vertices_good || !edges_good {
+        return false;
+    }
+    // Each list holds each oriented word whose `this` is its vertex, once.
+    let mut due: HashSet<(u32, u32)> = HashSet::new();
+    for e in &g.edges {
+        due.insert((e.alpha, 2 * e.number));
+        due.insert((e.omega, 2 * e.number + 1));
+    }
+    g.vertices.iter().all(|v| v.list.iter().all(|w| due.remove(&(v.number, *w)))) && due.is_empty()
+}
+
+/// The chart that saves as exactly these words, if there is one.
+pub fn load(words: &[u32], capacities: Capacities, types: u32) -> Option<Graph> {
+    let g = read(words)?;
+    (is_chart(&g, capacities, types) && save(&g) == words).then_some(g)
+}
+
+/// Reads words as a graph. Each list is as long as the ends in the edge part say.
+fn read(words: &[u32]) -> Option<Graph> {
+    if !sound_header(words) {
+        return None;
+    }
+    let (edges_at, lists_at) = (words[3] as usize, words[4] as usize);
+    let mut edges = Vec::new();
+    for e in words[edges_at..lists_at].chunks(6) {
+        edges.push(Edge { number: e[0], alpha: e[1], omega: e[2], ty: e[3], reading: Reading::of(e[4], e[5])? });
+    }
+    let mut vertices = Vec::new();
+    let mut rest = &words[lists_at..];
+    for v in words[6..edges_at].chunks(3) {
+        let degree: usize = edges.iter().map(|e| (e.alpha == v[0]) as usize + (e.omega == v[0]) as usize).sum();
+        if degree > rest.len() {
+            return None;
+        }
+        let (list, after) = rest.split_at(degree);
+        rest = after;
+        vertices.push(Vertex { number: v[0], ty: v[1], value: v[2], list: list.to_vec() });
+    }
+    Some(Graph { vertices, edges })
+}

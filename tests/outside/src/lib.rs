@@ -1,0 +1,11 @@
+//! Document 01's plain machine, written from the document alone, and what the engine is compared with.
+
+#[cfg(feature = "engine")]
+pub mod engine;
+pub mod examples;
+pub mod gen;
+pub mod image;
+pub mod machine;
+pub mod run;
+pub mod text;
+pub mod vector;

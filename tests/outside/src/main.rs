@@ -1,0 +1,398 @@
+//! Compares the compiled engine with the plain machine.
+//!
+//!     outside --self [--seeds N] [--from K]     the generator and the plain machine alone
+//!     outside [--seeds N] [--from K]            the engine (built with the feature `engine`)
+//!             [--chartrun PATH]                 and the program chartrun
+//!             [--vectors DIR]                   and the cases kept in DIR
+//!     outside --text                            chartrun on the plain machine: standard input to output
+
+use outside::gen;
+use outside::image;
+use outside::machine::{is_change, is_kind, Call, Graph};
+use outside::run::{Case, Outcome};
+use outside::text;
+use std::collections::BTreeMap;
+use std::io::{Read, Write};
+use std::process::exit;
+use std::time::Instant;
+
+struct Options {
+    alone: bool,
+    seeds: u64,
+    from: u64,
+    chartrun: Option<String>,
+    vectors: Option<String>,
+}
+
+/// Seeds that take about a minute.
+const SEEDS: u64 = 10_000;
+
+fn main() {
+    let mut options = Options { alone: false, seeds: SEEDS, from: 0, chartrun: None, vectors: None };
+    let mut args = std::env::args().skip(1);
+    while let Some(arg) = args.next() {
+        let mut value = || args.next().unwrap_or_else(|| usage());
+        match arg.as_str() {
+            "--self" => options.alone = true,
+            "--seeds" => options.seeds = value().parse().unwrap_or_else(|_| usage()),
+            "--from" => options.from = value().parse().unwrap_or_else(|_| usage()),
+            "--chartrun" => options.chartrun = Some(value()),
+            "--vectors" => options.vectors = Some(value()),
+            "--text" => {
+                let mut input = Vec::new();
+                std::io::stdin().read_to_end(&mut input).unwrap();
+                std::io::stdout().write_all(&text::chartrun(&input)).unwrap();
+                return;
+            }
+            _ => usage(),
+        }
+    }
+    if options.alone {
+        run_alone(&options);
+    } else {
+        compare::run(&options);
+    }
+}
+
+fn usage() -> ! {
+    eprintln!("usage: outside [--self] [--seeds N] [--from K] [--chartrun PATH] [--vectors DIR] | outside --text");
+    exit(2)
+}
+
+/// What the generated calls reached.
+#[derive(Default)]
+struct Reached {
+    lists: u64,
+    calls: u64,
+    accepted: u64,
+    longest: usize,
+    kinds: BTreeMap<u32, u64>,
+    codes: BTreeMap<u32, u64>,
+}
+
+impl Reached {
+    fn add(&mut self, case: &Case, outcome: &Outcome) {
+        self.lists += 1;
+        match outcome {
+            Outcome::Refused(code) => *self.codes.entry(*code).or_default() += 1,
+            Outcome::Done { answers, .. } => {
+                for (call, answer) in case.calls.chunks(5).zip(answers.chunks(2)) {
+                    self.calls += 1;
+                    if answer[0] == 0 {
+                        self.accepted += 1;
+                        *self.kinds.entry(call[0]).or_default() += 1;
+                    } else {
+                        *self.codes.entry(answer[0]).or_default() += 1;
+                    }
+                }
+            }
+        }
+    }
+
+    /// Kinds never accepted and codes never given.
+    fn missing(&self) -> Vec<String> {
+        let kinds = (0..100).filter(|k| is_kind(*k) && !self.kinds.contains_key(k)).map(|k| format!("kind {k}"));
+        let codes = (1..=16).chain(101..=106).filter(|c| !self.codes.contains_key(c)).map(|c| format!("code {c}"));
+        kinds.chain(codes).collect()
+    }
+
+    fn summary(&self) -> String {
+        let refused: u64 = self.codes.range(101..).map(|c| c.1).sum();
+        format!("{} lists ({refused} refused), {} calls ({} accepted)", self.lists, self.calls, self.accepted)
+    }
+}
+
+fn fail(message: String) -> ! {
+    println!("outside: {message}");
+    exit(1)
+}
+
+/// The plain machine alone, held to demand 3's sentences call by call.
+fn run_alone(options: &Options) {
+    let begun = Instant::now();
+    let mut reached = Reached::default();
+    for seed in options.from..options.from + options.seeds {
+        let case = gen::case(seed);
+        let outcome = case.run();
+        if let Err(message) = demands(&case, &outcome, &mut reached) {
+            fail(format!("seed {seed}: {message}"));
+        }
+        reached.add(&case, &outcome);
+        let words = gen::words(seed);
+        for which in 0..5 {
+            if let Some((from, len)) = image::part(&words, which) {
+                assert!(from + len <= words.len());
+            }
+        }
+        if seed % 10 == 0 {
+            text::chartrun(&gen::text(seed));
+        }
+    }
+    if options.seeds >= SEEDS && !reached.missing().is_empty() {
+        fail(format!("never reached: {}", reached.missing().join(", ")));
+    }
+    println!("outside: plain machine alone, {}, up to {} steps, {} s", reached.summary(), reached.longest, begun.elapsed().as_secs());
+}
+
+/// Demand 3 on the plain machine, by a record of its own of what each mark stood for.
+fn demands(case: &Case, outcome: &Outcome, reached: &mut Reached) -> Result<(), String> {
+    let Ok(mut machine) = case.machine() else { return Ok(()) };
+    let Outcome::Done { answers, image: end } = outcome else { return Err("refused and not refused".into()) };
+    let types = case.rows.len() as u32;
+    let mut set: BTreeMap<u32, (usize, Graph)> = BTreeMap::new();
+    for (i, call) in case.calls.chunks(5).enumerate() {
+        let call: Call = call.try_into().unwrap();
+        let [kind, a, ..] = call;
+        let (place, steps, marks) = (machine.place, machine.costs.len(), machine.marks.len());
+        let before = (machine.present().clone(), machine.free());
+        let (code, number) = machine.call(call);
+        let wrong = |what: &str| Err(format!("call {i}, {call:?}: {what}"));
+        if answers[2 * i..2 * i + 2] != [code, number] {
+            return wrong("two answers");
+        }
+        if code != 0 {
+            let after = (machine.place, machine.costs.len(), machine.marks.len());
+            if number != 0 || after != (place, steps, marks) || before != (machine.present().clone(), machine.free()) {
+                return wrong("refused and changed something");
+            }
+        } else if is_change(kind) {
+            set.retain(|_, mark| mark.0 <= place);
+            if machine.place != place + 1 || machine.free() + number != before.1 || !image::is_chart(machine.present(), case.capacities(), types) {
+                return wrong("not a step");
+            }
+        } else if kind == 17 {
+            set.insert(a, (place, before.0));
+        } else if kind == 18 {
+            set.remove(&a);
+        } else if kind == 22 {
+            set.clear();
+        } else if kind == 21 && (number as usize != place.abs_diff(set[&a].0) || *machine.present() != set[&a].1) {
+            return wrong("not the graph of the mark");
+        }
+        if !set.keys().eq(machine.marks.keys()) {
+            return wrong("other marks stand");
+        }
+        reached.longest = reached.longest.max(machine.costs.len());
+    }
+    let g = machine.present();
+    if image::save(g) != *end || image::load(end, case.capacities(), types).as_ref() != Some(g) {
+        return Err("saved and loaded is another graph".into());
+    }
+    Ok(())
+}
+
+#[cfg(not(feature = "engine"))]
+mod compare {
+    pub fn run(_: &super::Options) {
+        eprintln!("outside: built without the feature `engine`; only --self and --text run");
+        std::process::exit(2)
+    }
+}
+
+#[cfg(feature = "engine")]
+mod compare {
+    use super::*;
+    use outside::gen::Size;
+    use outside::{engine, examples, vector};
+    use std::process::{Command, Stdio};
+    use std::sync::atomic::{AtomicU64, Ordering};
+    use std::time::Duration;
+
+    /// The seed at work, for a report if the engine is killed by a signal.
+    static SEED: AtomicU64 = AtomicU64::new(0);
+
+    extern "C" {
+        fn signal(number: i32, handler: extern "C" fn(i32)) -> usize;
+        fn write(file: i32, bytes: *const u8, len: usize) -> isize;
+        fn _exit(status: i32) -> !;
+    }
+
+    extern "C" fn killed(_: i32) {
+        let mut line = *b"outside: killed at seed                     \n";
+        let mut n = SEED.load(Ordering::Relaxed);
+        let mut at = line.len() - 2;
+        loop {
+            line[at] = b'0' + (n % 10) as u8;
+            n /= 10;
+            if n == 0 {
+                break;
+            }
+            at -= 1;
+        }
+        // SAFETY: both may be called from a signal handler; the pointer is to a live array.
+        unsafe {
+            write(1, line.as_ptr(), line.len());
+            _exit(1)
+        }
+    }
+
+    pub fn run(options: &Options) {
+        for number in [4, 6, 7, 8, 11] {
+            // SAFETY: the handler only writes a line and ends the process.
+            unsafe { signal(number, killed) };
+        }
+        let begun = Instant::now();
+        let mut reached = Reached::default();
+        run_examples();
+        let kept = options.vectors.as_deref().map_or(0, run_vectors);
+        for seed in options.from..options.from + options.seeds {
+            SEED.store(seed, Ordering::Relaxed);
+            let case = gen::case(seed);
+            let outcome = case.run();
+            if let Err(message) = engine::compare(&case, &outcome, seed) {
+                report(seed, &case, &message);
+            }
+            if gen::size_of(seed) == Size::Full {
+                // Again with other junk.
+                if let Err(message) = engine::compare(&case, &outcome, !seed) {
+                    report(seed, &case, &message);
+                }
+            }
+            if let Err(message) = engine::compare_parts(&gen::words(seed)) {
+                fail(format!("seed {seed}: {message}\nwords {:?}", gen::words(seed)));
+            }
+            reached.add(&case, &outcome);
+        }
+        if options.seeds >= SEEDS && !reached.missing().is_empty() {
+            fail(format!("never reached: {}", reached.missing().join(", ")));
+        }
+        let texts = options.chartrun.as_deref().map_or(0, |program| run_texts(program, options));
+        println!("outside: no difference in {}, {kept} vectors, {texts} texts, {} s", reached.summary(), begun.elapsed().as_secs());
+    }
+
+    fn run_examples() {
+        for e in examples::codes().iter().chain(&examples::letters()).chain(&examples::slips()) {
+            let case = e.case();
+            let outcome = case.run();
+            let flat: Vec<u32> = e.answers.iter().flat_map(|a| [a.0, a.1]).collect();
+            if !matches!(&outcome, Outcome::Done { answers, .. } if *answers == flat) {
+                fail(format!("example {}: the plain machine answers otherwise", e.name));
+            }
+            if let Err(message) = engine::compare(&case, &outcome, 1) {
+                fail(format!("example {}: {message}", e.name));
+            }
+        }
+        for (code, case) in examples::list_codes() {
+            if let Err(message) = engine::compare(&case, &Outcome::Refused(code), 1) {
+                fail(format!("example of code {code}: {message}"));
+            }
+        }
+    }
+
+    fn run_vectors(dir: &str) -> usize {
+        let mut files: Vec<_> = match std::fs::read_dir(dir) {
+            Ok(found) => found.map(|f| f.unwrap().path()).filter(|f| f.extension().is_some_and(|e| e == "case")).collect(),
+            Err(e) => fail(format!("{dir}: {e}")),
+        };
+        files.sort();
+        for file in &files {
+            let text = std::fs::read_to_string(file).unwrap();
+            let Some(case) = vector::read(&text) else { fail(format!("{}: not a case", file.display())) };
+            if let Err(message) = engine::compare(&case, &case.run(), 1) {
+                fail(format!("{}: {message}", file.display()));
+            }
+        }
+        files.len()
+    }
+
+    /// Prints the smallest list found by leaving out calls, and ends.
+    fn report(seed: u64, case: &Case, message: &str) -> ! {
+        let differs = |case: &Case| engine::compare(case, &case.run(), seed).is_err();
+        let mut small = case.clone();
+        let rest = small.calls.len() % 5;
+        let mut chunk = (small.calls.len() / 5).next_power_of_two().max(1);
+        let limit = Instant::now() + Duration::from_secs(30);
+        while chunk > 0 && rest == 0 && differs(&small) && Instant::now() < limit {
+            let mut at = 0;
+            while at < small.calls.len() && Instant::now() < limit {
+                let mut less = small.clone();
+                let end = (at + 5 * chunk).min(less.calls.len());
+                less.calls.drain(at..end);
+                if differs(&less) {
+                    small = less;
+                } else {
+                    at = end;
+                }
+            }
+            chunk /= 2;
+        }
+        let shown = engine::compare(&small, &small.run(), seed).err();
+        fail(format!("seed {seed}: {message}\nshrunk to {} calls: {}\n{}", small.calls.len() / 5, shown.unwrap_or_default(), vector::write(&small)))
+    }
+
+    fn run_texts(program: &str, options: &Options) -> u64 {
+        let mut count = 0;
+        let mut check = |name: String, input: Vec<u8>, slow: bool| {
+            count += 1;
+            let wanted = text::chartrun(&input);
+            let found = piped(program, input.clone(), slow);
+            if found != wanted {
+                let head = |bytes: &[u8]| String::from_utf8_lossy(&bytes[..bytes.len().min(400)]).into_owned();
+                fail(format!("chartrun, {name}:\nwrote  {:?}\nshould {:?}\ninput  {:?}", head(&found), head(&wanted), head(&input)));
+            }
+        };
+        check("document 01's example".into(), examples::TEXT.into(), false);
+        for (name, input) in limits() {
+            check(name.into(), input, false);
+        }
+        check("in pieces".into(), examples::TEXT.into(), true);
+        check("1,000 lines in pieces".into(), b"50 0 0 0 0\n".repeat(1_000), true);
+        for seed in options.from..options.from + (options.seeds / 20).max(50) {
+            check(format!("seed {seed}"), gen::text(seed), false);
+        }
+        count
+    }
+
+    /// Texts at the limits of bytes and lines.
+    fn limits() -> Vec<(&'static str, Vec<u8>)> {
+        let line = b"50 0 0 0 0\n";
+        let wide = b"4294967295 4294967295 4294967295 4294967295 4294967295\n";
+        let filled = |len: usize, byte: u8| vec![byte; len];
+        let mut ends_bare = line.repeat(1_000);
+        ends_bare.extend(b"50 0 0 0 0");
+        let mut bare_at_limit = line.repeat(999);
+        bare_at_limit.extend(b"50 0 0 0 0");
+        let mut bad_and_many = b"x\n".to_vec();
+        bad_and_many.extend(line.repeat(1_000));
+        let mut bad_and_long = b"x\n".to_vec();
+        bad_and_long.resize(60_001, b'0');
+        vec![
+            ("nothing", vec![]),
+            ("one newline", b"\n".to_vec()),
+            ("1,000 lines", line.repeat(1_000)),
+            ("1,000 wide lines", wide.repeat(1_000)),
+            ("1,001 lines", line.repeat(1_001)),
+            ("1,000 lines and a rest", ends_bare),
+            ("999 lines and a rest", bare_at_limit),
+            ("a bad line and too many lines", bad_and_many),
+            ("a bad line and too many bytes", bad_and_long),
+            ("60,000 digits", filled(60_000, b'1')),
+            ("60,001 digits", filled(60_001, b'1')),
+            ("60,000 newlines", filled(60_000, b'\n')),
+            ("60,001 newlines", filled(60_001, b'\n')),
+            ("200,000 zero bytes", filled(200_000, 0)),
+        ]
+    }
+
+    fn piped(program: &str, input: Vec<u8>, slow: bool) -> Vec<u8> {
+        let started = Command::new(program).stdin(Stdio::piped()).stdout(Stdio::piped()).spawn();
+        let mut child = started.unwrap_or_else(|e| fail(format!("{program}: {e}")));
+        let mut pipe = child.stdin.take().unwrap();
+        let writer = std::thread::spawn(move || {
+            // The program may stop reading when there are too many bytes.
+            if !slow {
+                return pipe.write_all(&input).is_ok();
+            }
+            input.chunks(input.len() / 20 + 1).all(|piece| {
+                std::thread::sleep(Duration::from_millis(2));
+                pipe.write_all(piece).is_ok()
+            })
+        });
+        let output = child.wait_with_output().unwrap();
+        writer.join().unwrap();
+        if !output.status.success() {
+            fail(format!("{program} ended with {}", output.status));
+        }
+        output.stdout
+    }
+}

@@ -1,0 +1,68 @@
+//! The program chartrun: bytes in, bytes out.
+
+use crate::machine::{Call, Capacities};
+use crate::run::{Case, Outcome};
+use std::fmt::Write;
+
+pub const CAPACITIES: Capacities = Capacities { vertices: 200, edges: 800, changes: 1_000 };
+/// "types 0 to 4, with 2 and 3 below 1"
+pub const ROWS: [u64; 5] = [0, 0, 1 << 1, 1 << 1, 0];
+pub const BYTES: usize = 60_000;
+pub const LINES: usize = 1_000;
+
+/// What chartrun writes for these bytes.
+pub fn chartrun(input: &[u8]) -> Vec<u8> {
+    let mut out = String::new();
+    match calls(input) {
+        Err(line) => writeln!(out, "unreadable {line}").unwrap(),
+        Ok(calls) => {
+            let Outcome::Done { answers, image } = Case::new(CAPACITIES, &ROWS, &calls).run() else { unreachable!() };
+            for answer in answers.chunks(2) {
+                match answer[0] {
+                    0 => writeln!(out, "done {}", answer[1]).unwrap(),
+                    code => writeln!(out, "refused {code}").unwrap(),
+                }
+            }
+            out.push_str("image");
+            for word in image {
+                write!(out, " {word}").unwrap();
+            }
+            out.push('\n');
+        }
+    }
+    out.into_bytes()
+}
+
+/// The calls, or the number to be written after `unreadable`.
+fn calls(input: &[u8]) -> Result<Vec<Call>, usize> {
+    if input.len() > BYTES {
+        return Err(0);
+    }
+    let mut lines: Vec<&[u8]> = input.split(|b| *b == b'\n').collect();
+    let rest = lines.pop().unwrap();
+    let all = lines.len() + !rest.is_empty() as usize;
+    if all > LINES {
+        return Err(LINES + 1);
+    }
+    let mut calls = Vec::new();
+    for (i, line) in lines.iter().enumerate() {
+        calls.push(call(line).ok_or(i + 1)?);
+    }
+    if !rest.is_empty() {
+        return Err(all);
+    }
+    Ok(calls)
+}
+
+fn call(line: &[u8]) -> Option<Call> {
+    let numbers: Option<Vec<u32>> = line.split(|b| *b == b' ').map(number).collect();
+    numbers?.try_into().ok()
+}
+
+/// Digits without leading zeros, at most 32 bits.
+fn number(digits: &[u8]) -> Option<u32> {
+    if digits.is_empty() || !digits.iter().all(u8::is_ascii_digit) || (digits[0] == b'0' && digits.len() > 1) {
+        return None;
+    }
+    std::str::from_utf8(digits).unwrap().parse().ok()
+}
