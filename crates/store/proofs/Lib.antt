@@ -1,3 +1,9 @@
 pub mod Stores
 pub mod Walks
 pub mod Saved
+pub mod Cuts
+pub mod Fills
+pub mod Parts
+pub mod FillOrders
+pub mod FillLists
+pub mod Laws

@@ -1,6 +1,6 @@
 -- The words that saving writes are the image of the graph that the tables hold.
-use Prim.Native.Nat.{ℕ, _+_, _*_, _≤_}
-use mathlib.Core.Path.{_≡_, refl, sym, ap, _∙_}
+use Prim.Native.Nat.{ℕ, _+_, _≤_}
+use mathlib.Core.Path.{_≡_, refl, ap, _∙_}
 use mathlib.Core.Bool.{true}
 use mathlib.Core.List.{List, [], _∷_, _++_, map}
 use native.Mathlib.Omega.{arith}
@@ -9,17 +9,16 @@ use lib.Seq.{sets}
 use Rattle.lists.specs.Lists.{each, over}
 use Rattle.ring.specs.Links.{nodes}
 use Rattle.graph.specs.Graph.{Vertex, Edge, Graph}
-use Rattle.graph.specs.WellFormed.{Bounds, Within, wellFormed}
+use Rattle.graph.specs.WellFormed.{wellFormed}
 use Rattle.graph.proofs.Facts.{from-facts}
-use Rattle.image.specs.Image.{vertexRecord, edgeRecord, incidencesOf, headerOf, imageLength, save}
+use Rattle.image.specs.Image.{vertexRecord, edgeRecord, incidencesOf, headerOf, save}
 use Rattle.image.proofs.Loads.{image-length}
 use Rattle.image.proofs.Room.{few-vertices, few-edges}
 use Rattle.tables.specs.Tables.{State, vlane, elane, ilane, vends, eends, endsAt}
 use Rattle.tables.specs.Holds.{Holds}
-use Rattle.tables.specs.Capacities.{Sized}
 use Rattle.tables.specs.Read.{vertexAt, edgeAt, graphOf}
 use Rattle.tables.proofs.GraphRead.{graph-is}
-use Rattle.store.specs.Words.{vertexWords, edgeWords, listWords, vertexPart, edgePart, incidencePart, Some, CanSave}
+use Rattle.store.specs.Words.{vertexPart, edgePart, incidencePart, Some, CanSave}
 use Rattle.store.proofs.Stores.{then-by, sets-front}
 
 -- ---- the words

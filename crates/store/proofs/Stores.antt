@@ -1,10 +1,10 @@
 -- Stores in a row.
-use Prim.Native.Nat.{ℕ, zero, suc, _+_, _*_, _≤_}
+use Prim.Native.Nat.{ℕ, suc, _+_, _*_, _≤_}
 use mathlib.Core.Path.{_≡_, refl, sym, ap, ap₂, _∙_}
 use mathlib.Core.List.{List, [], _∷_, _++_}
 use native.Mathlib.Omega.{arith}
-use native.Mathlib.Nat.{suc-add, add-zero}
-use lib.ListN.{length, set, drop, length-append}
+use native.Mathlib.Nat.{add-zero}
+use lib.ListN.{length, set, drop}
 use lib.Seq.{sets, sets-eq}
 use Rattle.lists.specs.Lists.{over}
 use Rattle.graph.specs.declared.Reading.{Reading}

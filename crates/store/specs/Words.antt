@@ -1,6 +1,6 @@
 -- The words of an image, read off the tables.
-use Prim.Native.Nat.{ℕ, _+_, _*_, _≤_, _<_}
-use mathlib.Core.List.{List, [], _∷_, _++_}
+use Prim.Native.Nat.{ℕ, _+_, _*_, _≤_}
+use mathlib.Core.List.{List, [], _∷_}
 use lib.ListN.{length}
 use Rattle.lists.specs.Lists.{each}
 use Rattle.ring.specs.declared.Lane.{Lane}
@@ -8,13 +8,14 @@ use Rattle.ring.specs.declared.Ends.{Ends}
 use Rattle.ring.specs.Links.{Held, nodes}
 use Rattle.graph.specs.Graph.{Graph, readingKind, decimetres}
 use Rattle.graph.specs.WellFormed.{Bounds, Within}
-use Rattle.image.specs.Image.{headerOf, imageLength}
+use Rattle.image.specs.Image.{imageLength}
 use Rattle.tables.specs.declared.Head.{Head}
-use Rattle.tables.specs.Tables.{State, st, vlane, elane, ilane, vends, eends, endsAt, vtype, vvalue, etype, wthis, readingAt}
+use Rattle.tables.specs.Tables.{State, vlane, elane, ilane, vends, eends, endsAt, vtype, vvalue, etype, wthis, readingAt}
 use Rattle.tables.specs.Holds.{Holds}
 use Rattle.tables.specs.Capacities.{Sized}
 
--- the record of vertex v, of edge e, and the list of v
+-- "Vertex part, in Vseq order: number, type, value. Edge part, in Eseq order: number, alpha, omega, type, reading kind, decimetres.
+-- Incidence part: each vertex's list, in Vseq order.": the record of vertex v, of edge e, and the list of v
 abbrev pub vertexWords : List ℕ → ℕ → List ℕ
 vertexWords vt v = v ∷ vtype vt v ∷ vvalue vt v ∷ []
 
@@ -43,7 +44,7 @@ Fits at ws out = at + length ws ≤ length out
 abbrev pub Some : Lane → List ℕ → Ends → Type 0
 Some lane t e = (l : List ℕ) × Held lane t e l
 
--- what saving asks: the tables hold a graph within their capacities, and there is room for its image
+-- what saving asks: the tables hold a graph within their capacities, and there is room for its image, "6 + 3V + 8E"
 pub record CanSave (s : State) (size : ℕ) : Type 0 where
   pub graph : Graph
   pub bounds : Bounds

@@ -1,17 +1,20 @@
 // Images into the tables and out of them (document 01: the saved chart, loaded and saved).
+mod fill; // fill.rt: the tables, from the parts of an image
 mod write; // write.rt: the parts of an image, from the tables
 
 use tables::Head;
+use tables::clear::clear;
 ghost use mathlib.Core.Path.{_≡_};
 ghost use lib.ListN.{length};
 ghost use Rattle.lists.specs.Lists.{over};
 ghost use Rattle.graph.specs.Graph.{Graph};
-ghost use Rattle.image.specs.Image.{save as saveOf};
+ghost use Rattle.image.specs.Image.{save as saveOf, load as loadOf};
 ghost use Rattle.tables.specs.Tables.{st};
 ghost use Rattle.tables.specs.Holds.{Holds};
 ghost use Rattle.store.specs.Words.{CanSave};
+ghost use Rattle.store.specs.Filling.{CanLoad};
 
-// Writes the image of the graph that the tables hold to the front of `out`; the words beyond it stay. How many words it has.
+// Writes the image of the graph that the tables hold to the front of `out`; the words beyond it stay. Returns how many words it has.
 pub fn save(head: Head, vt: &[u32], et: &[u32], out: &mut [u32]) -> usize
     requires { ⌜ CanSave (st head (now vt) (now et)) (length (now out)) ⌝ }
     ensures { λ r. ⌜ ((g : Graph) → Holds (st head (now (vt .entry)) (now (et .entry))) g → (now (out .exit) ≡ over (saveOf g) (now (out .entry))) × (r ≡ length (saveOf g))) ⌝ }
@@ -20,4 +23,16 @@ pub fn save(head: Head, vt: &[u32], et: &[u32], out: &mut [u32]) -> usize
     let a = write::vertices(head, vt, out, 6);
     let b = write::edges(head, et, out, a);
     write::lists(head, vt, et, out, b)
+}
+
+// Fills the tables, whatever they held, from words that `image::check` has found sound.
+pub fn load(words: &[u32], vt: &mut [u32], et: &mut [u32]) -> Head
+    requires { ⌜ CanLoad (now words) (now vt) (now et) ⌝ }
+    ensures { λ r. ⌜ Holds (st r (now (vt .exit)) (now (et .exit))) (loadOf (now (words .entry))) ⌝ }
+{
+    let a = clear(vt, et);
+    let b = fill::vertices(a, words, vt, et);
+    let c = fill::edges(b, words, vt, et);
+    fill::lists(c, words, vt, et);
+    c
 }

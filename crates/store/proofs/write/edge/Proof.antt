@@ -1,18 +1,7 @@
-use mathlib.Core.Path.{_≡_, refl, ap, _∙_}
-use mathlib.Core.List.{List, [], _∷_}
-use Prim.Native.Nat.{ℕ}
-use Rattle.store.proofs.Stores.{then-by, six-by}
+use Rattle.store.proofs.Stores.{six-by}
 use borrow.Author.Needs.{needs}
 use Rattle.store.proofs.write.edge.Statement.{statement}
 use Rattle.store.proofs.write.edge.Tie as tie
-use Rattle.store.proofs.write.edge.Reads as reads
-use Rattle.store.proofs.write.edge.Lts as lts
-use Rattle.store.proofs.write.three.Reads as three-reads
-use Rattle.tables.proofs.rows.decimetres_of.Reads as decimetres-of-reads
-use Rattle.tables.proofs.rows.edge_type.Reads as edge-type-reads
-use Rattle.tables.proofs.rows.kind_of.Reads as kind-of-reads
-use Rattle.tables.proofs.rows.reading_at.Reads as reading-at-reads
-use Rattle.tables.proofs.rows.this.Reads as this-reads
 
 mul-this : tie.Need-mul-this
 mul-this c = search needs

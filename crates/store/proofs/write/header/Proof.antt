@@ -1,13 +1,10 @@
 use Prim.Native.Nat.{_+_, _*_}
-use mathlib.Core.List.{List, [], _∷_}
+use mathlib.Core.List.{[], _∷_}
 use mathlib.Core.Path.{refl}
 use Rattle.store.proofs.Stores.{then-by}
 use borrow.Author.Needs.{needs}
 use Rattle.store.proofs.write.header.Statement.{statement}
 use Rattle.store.proofs.write.header.Tie as tie
-use Rattle.store.proofs.write.header.Reads as reads
-use Rattle.store.proofs.write.header.Lts as lts
-use Rattle.store.proofs.write.three.Reads as three-reads
 
 three-requires : tie.Need-three-requires
 three-requires c κs = search needs

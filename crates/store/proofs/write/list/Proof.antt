@@ -1,22 +1,18 @@
-use Prim.Native.Nat.{ℕ, suc, _+_, _≤_}
+-- The invariant: what is left to write from here writes the same as the whole. The measure is how many words are left.
+use Prim.Native.Nat.{_+_, _≤_}
 use mathlib.Core.Path.{_≡_, refl, sym, ap, _∙_}
-use mathlib.Core.List.{List, [], _∷_}
+use mathlib.Core.List.{[], _∷_}
 use native.Mathlib.Omega.{arith}
 use borrow.Author.Needs.{needs}
 use lib.ListN.{length, length-set}
 use Rattle.lists.specs.Lists.{each}
-use Rattle.ring.specs.declared.Ends.{Ends}
 use Rattle.ring.specs.Links.{nodes}
-use Rattle.tables.specs.Tables.{ilane, endsAt}
+use Rattle.tables.specs.Tables.{ilane}
 use Rattle.tables.proofs.Frames.{fair-i}
-use Rattle.store.specs.Words.{Some, listWords}
+use Rattle.store.specs.Words.{listWords}
 use Rattle.store.proofs.Walks.{Writing, Turn, left, writing-start, writing-turn, writing-end, each-one}
 use Rattle.store.proofs.write.list.Statement.{statement}
 use Rattle.store.proofs.write.list.Tie as tie
-use Rattle.store.proofs.write.list.Reads as reads
-use Rattle.store.proofs.write.list.Lts as lts
-use Rattle.ring.proofs.next.Reads as next-reads
-use Rattle.tables.proofs.rows.ends_of.Reads as ends-of-reads
 
 abbrev Inv-loop : tie.InvT-loop
 Inv-loop vt et v out₀ from lane ends at₀ w₀ out at w = (length out ≡ length out₀) × Writing (λ x. x ∷ []) lane et ends out₀ from out at w

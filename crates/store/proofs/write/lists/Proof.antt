@@ -1,5 +1,5 @@
-use Prim.Native.Nat.{ℕ, _+_, _≤_}
-use mathlib.Core.Path.{_≡_, refl, sym, _∙_}
+-- The invariant: what is left to write from here writes the same as the whole. The measure is how many vertices are left.
+use mathlib.Core.Path.{_≡_, refl}
 use native.Mathlib.Omega.{arith}
 use borrow.Author.Needs.{needs}
 use lib.ListN.{length}
@@ -9,10 +9,6 @@ use Rattle.store.specs.Words.{listWords, incidencePart}
 use Rattle.store.proofs.Walks.{Writing, Turn, left, writing-start, writing-turn, writing-end}
 use Rattle.store.proofs.write.lists.Statement.{statement}
 use Rattle.store.proofs.write.lists.Tie as tie
-use Rattle.store.proofs.write.lists.Reads as reads
-use Rattle.store.proofs.write.lists.Lts as lts
-use Rattle.ring.proofs.next.Reads as next-reads
-use Rattle.store.proofs.write.list.Reads as list-reads
 
 abbrev Inv-loop : tie.InvT-loop
 Inv-loop vt et out₀ from lane ends at₀ v₀ out at v = (length out ≡ length out₀) × Writing (listWords vt et) lane vt ends out₀ from out at v

@@ -1,12 +1,9 @@
-use Prim.Native.Nat.{_+_}
 use native.Mathlib.Omega.{arith}
 use lib.ListN.{length-set}
 use Rattle.store.proofs.Stores.{three-by}
 use borrow.Author.Needs.{needs}
 use Rattle.store.proofs.write.three.Statement.{statement}
 use Rattle.store.proofs.write.three.Tie as tie
-use Rattle.store.proofs.write.three.Reads as reads
-use Rattle.store.proofs.write.three.Lts as lts
 
 mul-out : tie.Need-mul-out
 mul-out c = search needs

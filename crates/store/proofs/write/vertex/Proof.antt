@@ -1,15 +1,10 @@
-use mathlib.Core.Path.{_≡_, ap₂, _∙_}
-use mathlib.Core.List.{List, [], _∷_}
+use mathlib.Core.Path.{ap₂, _∙_}
+use mathlib.Core.List.{[], _∷_}
 use Prim.Native.Nat.{ℕ}
 use lib.Seq.{sets}
 use borrow.Author.Needs.{needs}
 use Rattle.store.proofs.write.vertex.Statement.{statement}
 use Rattle.store.proofs.write.vertex.Tie as tie
-use Rattle.store.proofs.write.vertex.Reads as reads
-use Rattle.store.proofs.write.vertex.Lts as lts
-use Rattle.store.proofs.write.three.Reads as three-reads
-use Rattle.tables.proofs.rows.vertex_type.Reads as vertex-type-reads
-use Rattle.tables.proofs.rows.vertex_value.Reads as vertex-value-reads
 
 vertex-type-requires : tie.Need-vertex-type-requires
 vertex-type-requires c κs = search needs

@@ -1,0 +1,44 @@
+-- A graph on its way into the tables: its vertices without lists, then its edges, then each word at the end of the list of its vertex.
+use Prim.Native.Nat.{ℕ, _+_}
+use mathlib.Core.Path.{_≡_}
+use mathlib.Core.Bool.{true}
+use mathlib.Core.List.{List, []}
+use lib.ListN.{getD}
+use Rattle.lists.specs.Choice.{_==_}
+use Rattle.lists.specs.Lists.{keep}
+use Rattle.graph.specs.Graph.{Vertex, Edge, thisIn, readingOf}
+use Rattle.graph.specs.WellFormed.{Bounds}
+use Rattle.image.specs.Image.{loadable}
+use Rattle.tables.specs.Tables.{State, st, noHead, WIn, vlast, wthis, insertVertexS, placeEdgeS, attachS, CanAttach}
+use Rattle.tables.specs.Capacities.{Sized}
+
+-- the vertex without a list; with the words of ws that are seen from it, in their order
+abbrev pub bare : Vertex → Vertex
+bare v = record { number = v .number; type = v .type; value = v .value; incidences = [] }
+
+abbrev pub filled : List Edge → List ℕ → Vertex → Vertex
+filled es ws v = record { number = v .number; type = v .type; value = v .value; incidences = keep (λ w. thisIn es w == v .number) ws }
+
+-- the vertex, the edge whose record stands at `at`, last in its order
+unfoldable pub vertexS : List ℕ → ℕ → State → State
+vertexS part at s = insertVertexS (getD part at 0) (getD part (at + 1) 0) (getD part (at + 2) 0) (s .head .vlast) s
+
+unfoldable pub edgeS : List ℕ → ℕ → State → State
+edgeS part at s =
+    placeEdgeS (getD part at 0) (getD part (at + 1) 0) (getD part (at + 2) 0) (getD part (at + 3) 0)
+    (readingOf (getD part (at + 4) 0) (getD part (at + 5) 0)) (s .head .elast) s
+
+-- word w, last in the list of the vertex that it is seen from
+unfoldable pub wordS : ℕ → State → State
+wordS w s = attachS (wthis (s .et) w) (vlast (s .vt) (wthis (s .et) w)) w s
+
+pub record CanWord (w : ℕ) (s : State) : Type 0 where
+  pub word : WIn (s .et) w
+  pub back : CanAttach (wthis (s .et) w) (vlast (s .vt) (wthis (s .et) w)) w s
+
+-- "Loading takes exactly the words that some chart within the capacities and types saves as."
+-- What loading asks: the words are such words, for the capacities of the tables and some number of types.
+pub record CanLoad (words vt et : List ℕ) : Type 0 where
+  pub bounds : Bounds
+  pub sized : Sized bounds (st noHead vt et)
+  pub sound : loadable bounds words ≡ true
