@@ -10,19 +10,21 @@ use Rattle.graph.specs.Graph.{Graph}
 use Rattle.graph.specs.WellFormed.{Bounds, WellFormed, Within}
 use Rattle.graph.specs.Edits.{Applies, EditIn, apply}
 use Rattle.history.specs.Machine.{Step, Timeline, begun, graphAt, current, placed, extended, costs, freeOf}
+use Rattle.history.proofs.Timelines.{length-cut}
 use Rattle.journal.specs.Rows.{costAt, rowed, Below}
 use Rattle.journal.proofs.RowLaws.{below-less, cost-agree, rowed-below, rowed-cost, rowed-length}
 use Rattle.tables.specs.Tables.{State}
 use Rattle.tables.specs.Holds.{Holds}
-use Rattle.tables.specs.Edits.{applyS, Can, Small}
+use Rattle.tables.specs.Edits.{applyS, Can}
+use Rattle.tables.specs.Capacities.{Sized}
 use Rattle.tables.proofs.GraphRead.{holds-one}
 use Rattle.timeline.specs.declared.Position.{Position}
-use Rattle.timeline.specs.Tape.{made, Sized, Tape}
+use Rattle.timeline.specs.Tape.{made, Tape}
 use Rattle.timeline.specs.Steps.{rowsTo, StepAt, Laid, Journal, Open}
 use Rattle.timeline.proofs.Tapes.{tape-can, tape-sound, made-within, made-agree, tape-cut, made-more, tape-more}
 
-abbrev pub stepOf : ℕ → Graph → Step
-stepOf c g = record { cost = c; graph = g }
+abbrev pub stepWith : ℕ → Graph → Step
+stepWith c g = record { cost = c; graph = g }
 
 rows-from : (i p : ℕ) (ss : List Step) → i ≤ rowsTo i p ss
 rows-from i zero ss = omega arith
@@ -101,11 +103,6 @@ laid-more t t′ g i (suc p) (y ∷ ss) x l h b k = (
   step-agree t t′ g i y (below-less (rowsTo (i + y .cost) p ss) (i + y .cost) t t′ (rows-from (i + y .cost) p ss) b) (l .0),
   laid-more t t′ g (i + y .cost) p ss x (l .1) (omega arith) b k,
 )
-
-pub length-more : (p : ℕ) (ss : List Step) (x : Step) → p ≤ length ss → length (take p ss ++ (x ∷ [])) ≡ suc p
-length-more zero ss x h = refl
-length-more (suc p) [] x h = absurd (omega arith)
-length-more (suc p) (y ∷ ss) x h = ap suc (length-more p ss x (omega arith))
 
 rows-more : (i p : ℕ) (ss : List Step) (x : Step) → p ≤ length ss → rowsTo i (suc p) (take p ss ++ (x ∷ [])) ≡ rowsTo i p ss + x .cost
 rows-more i zero ss x h = refl
@@ -203,7 +200,7 @@ journal-close : (b : Bounds) (j j′ : Position) (s s′ : State) (t t′ : List
     → j′ .place ≡ j .place + 1 → j′ .steps ≡ j .place + 1 → j′ .used ≡ j .used + x .cost → Journal b j′ s′ t′ (extended x l)
 journal-close b j j′ s s′ t t′ l x k w y z p q r =
     let ss = take (l .place) (l .steps) ++ (x ∷ []) in
-    let n : length ss ≡ suc (l .place) = length-more (l .place) (l .steps) x (k .inside) in
+    let n : length ss ≡ suc (l .place) = length-cut (l .place) (l .steps) x (k .inside) in
     let u : rowsTo 0 (suc (l .place)) ss ≡ j .used + x .cost = rows-more 0 (l .place) (l .steps) x (k .inside) ∙ ap (λ (i : ℕ). i + x .cost) (sym (k .used)) in
     let v : rowsTo 0 (length ss) ss ≡ j .used + x .cost = ap (λ (i : ℕ). rowsTo 0 i ss) n ∙ u in
     record {
@@ -233,6 +230,11 @@ module _ (b : Bounds) (j : Position) (s₀ : State) (t₀ : List ℕ) (l : Timel
     open-now : (g : Graph) → Holds s g → g ≡ made t (l .start) u
     open-now g h = holds-one s g (made t (l .start) u) h (k .tape .holds)
 
+    pub open-within : (g : Graph) → Holds s g → Within b g
+    open-within g h =
+        subst (Within b) (sym (open-now g h))
+        (made-within b t (l .start) u (k .tape .applies) (k .tape .inside) (k .tape .bounded) u (k .tape .upto))
+
     pub open-can : (g : Graph) (e : Edit) → Holds s g → Applies e g → EditIn b e → Can e s
     open-can g e h a i = tape-can b t (l .start) u s u e (k .tape) (subst (Applies e) (open-now g h) a) i
 
@@ -259,9 +261,9 @@ module _ (b : Bounds) (j : Position) (s₀ : State) (t₀ : List ℕ) (l : Timel
           (made-more b t t′ (l .start) s s′ u e c (k .tape) f (subst (Applies e) (open-now g h) a) i q d ∙ ap (apply e) (sym (open-now g h))) x
 
     pub open-close : (j′ : Position) (g : Graph) → 1 ≤ c → u ≡ j .used + c → Holds s g → j′ .place ≡ j .place + 1 → j′ .steps ≡ j .place + 1 → j′ .used ≡ u
-        → Journal b j′ s t (extended (stepOf c g) l)
+        → Journal b j′ s t (extended (stepWith c g) l)
     open-close j′ g o n h x y z =
-        journal-close b j j′ s₀ s t₀ t l (stepOf c g) (k .journal) (k .below)
+        journal-close b j j′ s₀ s t₀ t l (stepWith c g) (k .journal) (k .below)
         (record {
           some = o;
           first = k .costs (j .used) (omega arith) (omega arith);
@@ -273,7 +275,7 @@ module _ (b : Bounds) (j : Position) (s₀ : State) (t₀ : List ℕ) (l : Timel
 -- an edit is a step of one row
 pub journal-step : (b : Bounds) (j j′ : Position) (s s′ : State) (t t′ : List ℕ) (l : Timeline) (e : Edit) → Journal b j s t l → Applies e (current l) → EditIn b e
     → 12 * j .used + 12 ≤ length t → t′ ≡ rowed (j .used) e 1 t → s′ ≡ applyS e s
-    → j′ .place ≡ j .place + 1 → j′ .steps ≡ j .place + 1 → j′ .used ≡ j .used + 1 → Journal b j′ s′ t′ (extended (stepOf 1 (apply e (current l))) l)
+    → j′ .place ≡ j .place + 1 → j′ .steps ≡ j .place + 1 → j′ .used ≡ j .used + 1 → Journal b j′ s′ t′ (extended (stepWith 1 (apply e (current l))) l)
 journal-step b j j′ s s′ t t′ l e k a i f q d x y z =
     let u = j .used in
     let o = open-start b j s t l 1 u refl k in
@@ -284,11 +286,10 @@ journal-step b j j′ s s′ t t′ l e k a i f q d x y z =
 
 -- ---- a start, commit, and free changes
 
-pub journal-begin : (b : Bounds) (j : Position) (s : State) (t : List ℕ) (g : Graph) → Small s → Sized b s → Within b g → Holds s g → length t < 2 ^ 32
+pub journal-begin : (b : Bounds) (j : Position) (s : State) (t : List ℕ) (g : Graph) → Sized b s → Within b g → Holds s g → length t < 2 ^ 32
     → j .place ≡ 0 → j .steps ≡ 0 → j .used ≡ 0 → Journal b j s t (begun g)
-journal-begin b j s t g m z w h e x y u = record {
+journal-begin b j s t g z w h e x y u = record {
   tape = rw u (record {
-    small = m;
     sized = z;
     sound = h .sound;
     bounded = w;
@@ -309,7 +310,7 @@ journal-begin b j s t g m z w h e x y u = record {
 pub journal-commit : (b : Bounds) (j j′ : Position) (s : State) (t : List ℕ) (l : Timeline) → Journal b j s t l → j′ .place ≡ 0 → j′ .steps ≡ 0 → j′ .used ≡ 0
     → Journal b j′ s t (begun (current l))
 journal-commit b j j′ s t l k x y u =
-    journal-begin b j′ s t (current l) (k .tape .small) (k .tape .sized) (within-current b j s t l k) (holds-current b j s t l k) (k .tape .short) x y u
+    journal-begin b j′ s t (current l) (k .tape .sized) (within-current b j s t l k) (holds-current b j s t l k) (k .tape .short) x y u
 
 rows-total : (i p : ℕ) (ss : List Step) → rowsTo i p ss ≡ i + costs (take p ss)
 rows-total i zero ss = omega arith

@@ -6,46 +6,23 @@ use native.Mathlib.Omega.{arith}
 use lib.ListN.{length}
 use Rattle.lists.proofs.Picks.{Same, same, differ, same?}
 use Rattle.graph.specs.declared.Edit.{Edit}
-use Rattle.graph.specs.declared.Edit.the-variants.{InsertVertex, RemoveVertex, InsertEdge, RemoveEdge, SetVertex, SetEdge, MoveVertex, MoveEdge, MoveWord}
 use Rattle.graph.specs.Graph.{Graph}
 use Rattle.graph.specs.WellFormed.{Bounds, WellFormed, Within}
 use Rattle.graph.specs.Edits.{Applies, EditIn, apply, inverse}
-use Rattle.graph.proofs.Undoes.{inverse-applies}
 use Rattle.graph.proofs.Keeps.{keeps-formed}
-use Rattle.graph.proofs.EditBounds.{keeps-within, inverse-in}
+use Rattle.graph.proofs.EditBounds.{keeps-within}
 use Rattle.journal.specs.Rows.{rowAt, costAt, rowed, Below}
 use Rattle.journal.proofs.RowLaws.{row-agree, rowed-length, rowed-below, rowed-row}
 use Rattle.tables.specs.Tables.{State}
 use Rattle.tables.specs.Holds.{Holds}
-use Rattle.tables.specs.Edits.{applyS, Can, Room, Small}
-use Rattle.tables.proofs.Refines.{can-edit, holds-edit}
-use Rattle.tables.proofs.Sizes.{Alike, same-size, small-edit}
-use Rattle.tables.proofs.Undo.{can-revert, reverted}
-use Rattle.timeline.specs.Tape.{made, Sized, Tape}
-
--- an edit within the bounds has room
-pub room-in : (b : Bounds) (s : State) (e : Edit) (g : Graph) → Sized b s → EditIn b e → Applies e g → Room e s
-room-in b s (InsertVertex n t v p) g z i a = (a .real, omega (arith, i .number, z .vertices))
-room-in b s (RemoveVertex n t v p) g z i a = tt
-room-in b s (InsertEdge n x y t r p o q) g z i a = (a .0 .real, omega (arith, i .number, z .edges))
-room-in b s (RemoveEdge n x y t r p o q) g z i a = tt
-room-in b s (SetVertex n t v t′ v′) g z i a = tt
-room-in b s (SetEdge n t r t′ r′) g z i a = tt
-room-in b s (MoveVertex n old new) g z i a = tt
-room-in b s (MoveEdge n old new) g z i a = tt
-room-in b s (MoveWord w v old u new) g z i a = tt
-
-sized-alike : (b : Bounds) (s s′ : State) → Alike s s′ → Sized b s → Sized b s′
-sized-alike b s s′ a z = record { vertices = rw (a .vt) (z .vertices); edges = rw (a .et) (z .edges) }
+use Rattle.tables.specs.Edits.{applyS, Can}
+use Rattle.tables.specs.Capacities.{Sized}
+use Rattle.tables.proofs.Sizes.{Alike, same-size}
+use Rattle.tables.proofs.Callers.{can-apply, edited, edited-sized, can-revert, reverted, reverted-sized}
+use Rattle.timeline.specs.Tape.{made, Tape}
 
 alike-by : (e : Edit) (s s′ : State) → s′ ≡ applyS e s → Alike s s′
 alike-by e s s′ q = subst (λ (x : State). Alike s x) (sym q) (same-size e s)
-
-small-by : (e : Edit) (s s′ : State) → s′ ≡ applyS e s → Small s → Small s′
-small-by e s s′ q m = subst Small (sym q) (small-edit e s m)
-
-holds-by : (e : Edit) (s s′ : State) (g : Graph) → s′ ≡ applyS e s → Holds s g → Small s → Applies e g → Room e s → Holds s′ (apply e g)
-holds-by e s s′ g q h m a r = subst (λ (x : State). Holds x (apply e g)) (sym q) (holds-edit s g h m e a r)
 
 -- ---- what the rows make is well formed and within the bounds
 
@@ -62,11 +39,10 @@ module _ (b : Bounds) (t : List ℕ) (g : Graph) (n : ℕ) (s : State) where
   pub tape-sound : (u v : ℕ) → Tape b t g n s u → v ≤ n → WellFormed (made t g v)
   tape-sound u v k h = made-sound b t g n (k .applies) (k .sound) v h
 
-  -- tables of the same lengths that hold what v rows make
-  moved : (s′ : State) (u v : ℕ) → Tape b t g n s u → Alike s s′ → Small s′ → v ≤ n → Holds s′ (made t g v) → Tape b t g n s′ v
-  moved s′ u v k a m i h = record {
-    small = m;
-    sized = sized-alike b s s′ a (k .sized);
+  -- other tables that hold what v rows make
+  moved : (s′ : State) (u v : ℕ) → Tape b t g n s u → Sized b s′ → v ≤ n → Holds s′ (made t g v) → Tape b t g n s′ v
+  moved s′ u v k z i h = record {
+    sized = z;
     sound = k .sound;
     bounded = k .bounded;
     applies = k .applies;
@@ -82,36 +58,29 @@ module _ (b : Bounds) (t : List ℕ) (g : Graph) (n : ℕ) (s : State) where
     last : u < n
     last = omega (arith, k .upto)
 
-    back-room-in : Room (inverse (rowAt t u)) s
-    back-room-in =
-        room-in b s (inverse (rowAt t u)) (made t g (suc u)) (k .sized) (inverse-in b (rowAt t u) (k .inside u last))
-        (inverse-applies (rowAt t u) (made t g u) (k .applies u last) (tape-sound (suc u) u k (omega (arith, last))))
+    sound : WellFormed (made t g u)
+    sound = tape-sound (suc u) u k (omega (arith, last))
 
     pub can-back : Can (inverse (rowAt t u)) s
-    can-back =
-        can-revert s (rowAt t u) (made t g u) (tape-sound (suc u) u k (omega (arith, last))) (k .applies u last) (k .small) (k .holds) back-room-in _ refl
+    can-back = can-revert b s (k .sized) (rowAt t u) (made t g u) sound (k .applies u last) (k .inside u last) (k .holds) _ refl
 
     pub tape-back : (s′ : State) → s′ ≡ applyS (inverse (rowAt t u)) s → Tape b t g n s′ u
     tape-back s′ q =
-        moved s′ (suc u) u k (alike-by (inverse (rowAt t u)) s s′ q) (small-by (inverse (rowAt t u)) s s′ q (k .small)) (omega (arith, last))
-        (reverted s (rowAt t u) (made t g u) (tape-sound (suc u) u k (omega (arith, last))) (k .applies u last) (k .small) (k .holds) back-room-in _ s′ refl q)
+        moved s′ (suc u) u k (reverted-sized b s (k .sized) (rowAt t u) (made t g u) sound (k .applies u last) (k .inside u last) (k .holds) _ s′ refl q)
+        (omega (arith, last)) (reverted b s (k .sized) (rowAt t u) (made t g u) sound (k .applies u last) (k .inside u last) (k .holds) _ s′ refl q)
 
   -- one row on
   module _ (u : ℕ) (k : Tape b t g n s u) (l : u < n) where
-    on-room-in : Room (rowAt t u) s
-    on-room-in = room-in b s (rowAt t u) (made t g u) (k .sized) (k .inside u l) (k .applies u l)
-
     pub can-on : Can (rowAt t u) s
-    can-on = can-edit s (made t g u) (k .holds) (k .small) (rowAt t u) (k .applies u l) on-room-in
+    can-on = can-apply b s (k .sized) (made t g u) (k .holds) (rowAt t u) (k .applies u l) (k .inside u l)
 
     pub tape-on : (s′ : State) → s′ ≡ applyS (rowAt t u) s → Tape b t g n s′ (suc u)
     tape-on s′ q =
-        moved s′ u (suc u) k (alike-by (rowAt t u) s s′ q) (small-by (rowAt t u) s s′ q (k .small)) (omega arith)
-        (holds-by (rowAt t u) s s′ (made t g u) q (k .holds) (k .small) (k .applies u l) on-room-in)
+        moved s′ u (suc u) k (edited-sized b s (k .sized) (made t g u) (k .holds) (rowAt t u) (k .applies u l) (k .inside u l) s′ q)
+        (omega arith) (edited b s (k .sized) (made t g u) (k .holds) (rowAt t u) (k .applies u l) (k .inside u l) s′ q)
 
   pub tape-cut : (u : ℕ) → Tape b t g n s u → Tape b t g u s u
   tape-cut u k = record {
-    small = k .small;
     sized = k .sized;
     sound = k .sound;
     bounded = k .bounded;
@@ -125,7 +94,7 @@ module _ (b : Bounds) (t : List ℕ) (g : Graph) (n : ℕ) (s : State) where
 
 -- an edit that applies to what the tables hold can be carried out there
 pub tape-can : (b : Bounds) (t : List ℕ) (g : Graph) (n : ℕ) (s : State) (u : ℕ) (e : Edit) → Tape b t g n s u → Applies e (made t g u) → EditIn b e → Can e s
-tape-can b t g n s u e k a i = can-edit s (made t g u) (k .holds) (k .small) e a (room-in b s e (made t g u) (k .sized) i a)
+tape-can b t g n s u e k a i = can-apply b s (k .sized) (made t g u) (k .holds) e a i
 
 pub made-agree : (u : ℕ) (t t′ : List ℕ) (g : Graph) → Below u t t′ → (i : ℕ) → i ≤ u → made t′ g i ≡ made t g i
 made-agree u t t′ g b zero h = refl
@@ -214,19 +183,12 @@ module _ (b : Bounds) (t t′ : List ℕ) (g : Graph) (s s′ : State) (u : ℕ)
         subst (λ (b : Edit). P b i) (sym (row-agree u i t t′ below l)) (f i l)
   ]
 
-  like : Alike s s′
-  like = alike-by e s s′ d
-
-  room-now : Room e s
-  room-now = room-in b s e (made t g u) (k .sized) i a
-
   applies′ : (i : ℕ) → i < suc u → Applies (rowAt t′ i) (made t′ g i)
   applies′ i h = subst (λ (x : Graph). Applies (rowAt t′ i) x) (sym (old i (omega arith))) (by-row (λ b j. Applies b (made t g j)) (k .applies) a i h)
 
   pub tape-more : Tape b t′ g (suc u) s′ (suc u)
   tape-more = record {
-    small = small-by e s s′ d (k .small);
-    sized = sized-alike b s s′ like (k .sized);
+    sized = edited-sized b s (k .sized) (made t g u) (k .holds) e a i s′ d;
     sound = k .sound;
     bounded = k .bounded;
     applies = applies′;
@@ -234,5 +196,5 @@ module _ (b : Bounds) (t t′ : List ℕ) (g : Graph) (s s′ : State) (u : ℕ)
     within = omega (arith, rowed-length u e c t t′ q room);
     short = rw (rowed-length u e c t t′ q room) (k .short);
     upto = omega arith;
-    holds = subst (λ (x : Graph). Holds s′ x) (sym made-more) (holds-by e s s′ (made t g u) d (k .holds) (k .small) a room-now);
+    holds = subst (λ (x : Graph). Holds s′ x) (sym made-more) (edited b s (k .sized) (made t g u) (k .holds) e a i s′ d);
   }

@@ -8,21 +8,15 @@ use Rattle.graph.specs.Edits.{Applies, EditIn, apply}
 use Rattle.journal.specs.Rows.{rowAt}
 use Rattle.tables.specs.Tables.{State}
 use Rattle.tables.specs.Holds.{Holds}
-use Rattle.tables.specs.Edits.{Small}
+use Rattle.tables.specs.Capacities.{Sized}
 
 -- what the first i rows make of g
 abbrev pub made : List ℕ → Graph → ℕ → Graph
 made t g zero = g
 made t g (suc i) = apply (rowAt t i) (made t g i)
 
--- there is a row in the tables for each number within the bounds
-pub record Sized (b : Bounds) (s : State) : Type 0 where
-  pub vertices : 8 * b .vertices ≤ length (s .vt)
-  pub edges : 12 * b .edges ≤ length (s .et)
-
 -- n rows that lead on from g, each within the bounds, of which the tables have u behind them
 pub record Tape (b : Bounds) (t : List ℕ) (g : Graph) (n : ℕ) (s : State) (u : ℕ) : Type 0 where
-  pub small : Small s
   pub sized : Sized b s
   pub sound : WellFormed g
   pub bounded : Within b g

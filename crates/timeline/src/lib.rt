@@ -11,10 +11,11 @@ ghost use Rattle.graph.specs.Edits.{Applies, EditIn, apply, inverse};
 ghost use Rattle.history.specs.Machine.{Timeline, begun, current, placed, extended, freeOf, distance};
 ghost use Rattle.journal.specs.Rows.{rowAt, rowed};
 ghost use Rattle.tables.specs.Tables.{State, st};
-ghost use Rattle.tables.specs.Edits.{applyS, Can, Small};
+ghost use Rattle.tables.specs.Edits.{applyS, Can};
+ghost use Rattle.tables.specs.Capacities.{Sized};
 ghost use Rattle.tables.specs.Holds.{Holds};
 ghost use Rattle.tables.specs.Read.{graphOf};
-ghost use Rattle.timeline.specs.Tape.{Sized, Tape};
+ghost use Rattle.timeline.specs.Tape.{Tape};
 ghost use Rattle.timeline.specs.Steps.{Journal, Open};
 
 // The place p, the number of steps m, and the rows of steps 1 to p.
@@ -259,7 +260,7 @@ pub fn free_changes(pos: Position, capacity: u32) -> u32
 
 // No step yet.
 pub fn begin() -> Position
-    ensures { λ r. ⌜ ((b : Bounds) → (s : State) → (t : List ℕ) → (g : Graph) → Small s → Sized b s → Within b g → Holds s g → length t < 2 ^ 32 → Journal b r s t (begun g)) ⌝ }
+    ensures { λ r. ⌜ ((b : Bounds) → (s : State) → (t : List ℕ) → (g : Graph) → Sized b s → Within b g → Holds s g → length t < 2 ^ 32 → Journal b r s t (begun g)) ⌝ }
 {
     Position {
         place: 0,

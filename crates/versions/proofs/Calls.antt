@@ -5,18 +5,23 @@ use mathlib.Core.Logic.{_≢_}
 use mathlib.Core.Bool.{Bool, true, false}
 use mathlib.Core.List.{List, [], _∷_}
 use native.Mathlib.Omega.{arith}
-use borrow.Author.Tests.{eq-eqb, ne-eqb}
+use borrow.Author.Tests.{eq-eqb, ne-eqb, lt-ltb, le-ltb, ltb-false}
+use lib.Dec.{ltb}
 use lib.ListN.{length, getD}
 use Rattle.lists.specs.Choice.{_⇒_else_, _==_}
 use Rattle.lists.proofs.Picks.{Same, same, differ, same?}
 use Rattle.graph.specs.Graph.{Graph}
 use Rattle.graph.specs.WellFormed.{Bounds}
-use Rattle.history.specs.Machine.{Standing, gone, at, Timeline, Machine, begun, current, placed, freeOf, distance, noMarks, stands, placeOr, marked, standing, fresh, moves, sets, drops, commits}
-use Rattle.history.specs.Rules.{Obeys, markCode, outside, setting, dropping, undoing, redoing, going, committing, measuring, counting, freeing}
+use Rattle.graph.specs.declared.Change.{Change}
+use Rattle.graph.specs.Changes.{cost}
+use Rattle.history.specs.Machine.{Standing, gone, at, Timeline, Machine, begun, current, placed, extended, freeOf, distance, noMarks, stands, placeOr, marked, cut, cutMarks, standing, fresh, present, moves}
+use Rattle.history.proofs.Timelines.{length-cut}
+use Rattle.history.specs.Rules.{Obeys, stepOf, markCode, outside, changing, setting, dropping, undoing, redoing, going, committing, measuring, counting, freeing}
 use Rattle.marks.specs.Marked.{inSet, Marked}
 use Rattle.marks.proofs.MarkLaws.{marked-same, marked-other, in-set, place-is}
 use Rattle.tables.specs.Tables.{st}
 use Rattle.timeline.specs.Steps.{Journal}
+use Rattle.timeline.proofs.Steps.{journal-free}
 use Rattle.versions.specs.declared.Version.{Version}
 use Rattle.versions.specs.Represents.{capacityOf, Represents, Follows, namedCode, freshCode, bothCode}
 use Rattle.versions.proofs.Codes.{Named, named-none, fresh-none, named-is, fresh-is, both-is, both-none}
@@ -48,7 +53,57 @@ drop-inside ms a n f k q e = elim (same? k a) [
   | differ u v ↦ f k q (sym (marked-other a k gone ms u) ∙ e)
 ]
 
+-- ---- a change cuts the marks above its place
+
+-- what is left has a place up to p
+left-low : (p q : ℕ) (s : Standing) → cut p s ≡ at q → q ≤ p
+left-low p q gone e = let z : _≡_ {A = ℕ} 0 1 = cc in absurd (omega arith)
+left-low p q (at r) e = go (ltb p r) refl e
+  where
+    go : (t : Bool) → ltb p r ≡ t → (t ⇒ gone else at r) ≡ at q → q ≤ p
+    go true l f = let z : _≡_ {A = ℕ} 0 1 = cc in absurd (omega arith)
+    go false l f = let z : r ≡ q = cc in omega (arith, ltb-false p r l)
+
+-- where no mark is above p, none is cut
+cut-none : (p : ℕ) (ms : ℕ → Standing) → ((k q : ℕ) → ms k ≡ at q → q ≤ p) → cutMarks p ms ≡ ms
+cut-none p ms f i k = go (ms k) refl i
+  where
+    go : (s : Standing) → ms k ≡ s → cut p (ms k) ≡ ms k
+    go gone e = ap (cut p) e ∙ sym e
+    go (at q) e = ap (cut p) e ∙ ap (λ (t : Bool). t ⇒ gone else at q) (le-ltb p q (f k q e)) ∙ sym e
+
+pub cut-nothing : (p n set : ℕ) (places : List ℕ) (ms : ℕ → Standing) → p ≡ n → Marked ms set places → ((k q : ℕ) → ms k ≡ at q → q ≤ n) → Marked (cutMarks p ms) set places
+cut-nothing p n set places ms e h f =
+    subst (λ (g : ℕ → Standing). Marked g set places) (sym (cut-none p ms (λ k q i. omega (arith, f k q i, e)))) h
+
 module _ (b : Bounds) (x : Version) (vt et t places : List ℕ) (m : Machine) (h : Represents b x vt et t places m) where
+  -- ---- 1 to 16
+
+  module _ (c : Change) (n free : ℕ) (e : n ≡ cost c (present m)) (capacity : ℕ) (q : capacity ≡ capacityOf t) (f : free ≡ freeOf capacity (m .line)) where
+    free-is : freeOf (capacityOf t) (m .line) ≡ free
+    free-is = ap (λ (k : ℕ). freeOf k (m .line)) (sym q) ∙ sym f
+
+    pub change-refused : free < n → Follows (changing (capacityOf t) c) m b x 10 0 vt et t places
+    change-refused l = refused (changing (capacityOf t) c) m b x vt et t places 10
+        (sym (ap (λ (t : Bool). t ⇒ 10 else 0) (lt-ltb (freeOf (capacityOf t) (m .line)) (cost c (present m)) (omega (arith, free-is, e, l))))) (λ z. omega arith) h
+
+    -- there are rows for it
+    pub change-room : n ≤ free → 12 * (x .position .used + n) ≤ length t
+    change-room l =
+        omega (arith, f, l, q, h .journal .tape .within, h .journal .tape .upto, journal-free b (x .position) (st (x .head) vt et) t (m .line) capacity (h .journal))
+
+    pub change-done : n ≤ free → (x′ : Version) (vt′ et′ t′ : List ℕ) → Journal b (x′ .position) (st (x′ .head) vt′ et′) t′ (extended (stepOf c (present m)) (m .line))
+        → Marked (cutMarks (x .position .place) (m .marks)) (x′ .set) places → Follows (changing (capacityOf t) c) m b x′ 0 n vt′ et′ t′ places
+    change-done l x′ vt′ et′ t′ j k = accepted (changing (capacityOf t) c) m b x′ vt′ et′ t′ places n
+        (ap (λ (t : Bool). t ⇒ 10 else 0) (le-ltb (freeOf (capacityOf t) (m .line)) (cost c (present m)) (omega (arith, free-is, e, l)))) e (record {
+          journal = j;
+          marks = subst (λ (p : ℕ). Marked (cutMarks p (m .marks)) (x′ .set) places) (h .journal .place) k;
+          inside = λ i p y. omega (arith, left-low (m .line .place) p (m .marks i) y, length-cut (m .line .place) (m .line .steps) (stepOf c (present m)) (h .journal .inside));
+        })
+
+  pub mark-steps : (k q : ℕ) → m .marks k ≡ at q → q ≤ x .position .steps
+  mark-steps k q y = omega (arith, h .inside k q y, h .journal .steps)
+
   -- ---- 19 and 20
 
   pub undo-refused : (n : ℕ) → n ≡ x .position .place → n ≡ 0 → Follows undoing m b x 14 0 vt et t places

@@ -1,3 +1,4 @@
 pub mod Codes
 pub mod Following
 pub mod Calls
+pub mod Present

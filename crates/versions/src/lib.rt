@@ -1,18 +1,20 @@
 // The graph with its history: each history call on the tables, the journal and the marks.
+use graph::Change;
 use tables::Head;
 use timeline::Position;
 ghost use mathlib.Core.Path.{_≡_};
 ghost use mathlib.Core.List.{List};
-ghost use Prim.Native.Nat.{ℕ, _^_, _<_};
+ghost use Prim.Native.Nat.{ℕ, _^_, _≤_, _<_};
 ghost use lib.ListN.{length};
 ghost use Rattle.graph.specs.Graph.{Graph};
 ghost use Rattle.graph.specs.WellFormed.{Bounds, Within};
-ghost use Rattle.history.specs.Machine.{Machine, fresh};
-ghost use Rattle.history.specs.Rules.{Obeys, setting, dropping, undoing, redoing, going, committing, measuring, counting, freeing};
+ghost use Rattle.graph.specs.Changes.{Allowed};
+ghost use Rattle.history.specs.Machine.{Standing, at, Machine, cutMarks, present, fresh};
+ghost use Rattle.history.specs.Rules.{Obeys, changing, setting, dropping, undoing, redoing, going, committing, measuring, counting, freeing};
+ghost use Rattle.marks.specs.Marked.{Marked};
 ghost use Rattle.tables.specs.Tables.{st};
-ghost use Rattle.tables.specs.Edits.{Small};
 ghost use Rattle.tables.specs.Holds.{Holds};
-ghost use Rattle.timeline.specs.Tape.{Sized};
+ghost use Rattle.tables.specs.Capacities.{Sized};
 ghost use Rattle.versions.specs.Represents.{capacityOf, Represents, Follows, namedCode, freshCode, bothCode};
 
 // The ends and counts of the graph, the position in the journal, the set of standing marks.
@@ -36,7 +38,7 @@ pub struct Answer {
 
 // No step yet, and no mark.
 pub fn start(head: Head) -> Version
-    ensures { λ r. ⌜ ((b : Bounds) → (vt et t places : List ℕ) → (g : Graph) → Small (st head vt et) → Sized b (st head vt et) → Within b g → Holds (st head vt et) g → length t < 2 ^ 32 → length places ≡ 64 → Represents b r vt et t places (fresh g)) ⌝ }
+    ensures { λ r. ⌜ ((b : Bounds) → (vt et t places : List ℕ) → (g : Graph) → Sized b (st head vt et) → Within b g → Holds (st head vt et) g → length t < 2 ^ 32 → length places ≡ 64 → Represents b r vt et t places (fresh g)) ⌝ }
 {
     let position = timeline::begin();
     let set = marks::no_marks();
@@ -44,6 +46,55 @@ pub fn start(head: Head) -> Version
         head,
         position,
         set,
+    }
+}
+
+// A change at the present place: the marks above it go. Where no step is cut, none is above it.
+fn cut(set: u64, position: Position, places: &[u32; 64]) -> u64
+    ensures { λ r. ⌜ ((ms : ℕ → Standing) → Marked ms set (now (places .entry)) → ((k q : ℕ) → ms k ≡ at q → q ≤ position .steps) → Marked (cutMarks (position .place) ms) r (now (places .entry))) ⌝ }
+{
+    if position.place == position.steps {
+        return set;
+    }
+    marks::cut_marks(set, places, position.place)
+}
+
+// 1 to 16: a change whose codes 2 to 9 do not apply.
+pub fn change(
+    x: Version,
+    vt: &mut [u32],
+    et: &mut [u32],
+    t: &mut [u32],
+    places: &[u32; 64],
+    change: Change,
+) -> Done
+    requires { ⌜ ((b : Bounds) × (m : Machine) × Allowed b (present m) change × Represents b x (now vt) (now et) (now t) (now places) m) ⌝ }
+    ensures { λ r. ⌜ ((b : Bounds) → (m : Machine) → Allowed b (present m) change → Represents b x (now (vt .entry)) (now (et .entry)) (now (t .entry)) (now (places .entry)) m → Follows (changing (capacityOf (now (t .entry))) change) m b (r .version) (r .code) (r .number) (now (vt .exit)) (now (et .exit)) (now (t .exit)) (now (places .entry))) ⌝ }
+{
+    let head = x.head;
+    let position = x.position;
+    let cost = changes::cost_of(head, vt, et, change);
+    let capacity = (t.len() / 12) as u32;
+    let free = timeline::free_changes(position, capacity);
+    if free < cost {
+        return Done {
+            version: x,
+            code: 10,
+            number: 0,
+        };
+    }
+    let r = changes::make_step(position, head, vt, et, t, change, cost);
+    let h = r.head;
+    let p = r.position;
+    let set = cut(x.set, position, places);
+    Done {
+        version: Version {
+            head: h,
+            position: p,
+            set,
+        },
+        code: 0,
+        number: cost,
     }
 }
 

@@ -11,8 +11,8 @@ no-marks-requires c κs = search needs
 
 returns : tie.Need-returns
 returns c =
-    λ b vt et t places g m z w h l r.
-    version-start b _ vt et t places g (c .before .begin .ensures b _ t g m z w h l) (c .no-marks .ensures places r)
+    λ b vt et t places g z w h l r.
+    version-start b _ vt et t places g (c .before .begin .ensures b _ t g z w h l) (c .no-marks .ensures places r)
 
 pub start-spec : {M : Type 1} → statement M
 start-spec = tie.close (tie.spec begin-requires no-marks-requires returns)

@@ -1,0 +1,97 @@
+use mathlib.Core.Path.{refl, ap, _∙_}
+use native.Mathlib.Omega.{arith}
+use Rattle.graph.specs.declared.Change.the-variants.{DeleteVertex}
+use Rattle.graph.specs.Changes.{cost}
+use Rattle.tables.specs.Tables.{st}
+use Rattle.timeline.proofs.Steps.{place-short, same-current}
+use Rattle.changes.proofs.Deletion.{vertex-here, row-room, row-short, vertex-can, deleted}
+use borrow.Author.Needs.{needs}
+use Rattle.changes.proofs.delete_vertex.Statement.{statement}
+use Rattle.changes.proofs.delete_vertex.Tie as tie
+
+remove-edges-requires : tie.Need-remove-edges-requires
+remove-edges-requires c κs = search needs
+
+plan-remove-vertex-requires : tie.Need-plan-remove-vertex-requires
+plan-remove-vertex-requires c κs =
+    let s = c .before .before .before .before .before .before .before .before .before .before .before .before .before .before .before in
+    let a = s .args in
+    let p = s .pre in
+    let s₀ = st (a .head) (a .vt .now) (a .et .now) in
+    let r = c .before .before .before .before .before .before .before .before .remove-edges in
+    let s₁ = st (r .result .head) (r .last .1 .1 .0) (r .last .1 .1 .1 .0) in
+    let t₁ = r .last .1 .1 .1 .1 .0 in
+    let k = r .ensures (p .0) (p .1) (p .5) in
+    vertex-here (a .a) (p .0) (a .pos) s₀ (a .t .now) (p .1) (a .rows) s₁ t₁ (r .result .used) 0 k
+
+add-row-requires : tie.Need-add-row-requires
+add-row-requires c κs =
+    let s = c .before .before .before .before .before .before .before .before .before .before .before .before .before .before .before .before .before .before .before in
+    let a = s .args in
+    let p = s .pre in
+    let s₀ = st (a .head) (a .vt .now) (a .et .now) in
+    let r = c .before .before .before .before .before .before .before .before .before .before .before .before .remove-edges in
+    let s₁ = st (r .result .head) (r .last .1 .1 .0) (r .last .1 .1 .1 .0) in
+    let t₁ = r .last .1 .1 .1 .1 .0 in
+    let k = r .ensures (p .0) (p .1) (p .5) in
+    let e = c .before .before .before .plan-remove-vertex in
+    (row-room (a .a) (p .0) (a .pos) s₀ (a .t .now) (p .1) (a .rows) s₁ t₁ (r .result .used) 0 k (p .3) (p .4), vertex-can (a .a) (p .0) (a .pos) s₀ (a .t .now) (p .1) (a .rows) s₁ t₁ (r .result .used) k (e .result) (e .ensures))
+
+add-place : tie.Need-add-place
+add-place c =
+    let s = c .before .before .before .before .before .before .before .before .before .before .before .before .before .before .before .before .before .before .before .before .before .before .before .before .before .before .before in
+    let a = s .args in
+    let p = s .pre in
+    let s₀ = st (a .head) (a .vt .now) (a .et .now) in
+    omega (arith, place-short (p .0) (a .pos) s₀ (a .t .now) (p .1) (p .5), p .5 .tape .short)
+
+add-t28 : tie.Need-add-t28
+add-t28 c =
+    let s = c .before .before .before .before .before .before .before .before .before .before .before .before .before .before .before .before .before .before .before .before .before .before .before .before .before .before .before in
+    let a = s .args in
+    let p = s .pre in
+    let s₀ = st (a .head) (a .vt .now) (a .et .now) in
+    let r = c .before .before .before .before .before .before .before .before .before .before .before .before .before .before .before .before .before .before .before .before .remove-edges in
+    let s₁ = st (r .result .head) (r .last .1 .1 .0) (r .last .1 .1 .1 .0) in
+    let t₁ = r .last .1 .1 .1 .1 .0 in
+    let k = r .ensures (p .0) (p .1) (p .5) in
+    omega (arith, row-short (a .a) (p .0) (a .pos) s₀ (a .t .now) (p .1) (a .rows) s₁ t₁ (r .result .used) 0 k (p .3) (p .4))
+
+same-length : tie.Need-same-length
+same-length c = search needs
+
+same-length-2 : tie.Need-same-length-2
+same-length-2 c = search needs
+
+same-length-3 : tie.Need-same-length-3
+same-length-3 c = search needs
+
+returns : tie.Need-returns
+returns c =
+    let s = c .before .before .before .before .before .before .before .before .before .before .before .before .before .before .before .before .before .before .before .before .before .before .before .before .before .before .before in
+    let a = s .args in
+    let p = s .pre in
+    let s₀ = st (a .head) (a .vt .now) (a .et .now) in
+    let r = c .before .before .before .before .before .before .before .before .before .before .before .before .before .before .before .before .before .before .before .before .remove-edges in
+    let s₁ = st (r .result .head) (r .last .1 .1 .0) (r .last .1 .1 .1 .0) in
+    let t₁ = r .last .1 .1 .1 .1 .0 in
+    let k = r .ensures (p .0) (p .1) (p .5) in
+    let e = c .before .before .before .before .before .before .before .before .before .before .before .plan-remove-vertex in
+    let m = c .before .before .before .before .before .before .before .add-row in
+    λ b l j.
+    deleted (a .a) b (a .pos) s₀ (a .t .now) l (a .rows) s₁ t₁ (r .result .used) (r .ensures b l j) (e .result) (e .ensures)
+    (p .3 ∙ ap (cost (DeleteVertex (a .a))) (same-current (p .0) b (a .pos) s₀ (a .t .now) (p .1) l (p .5) j)) (row-room (a .a) (p .0) (a .pos) s₀ (a .t .now) (p .1) (a .rows) s₁ t₁ (r .result .used) 0 k (p .3) (p .4)) _ _ _ (m .ensures .0) (m .ensures .1) refl refl refl
+
+pub delete-vertex-spec : {M : Type 1} → statement M
+delete-vertex-spec =
+    tie.close
+    (tie.spec
+    remove-edges-requires
+    plan-remove-vertex-requires
+    add-row-requires
+    add-place
+    add-t28
+    same-length
+    same-length-2
+    same-length-3
+    returns)

@@ -1,0 +1,18 @@
+use Rattle.versions.proofs.Calls.{cut-nothing}
+use borrow.Author.Needs.{needs}
+use Rattle.versions.proofs.cut.Statement.{statement}
+use Rattle.versions.proofs.cut.Tie as tie
+
+returns : tie.Need-returns
+returns c =
+    let a = c .before .before .args in
+    λ ms h f. cut-nothing (a .position .place) (a .position .steps) (a .set) (a .places .now) ms (c .if1 .taken) h f
+
+cut-marks-requires : tie.Need-cut-marks-requires
+cut-marks-requires c κs = search needs
+
+returns-2 : tie.Need-returns-2
+returns-2 c = λ ms h f. c .cut-marks .ensures ms h
+
+pub cut-spec : {M : Type 1} → statement M
+cut-spec = tie.close (tie.spec returns cut-marks-requires returns-2)
