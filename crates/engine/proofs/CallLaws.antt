@@ -49,9 +49,9 @@ call-at n (k ∷ a ∷ b ∷ c ∷ []) z h = absurd (omega arith)
 
 -- ---- the words of the answers
 
-words-append : (as bs : List Answer) → answerWords (as ++ bs) ≡ answerWords as ++ answerWords bs
-words-append [] bs = refl
-words-append (a ∷ as) bs = ap (λ (l : List ℕ). a .code ∷ a .number ∷ l) (words-append as bs)
+words-append : (xs ys : List Answer) → answerWords (xs ++ ys) ≡ answerWords xs ++ answerWords ys
+words-append [] ys = refl
+words-append (x ∷ xs) ys = ap (λ (l : List ℕ). x .code ∷ x .number ∷ l) (words-append xs ys)
 
 words-length : (w : World) (m : Machine) (xs : List Call) → length (answerWords (answers w m xs)) ≡ 2 * length xs
 unfolding answers

@@ -24,7 +24,7 @@ use Rattle.image.specs.Image.{incidencesOf, load}
 use Rattle.tables.specs.Tables.{State, ilane, vends, endsAt, vlast, wthis, WIn, attachS, CanAttach}
 use Rattle.tables.specs.Holds.{Core}
 use Rattle.tables.proofs.Frames.{fair-i, row-v}
-use Rattle.tables.proofs.Answers.{last-is}
+use Rattle.queries.proofs.Answers.{last-is}
 use Rattle.tables.proofs.Refines.{word-in}
 use Rattle.tables.proofs.WordLaws.{can-attach, core-attach}
 use Rattle.store.specs.Filling.{filled, wordS, CanWord, CanLoad}

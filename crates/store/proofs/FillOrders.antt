@@ -25,7 +25,7 @@ use Rattle.tables.specs.Holds.{Core}
 use Rattle.tables.specs.Capacities.{Sized}
 use Rattle.tables.proofs.Keys.{keys-count, keys-last}
 use Rattle.tables.proofs.Frames.{fair-v, fair-e}
-use Rattle.tables.proofs.Answers.{last-is}
+use Rattle.queries.proofs.Answers.{last-is}
 use Rattle.tables.proofs.Callers.{vertex-in, edge-in}
 use Rattle.tables.proofs.VertexLaws.{can-put-vertex, core-insert-vertex}
 use Rattle.tables.proofs.EdgeLaws.{can-put-edge, core-place-edge}
