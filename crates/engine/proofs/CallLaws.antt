@@ -24,11 +24,8 @@ use Rattle.engine.specs.Calls.{Went}
 -- ---- the words of the calls
 
 pub calls-length : (n : ℕ) (ws : List ℕ) → 5 * n ≤ length ws → length ws < 5 * n + 5 → length (callsOf ws) ≡ n
-calls-length n (k ∷ a ∷ b ∷ c ∷ d ∷ ws) h i = go n h i
-  where
-    go : (n : ℕ) → 5 * n ≤ suc (suc (suc (suc (suc (length ws))))) → suc (suc (suc (suc (suc (length ws))))) < 5 * n + 5 → suc (length (callsOf ws)) ≡ n
-    go zero h i = absurd (omega arith)
-    go (suc n) h i = ap suc (calls-length n ws (omega arith) (omega arith))
+calls-length zero (k ∷ a ∷ b ∷ c ∷ d ∷ ws) h i = absurd (omega arith)
+calls-length (suc n) (k ∷ a ∷ b ∷ c ∷ d ∷ ws) h i = ap suc (calls-length n ws (omega arith) (omega arith))
 calls-length n [] h i = omega arith
 calls-length n (k ∷ []) h i = omega arith
 calls-length n (k ∷ a ∷ []) h i = omega arith
