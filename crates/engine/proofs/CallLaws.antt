@@ -67,7 +67,7 @@ over-more : (A slice : List ℕ) (n x y : ℕ) → length A ≡ 2 * n → 2 * n 
 over-more A slice n x y e h =
     let D = drop (length A) slice in
     let t : set (set (A ++ D) (length A) x) (suc (length A)) y ≡ (A ++ (x ∷ y ∷ [])) ++ drop 2 D =
-        two-more A D x y (rw length-drop (omega arith)) in
+    two-more A D x y (rw length-drop (omega arith)) in
     let one : suc (length A) ≡ 2 * n + 1 = omega arith in
     let long : length (A ++ (x ∷ y ∷ [])) ≡ length A + 2 = length-append A (x ∷ y ∷ []) in
     (λ i. set (set (A ++ D) (sym e i) x) (sym one i) y)
@@ -103,7 +103,7 @@ module _ (w : World) (m : Machine) (x : Version) (vt et t places closed : List �
       let g = f w now (h .stands) in
       let a : answerTo w now c ≡ answer w now call = ap (answerTo w now) e ∙ sym (answer-means w now call) in
       let s : stepTo w now c ≡ last w m (xs ++ (call ∷ [])) =
-          ap (stepTo w now) e ∙ sym (step-means w now call) ∙ sym (last-more w m xs call) in
+      ap (stepTo w now) e ∙ sym (step-means w now call) ∙ sym (last-more w m xs call) in
       let code : d .code ≡ answer w now call .code = g .coded ∙ ap (λ (r : Answer). r .code) a in
       let number : d .number ≡ answer w now call .number = g .numbered ∙ ap (λ (r : Answer). r .number) a in
       let A = answerWords (answers w m xs) in
@@ -134,11 +134,11 @@ module _ (w : World) (m : Machine) (x : Version) (vt et t places closed : List �
       let size : length (take k cs) ≡ k = length-take-le k cs (omega arith) in
       let five : 5 * k + 5 - 5 * k ≡ 5 = omega arith in
       let call : c ≡ commandOf (getD cs k z) =
-          e ∙ ap (λ (j : ℕ). commandOf (callAt (take j (drop (5 * k) calls)))) five ∙ ap commandOf (sym (call-at k calls z fits)) in
+      e ∙ ap (λ (j : ℕ). commandOf (callAt (take j (drop (5 * k) calls)))) five ∙ ap commandOf (sym (call-at k calls z fits)) in
       let all : take (k + 1) cs ≡ take k cs ++ (getD cs k z ∷ []) = ap (λ (j : ℕ). take j cs) (add-one k) ∙ take-suc cs k z inside in
       let r = went-one (take k cs) (getD cs k z) c d vt′ et′ t′ places′ h call f (rw size long) in
       let r′ = subst (λ (j : ℕ). Went w m (take k cs ++ (getD cs k z ∷ [])) (d .version) vt′ et′ t′ places′ closed types slice
-          (set (set slice′ (2 * j) (d .code)) (2 * j + 1) (d .number))) size r in
+      (set (set slice′ (2 * j) (d .code)) (2 * j + 1) (d .number))) size r in
       subst (λ (xs : List Call). Went w m xs (d .version) vt′ et′ t′ places′ closed types slice
       (set (set slice′ (2 * k) (d .code)) (2 * k + 1) (d .number))) (sym all) r′
 

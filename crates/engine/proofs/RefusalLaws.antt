@@ -61,10 +61,10 @@ module _ (l : Lent) where
 
   others : lengthsOf ≡ 0 →
       listRefusal l ≡ (
-        not (goodRows (l .rows)) ⇒ 104 else
-        not (loadable (boundsIn (worldOf l)) (l .start)) ⇒ 105 else
-        ltb (length (l .end)) (imageRoom (worldOf l)) ⇒ 106 else
-        0
+      not (goodRows (l .rows)) ⇒ 104 else
+      not (loadable (boundsIn (worldOf l)) (l .start)) ⇒ 105 else
+      ltb (length (l .end)) (imageRoom (worldOf l)) ⇒ 106 else
+      0
       )
   unfolding listRefusal lengthsOf x y z
   others e = gone-on x y z _ e .1

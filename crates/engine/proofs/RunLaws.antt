@@ -13,13 +13,11 @@ use Rattle.history.specs.Machine.{Machine, fresh, present}
 use Rattle.image.specs.Image.{save, load}
 use Rattle.tables.specs.declared.Head.{Head}
 use Rattle.tables.specs.Tables.{st}
-use Rattle.tables.specs.Edits.{Small}
 use Rattle.tables.specs.Holds.{Holds}
-use Rattle.tables.specs.Capacities as capacities
-use Rattle.timeline.specs.Tape.{Sized}
-use Rattle.timeline.proofs.Steps.{holds-current, within-current}
+use Rattle.tables.specs.Capacities.{Sized}
 use Rattle.versions.specs.declared.Version.{Version}
 use Rattle.versions.specs.Represents.{Represents}
+use Rattle.versions.proofs.Present as versions
 use Rattle.store.specs.Words.{CanSave}
 use Rattle.store.specs.Filling.{CanLoad}
 use Rattle.store.proofs.Laws.{within-loaded, can-save, Saved}
@@ -28,6 +26,7 @@ use Rattle.machine.specs.Machine.{last}
 use Rattle.machine.specs.Run.{Lent, Ran, worldOf, listRefusal, accepted, refused, run}
 use Rattle.machine.proofs.ListRows.{Passed, passed}
 use Rattle.engine.specs.declared.run.Outcome.{Outcome}
+use Rattle.engine.specs.Refusals.{Lends}
 use Rattle.engine.specs.Running.{Running}
 use Rattle.engine.specs.Calls.{Went}
 use Rattle.engine.specs.Outcomes.{lent, ran}
@@ -35,7 +34,7 @@ use Rattle.engine.proofs.CallLaws.{calls-length}
 
 -- what `versions::start` ensures of the version x
 abbrev Starts : Head → Version → Type 0
-Starts head x = (b : Bounds) → (vt et t places : List ℕ) → (g : Graph) → Small (st head vt et) → Sized b (st head vt et) → Within b g →
+Starts head x = (b : Bounds) → (vt et t places : List ℕ) → (g : Graph) → Sized b (st head vt et) → Within b g →
     Holds (st head vt et) g → length t < 2 ^ 32 → length places ≡ 64 → Represents b x vt et t places (fresh g)
 
 module _ (start rows calls vertices edges journal answers image : List ℕ) (e : listRefusal (lent start rows calls vertices edges journal answers image) ≡ 0) where
@@ -60,8 +59,6 @@ module _ (start rows calls vertices edges journal answers image : List ℕ) (e :
         Holds (st head vt et) (load start) → Starts head x → Running w x vt et journal places closed types (fresh (load start))
     running head x vt et places v n p h s =
         let k = past .limits in
-        let few-v = k .few-vertices in
-        let few-n = k .few-edges in
         let few-c = k .few-changes in
         record {
           setting = record {
@@ -75,22 +72,20 @@ module _ (start rows calls vertices edges journal answers image : List ℕ) (e :
           };
           represents =
               s (boundsIn w) vt et journal places (load start)
-              (record { vt = omega arith; et = omega arith })
-              (record { vertices = omega arith; edges = omega arith })
+              (record { vertices = ap (λ (j : ℕ). j / 8) (sym v); edges = ap (λ (j : ℕ). j / 12) (sym n); fewVertices = k .few-vertices; fewEdges = k .few-edges })
               (within-loaded (boundsIn w) start (past .start-loads))
               h (omega arith) p;
         }
 
     module _ (m : Machine) (y : Version) (vt et t places : List ℕ) (r : Running w y vt et t places closed types m) where
       pub holds-present : Holds (st (y .head) vt et) (present m)
-      holds-present = holds-current (boundsIn w) (y .position) (st (y .head) vt et) t (m .line) (r .represents .journal)
+      holds-present = versions.holds-present (boundsIn w) y vt et t places m (r .represents)
 
       pub can-save-present : CanSave (st (y .head) vt et) (length image)
       can-save-present =
-          let s = r .setting in
           can-save (boundsIn w) (st (y .head) vt et) (present m) (length image) holds-present
-          (within-current (boundsIn w) (y .position) (st (y .head) vt et) t (m .line) (r .represents .journal))
-          (record { vertices = s .vertices; edges = s .edges; fewVertices = s .limits .few-vertices; fewEdges = s .limits .few-edges })
+          (versions.within-present (boundsIn w) y vt et t places m (r .represents))
+          (versions.sized-present (boundsIn w) y vt et t places m (r .represents))
           (omega (arith, past .end-room))
 
     pub ends : (y : Version) (vt et t places answers′ image′ : List ℕ) (n : ℕ) →
@@ -104,6 +99,19 @@ module _ (start rows calls vertices edges journal answers image : List ℕ) (e :
         λ i. record { code = 0; done = k i; words = q .1 i; answers = g .answered i; end = q .0 i }
 
 -- ---- the run
+
+pub lends : (start rows calls vertices edges journal answers image : List ℕ) →
+    Lends (lent start rows calls vertices edges journal answers image) start rows (length calls) (length vertices) (length edges) (length journal) (length answers) (length image)
+lends start rows calls vertices edges journal answers image = record {
+  start-is = refl;
+  rows-are = refl;
+  calls-are = refl;
+  vertices-are = refl;
+  edges-are = refl;
+  journal-is = refl;
+  answers-are = refl;
+  image-is = refl;
+}
 
 pub run-accepted : (l : Lent) (r : Ran) → listRefusal l ≡ 0 → r ≡ accepted l → r ≡ run l
 unfolding run

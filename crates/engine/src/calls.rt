@@ -1,7 +1,7 @@
 // Every call of a list, one after another.
+use crate::step::step;
 use commands::decode;
 use versions::Version;
-use crate::step::step;
 ghost use Prim.Native.Nat.{ℕ, _*_, _/_, _≤_};
 ghost use lib.ListN.{length};
 ghost use Rattle.history.specs.Machine.{Machine};

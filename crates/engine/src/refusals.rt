@@ -1,6 +1,8 @@
 // The refusals of a list: codes 101 to 106, the lowest that applies; 0 where none does. Nothing is written.
-use image::{Verdict, check};
-use types::{RowsVerdict, check_rows};
+use image::Verdict;
+use image::check;
+use types::RowsVerdict;
+use types::check_rows;
 ghost use mathlib.Core.Bool.{_&&_};
 ghost use mathlib.Core.Path.{_≡_};
 ghost use Prim.Native.Nat.{ℕ, _/_};

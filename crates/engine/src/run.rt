@@ -1,12 +1,13 @@
 // A run: what is lent, the calls, the result.
-use store::{load, save};
-use types::closure;
-use versions::start as begin;
 use crate::calls::each;
 use crate::refusals::refusal;
+use store::load;
+use store::save;
+use types::closure;
+use versions::start as begin;
 ghost use mathlib.Core.Path.{_≡_};
 ghost use lib.ListN.{length};
-ghost use Rattle.machine.specs.Run.{listRefusal, accepted, run as runOf};
+ghost use Rattle.machine.specs.Run.{listRefusal, accepted as acceptedOf, run as runOf};
 ghost use Rattle.engine.specs.Outcomes.{lent, ran};
 
 // The code of the list, the calls done, the words of the end image.
@@ -17,7 +18,7 @@ pub struct Outcome {
 }
 
 // A list that none of 101 to 106 refuses. What the tables and the journal hold afterwards is left open.
-fn go(
+fn accepted(
     start: &[u32],
     rows: &[u64],
     calls: &[u32],
@@ -29,14 +30,24 @@ fn go(
 ) -> Outcome
     requires { ⌜ listRefusal (lent (now start) (now rows) (now calls) (now vertices) (now edges) (now journal) (now answers) (now image)) ≡ 0 ⌝ }
     ensures { λ r. ⌜ ran r (now (answers .exit)) (now (image .exit))
-        ≡ accepted (lent (now (start .entry)) (now (rows .entry)) (now (calls .entry)) (now (vertices .entry)) (now (edges .entry)) (now (journal .entry)) (now (answers .entry)) (now (image .entry))) ⌝ }
+        ≡ acceptedOf (lent (now (start .entry)) (now (rows .entry)) (now (calls .entry)) (now (vertices .entry)) (now (edges .entry)) (now (journal .entry)) (now (answers .entry)) (now (image .entry))) ⌝ }
 {
     let closed = closure(rows);
     let types = rows.len() as u32;
     let head = load(start, vertices, edges);
     let x = begin(head);
     let mut places = [0u32; 64];
-    let y = each(x, vertices, edges, journal, &mut places, &closed, types, calls, answers);
+    let y = each(
+        x,
+        vertices,
+        edges,
+        journal,
+        &mut places,
+        &closed,
+        types,
+        calls,
+        answers,
+    );
     let last = y.head;
     let words = save(last, vertices, edges, image);
     Outcome {
@@ -80,5 +91,5 @@ pub fn run(
             words: 0,
         };
     }
-    go(start, rows, calls, vertices, edges, journal, answers, image)
+    accepted(start, rows, calls, vertices, edges, journal, answers, image)
 }

@@ -1,6 +1,7 @@
 // One call on the tables, the journal and the marks.
 use commands::Command;
-use versions::{Done, Version};
+use versions::Done;
+use versions::Version;
 ghost use Rattle.history.specs.Machine.{Machine};
 ghost use Rattle.machine.specs.Calls.{World};
 ghost use Rattle.engine.specs.Running.{Running, Answered};

@@ -49,7 +49,7 @@ decode-requires : tie.Need-decode-requires Inv-loop μ-loop
 decode-requires c κs = simp (length-take, length-drop) (omega arith)
 
 step-requires : tie.Need-step-requires Inv-loop μ-loop
-step-requires c κs = 
+step-requires c κs =
     let p = c .before .before .before .before .before .before .before .before .before .before .before .before .before .pre .0 in
     let g = c .before .before .before .before .before .before .before .loop .inv .5 (p .0) (p .1) (p .2) in
     (p .0, _, g .stands)
@@ -82,19 +82,18 @@ loop-less : tie.Need-loop-less Inv-loop μ-loop
 loop-less c = search needs
 
 loop-again : tie.Need-loop-again Inv-loop μ-loop
-loop-again c = 
+loop-again c =
     let s = c .before .before .before .before .before .before .before .step in
     let l = c .before .before .before .before .before .before .before .before .before .before .before .before .before .before .before .loop in
-    let a = c .before .before .before .before .before .before .before .before .before .before .before .before .before .before .before .before .before .before .before .before .before .args in
-    (
+    let a = c .before .before .before .before .before .before .before .before .before .before .before .before .before .before .before .before .before .before .before .before .before .args in (
       omega (arith, c .before .before .before .before .before .before .before .before .before .before .before .before .before .before),
       s .kept .1 .0 ∙ l .inv .1,
       s .kept .1 .1 .0 ∙ l .inv .2,
       s .kept .1 .1 .1 .0 ∙ l .inv .3,
       simp length-set (l .inv .4),
       λ w m h.
-      went-more w m _ _ _ _ _ _ _ _ _ (a .calls .now) (l .k) _ (s .result) _ _ _ _ (l .inv .5 w m h) (c .before .before .before .before .before .before .before .before .before .before .before .before .decode .ensures) (s .ensures)
-      (omega (arith, c .before .before .before .before .before .before .before .before .before .before .before .before .before .before)) (omega (arith, c .before .before .before .before .before .before .before .before .before .before .before .before .before .before)),
+          went-more w m _ _ _ _ _ _ _ _ _ (a .calls .now) (l .k) _ (s .result) _ _ _ _ (l .inv .5 w m h) (c .before .before .before .before .before .before .before .before .before .before .before .before .decode .ensures) (s .ensures)
+          (omega (arith, c .before .before .before .before .before .before .before .before .before .before .before .before .before .before)) (omega (arith, c .before .before .before .before .before .before .before .before .before .before .before .before .before .before)),
     )
 
 same-length : tie.Need-same-length Inv-loop μ-loop
@@ -110,7 +109,7 @@ same-length-4 : tie.Need-same-length-4 Inv-loop μ-loop
 same-length-4 c = c .before .loop .inv .4
 
 returns : tie.Need-returns Inv-loop μ-loop
-returns c = 
+returns c =
     let l = c .before .loop in
     λ w m h. went-all w m _ _ _ _ _ _ _ _ _ (c .before .before .before .before .before .before .before .args .calls .now) (l .k) (omega arith) (l .inv .5 w m h)
 
