@@ -1,16 +1,15 @@
 -- A list that is not refused: what its steps ask, and what they leave together; and a list that is refused.
-use Prim.Native.Nat.{ℕ, _*_, _/_, _%_, _^_, _≤_, _<_}
-use mathlib.Core.Path.{_≡_, refl, sym, ap, _∙_}
+use Prim.Native.Nat.{ℕ, _/_, _^_, _<_}
+use mathlib.Core.Path.{_≡_, refl, sym, ap}
 use mathlib.Core.List.{List}
 use native.Mathlib.Omega.{arith}
 use lib.ListN.{length}
-use borrow.Author.Tests.{eq-eqb, ne-eqb}
-use Rattle.lists.specs.Lists.{over}
+use borrow.Author.Tests.{ne-eqb}
 use Rattle.types.specs.Closure.{closureWords}
 use Rattle.graph.specs.Graph.{Graph}
 use Rattle.graph.specs.WellFormed.{Bounds, Within}
 use Rattle.history.specs.Machine.{Machine, fresh, present}
-use Rattle.image.specs.Image.{save, load}
+use Rattle.image.specs.Image.{load}
 use Rattle.tables.specs.declared.Head.{Head}
 use Rattle.tables.specs.Tables.{st}
 use Rattle.tables.specs.Holds.{Holds}
@@ -25,7 +24,6 @@ use Rattle.machine.specs.Calls.{World, boundsIn, callsOf}
 use Rattle.machine.specs.Machine.{last}
 use Rattle.machine.specs.Run.{Lent, Ran, worldOf, listRefusal, accepted, refused, run}
 use Rattle.machine.proofs.ListRows.{Passed, passed}
-use Rattle.engine.specs.declared.run.Outcome.{Outcome}
 use Rattle.engine.specs.Refusals.{Lends}
 use Rattle.engine.specs.Running.{Running}
 use Rattle.engine.specs.Calls.{Went}

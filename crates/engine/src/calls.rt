@@ -2,7 +2,7 @@
 use crate::step::step;
 use commands::decode;
 use versions::Version;
-ghost use Prim.Native.Nat.{ℕ, _*_, _/_, _≤_};
+ghost use Prim.Native.Nat.{_*_, _/_, _≤_};
 ghost use lib.ListN.{length};
 ghost use Rattle.history.specs.Machine.{Machine};
 ghost use Rattle.machine.specs.Calls.{World, callsOf};

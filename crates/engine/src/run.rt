@@ -6,7 +6,6 @@ use store::save;
 use types::closure;
 use versions::start as begin;
 ghost use mathlib.Core.Path.{_≡_};
-ghost use lib.ListN.{length};
 ghost use Rattle.machine.specs.Run.{listRefusal, accepted as acceptedOf, run as runOf};
 ghost use Rattle.engine.specs.Outcomes.{lent, ran};
 

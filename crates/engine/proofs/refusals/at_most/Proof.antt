@@ -1,5 +1,4 @@
 -- `engine::refusals::at_most` meets its contract.
-use mathlib.Core.Path.{sym}
 use native.Mathlib.Omega.{arith}
 use borrow.Author.Tests.{le-leb, lt-leb}
 use Rattle.engine.proofs.refusals.at_most.Statement.{statement}
