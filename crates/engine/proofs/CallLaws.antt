@@ -1,0 +1,152 @@
+-- Calls, one after another: the words that they write over the slice of answers, and what stands after each.
+use Prim.Native.Nat.{ℕ, zero, suc, _+_, _-_, _*_, _/_, _≤_, _<_}
+use mathlib.Core.Path.{_≡_, refl, sym, ap, _∙_, subst}
+use mathlib.Core.List.{List, [], _∷_, _++_}
+use native.Mathlib.Omega.{arith}
+use native.Mathlib.Numerals.{add-one}
+use lib.ListN.{length, getD, set, take, drop, length-append, length-drop}
+use lib.Seq.{drop-drop, take-suc, take-all, length-take-le}
+use Rattle.lists.specs.Lists.{over}
+use Rattle.history.specs.Machine.{Machine}
+use Rattle.versions.specs.declared.Version.{Version}
+use Rattle.versions.specs.declared.Done.{Done}
+use Rattle.machine.specs.Calls.{Call, World, callsOf}
+use Rattle.machine.specs.Machine.{Answer, answer, answers, step, last}
+use Rattle.machine.specs.Run.{answerWords}
+use Rattle.machine.proofs.Whole.{answered}
+use Rattle.commands.specs.declared.Command.{Command}
+use Rattle.commands.specs.Commands.{callAt, commandOf}
+use Rattle.commands.specs.Meaning.{answerTo, stepTo}
+use Rattle.commands.proofs.MeaningLaws.{answer-means, step-means}
+use Rattle.engine.specs.Running.{Running, Answered}
+use Rattle.engine.specs.Calls.{Went}
+
+-- ---- the words of the calls
+
+pub calls-length : (n : ℕ) (ws : List ℕ) → 5 * n ≤ length ws → length ws < 5 * n + 5 → length (callsOf ws) ≡ n
+calls-length zero (k ∷ a ∷ b ∷ c ∷ d ∷ ws) h i = absurd (omega arith)
+calls-length (suc n) (k ∷ a ∷ b ∷ c ∷ d ∷ ws) h i = ap suc (calls-length n ws (omega arith) (omega arith))
+calls-length n [] h i = omega arith
+calls-length n (k ∷ []) h i = omega arith
+calls-length n (k ∷ a ∷ []) h i = omega arith
+calls-length n (k ∷ a ∷ b ∷ []) h i = omega arith
+calls-length n (k ∷ a ∷ b ∷ c ∷ []) h i = omega arith
+
+-- call k is the one of the five words at 5k
+pub call-at : (k : ℕ) (ws : List ℕ) (z : Call) → 5 * k + 5 ≤ length ws → getD (callsOf ws) k z ≡ callAt (take 5 (drop (5 * k) ws))
+call-at zero (k ∷ a ∷ b ∷ c ∷ d ∷ ws) z h = refl
+call-at (suc n) (k ∷ a ∷ b ∷ c ∷ d ∷ ws) z h =
+    let e : 5 * suc n ≡ suc (suc (suc (suc (suc (5 * n))))) = omega arith in
+    call-at n ws z (omega arith) ∙ ap (λ (j : ℕ). callAt (take 5 (drop j (k ∷ a ∷ b ∷ c ∷ d ∷ ws)))) (sym e)
+call-at n [] z h = absurd (omega arith)
+call-at n (k ∷ []) z h = absurd (omega arith)
+call-at n (k ∷ a ∷ []) z h = absurd (omega arith)
+call-at n (k ∷ a ∷ b ∷ []) z h = absurd (omega arith)
+call-at n (k ∷ a ∷ b ∷ c ∷ []) z h = absurd (omega arith)
+
+-- ---- the words of the answers
+
+words-append : (xs ys : List Answer) → answerWords (xs ++ ys) ≡ answerWords xs ++ answerWords ys
+words-append [] ys = refl
+words-append (x ∷ xs) ys = ap (λ (l : List ℕ). x .code ∷ x .number ∷ l) (words-append xs ys)
+
+words-length : (w : World) (m : Machine) (xs : List Call) → length (answerWords (answers w m xs)) ≡ 2 * length xs
+unfolding answers
+words-length w m [] = refl
+words-length w m (x ∷ xs) = omega (arith, words-length w (step w m x) xs)
+
+-- two stores where the first list ends
+two-more : (A D : List ℕ) (x y : ℕ) → 2 ≤ length D → set (set (A ++ D) (length A) x) (suc (length A)) y ≡ (A ++ (x ∷ y ∷ [])) ++ drop 2 D
+two-more [] [] x y h = absurd (omega arith)
+two-more [] (d ∷ []) x y h = absurd (omega arith)
+two-more [] (d ∷ e ∷ D) x y h = refl
+two-more (a ∷ A) D x y h = ap (λ (l : List ℕ). a ∷ l) (two-more A D x y h)
+
+over-more : (A slice : List ℕ) (n x y : ℕ) → length A ≡ 2 * n → 2 * n + 1 < length slice →
+    set (set (over A slice) (2 * n) x) (2 * n + 1) y ≡ over (A ++ (x ∷ y ∷ [])) slice
+over-more A slice n x y e h =
+    let D = drop (length A) slice in
+    let t : set (set (A ++ D) (length A) x) (suc (length A)) y ≡ (A ++ (x ∷ y ∷ [])) ++ drop 2 D =
+    two-more A D x y (rw length-drop (omega arith)) in
+    let one : suc (length A) ≡ 2 * n + 1 = omega arith in
+    let long : length (A ++ (x ∷ y ∷ [])) ≡ length A + 2 = length-append A (x ∷ y ∷ []) in
+    (λ i. set (set (A ++ D) (sym e i) x) (sym one i) y)
+    ∙ t
+    ∙ ap (λ (l : List ℕ). (A ++ (x ∷ y ∷ [])) ++ l) (drop-drop 2 (length A) slice ∙ ap (λ (j : ℕ). drop j slice) (sym long))
+
+-- ---- one call more
+
+last-more : (w : World) (m : Machine) (xs : List Call) (x : Call) → last w m (xs ++ (x ∷ [])) ≡ step w (last w m xs) x
+unfolding last
+last-more w m [] x = refl
+last-more w m (y ∷ xs) x = last-more w (step w m y) xs x
+
+answers-more : (w : World) (m : Machine) (xs : List Call) (x : Call) →
+    answerWords (answers w m (xs ++ (x ∷ []))) ≡ answerWords (answers w m xs) ++ (answer w (last w m xs) x .code ∷ answer w (last w m xs) x .number ∷ [])
+unfolding answers
+answers-more w m xs x = ap answerWords (answered w m xs [] x) ∙ words-append (answers w m xs) (answer w (last w m xs) x ∷ [])
+
+module _ (w : World) (m : Machine) (x : Version) (vt et t places closed : List ℕ) (types : ℕ) (slice slice′ : List ℕ) where
+  pub went-none : Running w x vt et t places closed types m → Went w m [] x vt et t places closed types slice slice
+  unfolding last answers
+  went-none h = record { stands = h; answered = refl }
+
+  went-one : (xs : List Call) (call : Call) (c : Command) (d : Done) (vt′ et′ t′ places′ : List ℕ) →
+      Went w m xs x vt et t places closed types slice slice′ → c ≡ commandOf call →
+      ((w : World) → (m : Machine) → Running w x vt et t places closed types m →
+      Answered w m c (d .version) (d .code) (d .number) vt′ et′ t′ places′ closed types) →
+      2 * length xs + 1 < length slice →
+      Went w m (xs ++ (call ∷ [])) (d .version) vt′ et′ t′ places′ closed types slice
+      (set (set slice′ (2 * length xs) (d .code)) (2 * length xs + 1) (d .number))
+  went-one xs call c d vt′ et′ t′ places′ h e f long =
+      let now = last w m xs in
+      let g = f w now (h .stands) in
+      let a : answerTo w now c ≡ answer w now call = ap (answerTo w now) e ∙ sym (answer-means w now call) in
+      let s : stepTo w now c ≡ last w m (xs ++ (call ∷ [])) =
+      ap (stepTo w now) e ∙ sym (step-means w now call) ∙ sym (last-more w m xs call) in
+      let code : d .code ≡ answer w now call .code = g .coded ∙ ap (λ (r : Answer). r .code) a in
+      let number : d .number ≡ answer w now call .number = g .numbered ∙ ap (λ (r : Answer). r .number) a in
+      let A = answerWords (answers w m xs) in
+      record {
+        stands = subst (λ (k : Machine). Running w (d .version) vt′ et′ t′ places′ closed types k) s (g .stands);
+        answered =
+            (λ i. set (set (h .answered i) (2 * length xs) (d .code)) (2 * length xs + 1) (d .number))
+            ∙ over-more A slice (length xs) (d .code) (d .number) (words-length w m xs) long
+            ∙ (λ i. over (A ++ (code i ∷ number i ∷ [])) slice)
+            ∙ ap (λ (l : List ℕ). over l slice) (sym (answers-more w m xs call));
+      }
+
+  -- call k of the list
+  pub went-more : (calls : List ℕ) (k : ℕ) (c : Command) (d : Done) (vt′ et′ t′ places′ : List ℕ) →
+      Went w m (take k (callsOf calls)) x vt et t places closed types slice slice′ →
+      c ≡ commandOf (callAt (take (5 * k + 5 - 5 * k) (drop (5 * k) calls))) →
+      ((w : World) → (m : Machine) → Running w x vt et t places closed types m →
+      Answered w m c (d .version) (d .code) (d .number) vt′ et′ t′ places′ closed types) →
+      5 * k + 5 ≤ length calls → 2 * k + 1 < length slice →
+      Went w m (take (k + 1) (callsOf calls)) (d .version) vt′ et′ t′ places′ closed types slice
+      (set (set slice′ (2 * k) (d .code)) (2 * k + 1) (d .number))
+  went-more calls k c d vt′ et′ t′ places′ h e f fits long =
+      let cs = callsOf calls in
+      let z = callAt [] in
+      let q = length calls / 5 in
+      let many : length cs ≡ q = calls-length q calls (omega arith) (omega arith) in
+      let inside : k < length cs = omega arith in
+      let size : length (take k cs) ≡ k = length-take-le k cs (omega arith) in
+      let five : 5 * k + 5 - 5 * k ≡ 5 = omega arith in
+      let call : c ≡ commandOf (getD cs k z) =
+      e ∙ ap (λ (j : ℕ). commandOf (callAt (take j (drop (5 * k) calls)))) five ∙ ap commandOf (sym (call-at k calls z fits)) in
+      let all : take (k + 1) cs ≡ take k cs ++ (getD cs k z ∷ []) = ap (λ (j : ℕ). take j cs) (add-one k) ∙ take-suc cs k z inside in
+      let r = went-one (take k cs) (getD cs k z) c d vt′ et′ t′ places′ h call f (rw size long) in
+      let r′ = subst (λ (j : ℕ). Went w m (take k cs ++ (getD cs k z ∷ [])) (d .version) vt′ et′ t′ places′ closed types slice
+      (set (set slice′ (2 * j) (d .code)) (2 * j + 1) (d .number))) size r in
+      subst (λ (xs : List Call). Went w m xs (d .version) vt′ et′ t′ places′ closed types slice
+      (set (set slice′ (2 * k) (d .code)) (2 * k + 1) (d .number))) (sym all) r′
+
+  -- all of them
+  pub went-all : (calls : List ℕ) (k : ℕ) → length calls / 5 ≤ k →
+      Went w m (take k (callsOf calls)) x vt et t places closed types slice slice′ →
+      Went w m (callsOf calls) x vt et t places closed types slice slice′
+  went-all calls k i h =
+      let q = length calls / 5 in
+      let many : length (callsOf calls) ≡ q = calls-length q calls (omega arith) (omega arith) in
+      subst (λ (xs : List Call). Went w m xs x vt et t places closed types slice slice′) (take-all k (callsOf calls) (omega arith)) h

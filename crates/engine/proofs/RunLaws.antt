@@ -1,0 +1,120 @@
+-- A list that is not refused: what its steps ask, and what they leave together; and a list that is refused.
+use Prim.Native.Nat.{ℕ, _/_, _^_, _<_}
+use mathlib.Core.Path.{_≡_, refl, sym, ap}
+use mathlib.Core.List.{List}
+use native.Mathlib.Omega.{arith}
+use lib.ListN.{length}
+use borrow.Author.Tests.{ne-eqb}
+use Rattle.types.specs.Closure.{closureWords}
+use Rattle.graph.specs.Graph.{Graph}
+use Rattle.graph.specs.WellFormed.{Bounds, Within}
+use Rattle.history.specs.Machine.{Machine, fresh, present}
+use Rattle.image.specs.Image.{load}
+use Rattle.tables.specs.declared.Head.{Head}
+use Rattle.tables.specs.Tables.{st}
+use Rattle.tables.specs.Holds.{Holds}
+use Rattle.tables.specs.Capacities.{Sized}
+use Rattle.versions.specs.declared.Version.{Version}
+use Rattle.versions.specs.Represents.{Represents}
+use Rattle.versions.proofs.Present as versions
+use Rattle.store.specs.Words.{CanSave}
+use Rattle.store.specs.Filling.{CanLoad}
+use Rattle.store.proofs.Laws.{within-loaded, can-save, Saved}
+use Rattle.machine.specs.Calls.{World, boundsIn, callsOf}
+use Rattle.machine.specs.Machine.{last}
+use Rattle.machine.specs.Run.{Lent, Ran, worldOf, listRefusal, accepted, refused, run}
+use Rattle.machine.proofs.ListRows.{Passed, passed}
+use Rattle.engine.specs.Refusals.{Lends}
+use Rattle.engine.specs.Running.{Running}
+use Rattle.engine.specs.Calls.{Went}
+use Rattle.engine.specs.Outcomes.{lent, ran}
+use Rattle.engine.proofs.CallLaws.{calls-length}
+
+-- what `versions::start` ensures of the version x
+abbrev Starts : Head → Version → Type 0
+Starts head x = (b : Bounds) → (vt et t places : List ℕ) → (g : Graph) → Sized b (st head vt et) → Within b g →
+    Holds (st head vt et) g → length t < 2 ^ 32 → length places ≡ 64 → Represents b x vt et t places (fresh g)
+
+module _ (start rows calls vertices edges journal answers image : List ℕ) (e : listRefusal (lent start rows calls vertices edges journal answers image) ≡ 0) where
+  abbrev l : Lent
+  l = lent start rows calls vertices edges journal answers image
+
+  abbrev w : World
+  w = worldOf l
+
+  pub past : Passed l
+  past = passed l e
+
+  pub can-load : CanLoad start vertices edges
+  can-load = record {
+    bounds = boundsIn w;
+    sized = record { vertices = refl; edges = refl; fewVertices = past .limits .few-vertices; fewEdges = past .limits .few-edges };
+    sound = past .start-loads;
+  }
+
+  module _ (closed : List ℕ) (types : ℕ) (rows-closed : closed ≡ closureWords rows) (types-in : types ≡ length rows) where
+    pub running : (head : Head) (x : Version) (vt et places : List ℕ) → length vt ≡ length vertices → length et ≡ length edges → length places ≡ 64 →
+        Holds (st head vt et) (load start) → Starts head x → Running w x vt et journal places closed types (fresh (load start))
+    running head x vt et places v n p h s =
+        let k = past .limits in
+        let few-c = k .few-changes in
+        record {
+          setting = record {
+            limits = k;
+            vertices = ap (λ (j : ℕ). j / 8) (sym v);
+            edges = ap (λ (j : ℕ). j / 12) (sym n);
+            changes = refl;
+            rows = past .rows-good;
+            closed-rows = rows-closed;
+            types-in = types-in;
+          };
+          represents =
+              s (boundsIn w) vt et journal places (load start)
+              (record { vertices = ap (λ (j : ℕ). j / 8) (sym v); edges = ap (λ (j : ℕ). j / 12) (sym n); fewVertices = k .few-vertices; fewEdges = k .few-edges })
+              (within-loaded (boundsIn w) start (past .start-loads))
+              h (omega arith) p;
+        }
+
+    module _ (m : Machine) (y : Version) (vt et t places : List ℕ) (r : Running w y vt et t places closed types m) where
+      pub holds-present : Holds (st (y .head) vt et) (present m)
+      holds-present = versions.holds-present (boundsIn w) y vt et t places m (r .represents)
+
+      pub can-save-present : CanSave (st (y .head) vt et) (length image)
+      can-save-present =
+          can-save (boundsIn w) (st (y .head) vt et) (present m) (length image) holds-present
+          (versions.within-present (boundsIn w) y vt et t places m (r .represents))
+          (versions.sized-present (boundsIn w) y vt et t places m (r .represents))
+          (omega (arith, past .end-room))
+
+    pub ends : (y : Version) (vt et t places answers′ image′ : List ℕ) (n : ℕ) →
+        Went w (fresh (load start)) (callsOf calls) y vt et t places closed types answers answers′ → Saved (st (y .head) vt et) image image′ n →
+        ran (record { code = 0; done = length calls / 5; words = n }) answers′ image′ ≡ accepted l
+    unfolding accepted
+    ends y vt et t places answers′ image′ n g s =
+        let m = last w (fresh (load start)) (callsOf calls) in
+        let q = s (present m) (holds-present m y vt et t places (g .stands)) in
+        let k : length calls / 5 ≡ length (callsOf calls) = sym (calls-length (length calls / 5) calls (omega arith) (omega arith)) in
+        λ i. record { code = 0; done = k i; words = q .1 i; answers = g .answered i; end = q .0 i }
+
+-- ---- the run
+
+pub lends : (start rows calls vertices edges journal answers image : List ℕ) →
+    Lends (lent start rows calls vertices edges journal answers image) start rows (length calls) (length vertices) (length edges) (length journal) (length answers) (length image)
+lends start rows calls vertices edges journal answers image = record {
+  start-is = refl;
+  rows-are = refl;
+  calls-are = refl;
+  vertices-are = refl;
+  edges-are = refl;
+  journal-is = refl;
+  answers-are = refl;
+  image-is = refl;
+}
+
+pub run-accepted : (l : Lent) (r : Ran) → listRefusal l ≡ 0 → r ≡ accepted l → r ≡ run l
+unfolding run
+run-accepted l r e h = rw e h
+
+pub run-refused : (l : Lent) (c : ℕ) → c ≡ listRefusal l → (c ≡ 0 → ⊥) → record { code = c; done = 0; words = 0; answers = l .answers; end = l .end } ≡ run l
+unfolding run refused
+run-refused l c e n = rw (← e, ne-eqb c 0 n)

@@ -1,0 +1,4 @@
+pub mod Running
+pub mod Refusals
+pub mod Calls
+pub mod Outcomes

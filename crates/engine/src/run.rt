@@ -1,0 +1,94 @@
+// A run: what is lent, the calls, the result.
+use crate::calls::each;
+use crate::refusals::refusal;
+use store::load;
+use store::save;
+use types::closure;
+use versions::start as begin;
+ghost use mathlib.Core.Path.{_≡_};
+ghost use Rattle.machine.specs.Run.{listRefusal, accepted as acceptedOf, run as runOf};
+ghost use Rattle.engine.specs.Outcomes.{lent, ran};
+
+// The code of the list, the calls done, the words of the end image.
+pub struct Outcome {
+    pub code: u32,
+    pub done: usize,
+    pub words: usize,
+}
+
+// A list that none of 101 to 106 refuses. What the tables and the journal hold afterwards is left open.
+fn accepted(
+    start: &[u32],
+    rows: &[u64],
+    calls: &[u32],
+    vertices: &mut [u32],
+    edges: &mut [u32],
+    journal: &mut [u32],
+    answers: &mut [u32],
+    image: &mut [u32],
+) -> Outcome
+    requires { ⌜ listRefusal (lent (now start) (now rows) (now calls) (now vertices) (now edges) (now journal) (now answers) (now image)) ≡ 0 ⌝ }
+    ensures { λ r. ⌜ ran r (now (answers .exit)) (now (image .exit))
+        ≡ acceptedOf (lent (now (start .entry)) (now (rows .entry)) (now (calls .entry)) (now (vertices .entry)) (now (edges .entry)) (now (journal .entry)) (now (answers .entry)) (now (image .entry))) ⌝ }
+{
+    let closed = closure(rows);
+    let types = rows.len() as u32;
+    let head = load(start, vertices, edges);
+    let x = begin(head);
+    let mut places = [0u32; 64];
+    let y = each(
+        x,
+        vertices,
+        edges,
+        journal,
+        &mut places,
+        &closed,
+        types,
+        calls,
+        answers,
+    );
+    let last = y.head;
+    let words = save(last, vertices, edges, image);
+    Outcome {
+        code: 0,
+        done: calls.len() / 5,
+        words,
+    }
+}
+
+// The result, the answers and the end image are those of the specification's run of the lent words, whatever they are.
+// A refused list writes nowhere. After an accepted one, what the tables and the journal hold is left open.
+pub fn run(
+    start: &[u32],
+    rows: &[u64],
+    calls: &[u32],
+    vertices: &mut [u32],
+    edges: &mut [u32],
+    journal: &mut [u32],
+    answers: &mut [u32],
+    image: &mut [u32],
+) -> Outcome
+    ensures { λ r. ⌜ ran r (now (answers .exit)) (now (image .exit))
+        ≡ runOf (lent (now (start .entry)) (now (rows .entry)) (now (calls .entry)) (now (vertices .entry)) (now (edges .entry)) (now (journal .entry)) (now (answers .entry)) (now (image .entry))) ⌝ }
+    ensures { λ r. ⌜ ((listRefusal (lent (now (start .entry)) (now (rows .entry)) (now (calls .entry)) (now (vertices .entry)) (now (edges .entry)) (now (journal .entry)) (now (answers .entry)) (now (image .entry))) ≡ 0 → ⊥)
+        → (now (vertices .exit) ≡ now (vertices .entry)) × (now (edges .exit) ≡ now (edges .entry)) × (now (journal .exit) ≡ now (journal .entry))) ⌝ }
+{
+    let code = refusal(
+        start,
+        rows,
+        calls.len(),
+        vertices.len(),
+        edges.len(),
+        journal.len(),
+        answers.len(),
+        image.len(),
+    );
+    if code != 0 {
+        return Outcome {
+            code,
+            done: 0,
+            words: 0,
+        };
+    }
+    accepted(start, rows, calls, vertices, edges, journal, answers, image)
+}
