@@ -13,7 +13,7 @@ ghost use Rattle.lists.specs.Choice.{_⇒_else_, _==_, within};
 ghost use Rattle.graph.specs.Graph.{Graph, hasVertex, hasEdge, edgeOf, isReading};
 ghost use Rattle.graph.specs.Graph as chart;
 ghost use Rattle.commands.specs.Meaning.{lacksVertex, lacksEdge, changeCode};
-ghost use Rattle.checks.specs.Held.{HoldsV, HoldsE, HoldsVE, tableBounds};
+ghost use Rattle.checks.specs.Held.{HoldsV, HoldsE, HoldsVE, tableBounds, ChangeFits};
 
 // 4: a vertex that is named.
 pub fn vertex_code(vt: &[u32], v: u32) -> u32
@@ -267,6 +267,7 @@ fn order_words(et: &[u32], x: u32, y: u32) -> u32
 // The code of any change; types is their number.
 pub fn change_code(vt: &[u32], et: &[u32], types: u32, change: Change) -> u32
     ensures { λ r. ⌜ ((g : Graph) → HoldsVE (now (vt .entry)) (now (et .entry)) g → r ≡ changeCode (tableBounds (now (vt .entry)) (now (et .entry)) types) g change) ⌝ }
+    ensures { λ r. ⌜ ChangeFits change ⌝ }
 {
     match change {
         Change::CreateVertex(n, t, _) => create_vertex(vt, types, n, t),

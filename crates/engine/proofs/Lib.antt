@@ -2,3 +2,6 @@ pub mod RefusalLaws
 pub mod CallLaws
 pub mod RunLaws
 pub mod Demand
+pub mod StepLaws
+pub mod StepRules
+pub mod Allows

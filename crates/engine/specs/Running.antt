@@ -7,13 +7,19 @@ use lib.ListN.{length}
 use Rattle.types.specs.Rows.{goodRows}
 use Rattle.types.specs.Closure.{closureWords}
 use Rattle.history.specs.Machine.{Machine}
+use Rattle.lists.specs.Choice.{_⇒_else_, _==_}
+use Rattle.graph.specs.Graph.{Graph}
+use Rattle.pricing.specs.Prices.{twoWay}
+use Rattle.prices.specs.declared.Price.{Price}
+use Rattle.commands.specs.declared.PriceCall.the-variants.{Range}
+use Rattle.versions.specs.declared.Done.{Done}
 use Rattle.versions.specs.declared.Version.{Version}
 use Rattle.versions.specs.Represents.{Represents}
 use Rattle.machine.specs.Calls.{World, boundsIn}
 use Rattle.machine.proofs.ListRows.{Limits}
 use Rattle.machine.specs.Machine.{Answer}
 use Rattle.commands.specs.declared.Command.{Command}
-use Rattle.commands.specs.Meaning.{answerTo, stepTo}
+use Rattle.commands.specs.Meaning.{priceCode, answerTo, stepTo}
 
 -- the tables' capacities, the types and the limits are those of w
 pub record Setting (w : World) (vt et t : List ℕ) (closed : List ℕ) (types : ℕ) : Type 0 where
@@ -35,3 +41,13 @@ pub record Answered (w : World) (m : Machine) (c : Command) (x : Version) (code 
   pub coded : code ≡ answerTo w m c .code
   pub numbered : number ≡ answerTo w m c .number
   pub stands : Running w x vt et t places closed types (stepTo w m c)
+
+-- the answer is the machine's to a command that changes nothing
+abbrev pub Stays : World → Machine → Command → Version → Done → List ℕ → List ℕ → List ℕ → List ℕ → List ℕ → ℕ → Type 0
+Stays w m c x r vt et t places closed types =
+    (r .version ≡ x) × Answered w m c (r .version) (r .code) (r .number) vt et t places closed types
+
+-- code and range of the vertices a and b: a vertex may be missing, a way may have nothing heard
+pub record Priced (g : Graph) (a b : ℕ) (r : Price) : Type 0 where
+  pub coded : r .code ≡ priceCode g (Range a b)
+  pub ranged : r .range ≡ ((priceCode g (Range a b) == 0) ⇒ twoWay g a b else 0)

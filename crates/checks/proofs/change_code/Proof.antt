@@ -1,3 +1,4 @@
+use native.Mathlib.Omega.{arith}
 use borrow.Author.Needs.{needs}
 use Rattle.checks.proofs.change_code.Statement.{statement}
 use Rattle.checks.proofs.change_code.Tie as tie
@@ -99,52 +100,52 @@ order-words-requires-2 : tie.Need-order-words-requires-2
 order-words-requires-2 c κs = search needs
 
 returns : tie.Need-returns
-returns c = λ g h. rw (c .before .before .change .given .1) (c .create-vertex .ensures g (_, h))
+returns c = (λ g h. rw (c .before .before .change .given .1) (c .create-vertex .ensures g (_, h)), rw (c .before .before .change .given .1) (omega (arith, c .before .known-told .given .1)))
 
 returns-2 : tie.Need-returns-2
-returns-2 c = λ g h. rw (c .before .before .change2 .given .1) (c .vertex-code .ensures g (_, h))
+returns-2 c = (λ g h. rw (c .before .before .change2 .given .1) (c .vertex-code .ensures g (_, h)), rw (c .before .before .change2 .given .1) (tt))
 
 returns-3 : tie.Need-returns-3
-returns-3 c = λ g h. rw (c .before .before .change3 .given .1) (c .create-edge .ensures g h)
+returns-3 c = (λ g h. rw (c .before .before .change3 .given .1) (c .create-edge .ensures g h), rw (c .before .before .change3 .given .1) (tt))
 
 returns-4 : tie.Need-returns-4
-returns-4 c = λ g h. rw (c .before .before .change4 .given .1) (c .edge-code .ensures g (_, h))
+returns-4 c = (λ g h. rw (c .before .before .change4 .given .1) (c .edge-code .ensures g (_, h)), rw (c .before .before .change4 .given .1) (tt))
 
 returns-5 : tie.Need-returns-5
-returns-5 c = λ g h. rw (c .before .before .change5 .given .1) (c .retype-vertex .ensures g (_, h))
+returns-5 c = (λ g h. rw (c .before .before .change5 .given .1) (c .retype-vertex .ensures g (_, h)), rw (c .before .before .change5 .given .1) (tt))
 
 returns-6 : tie.Need-returns-6
-returns-6 c = λ g h. rw (c .before .before .change6 .given .1) (c .retype-edge .ensures g (_, h))
+returns-6 c = (λ g h. rw (c .before .before .change6 .given .1) (c .retype-edge .ensures g (_, h)), rw (c .before .before .change6 .given .1) (tt))
 
 returns-7 : tie.Need-returns-7
-returns-7 c = λ g h. rw (c .before .before .change7 .given .1) (c .vertex-code2 .ensures g (_, h))
+returns-7 c = (λ g h. rw (c .before .before .change7 .given .1) (c .vertex-code2 .ensures g (_, h)), rw (c .before .before .change7 .given .1) (omega (arith, c .before .known-told7 .given .1)))
 
 returns-8 : tie.Need-returns-8
-returns-8 c = λ g h. rw (c .before .before .change8 .given .1) (c .set-reading .ensures g (_, h))
+returns-8 c = (λ g h. rw (c .before .before .change8 .given .1) (c .set-reading .ensures g (_, h)), rw (c .before .before .change8 .given .1) (tt))
 
 returns-9 : tie.Need-returns-9
-returns-9 c = λ g h. rw (c .before .before .change9 .given .1) (c .set-end .ensures g h)
+returns-9 c = (λ g h. rw (c .before .before .change9 .given .1) (c .set-end .ensures g h), rw (c .before .before .change9 .given .1) (tt))
 
 returns-10 : tie.Need-returns-10
-returns-10 c = λ g h. rw (c .before .before .change10 .given .1) (c .set-end2 .ensures g h)
+returns-10 c = (λ g h. rw (c .before .before .change10 .given .1) (c .set-end2 .ensures g h), rw (c .before .before .change10 .given .1) (tt))
 
 returns-11 : tie.Need-returns-11
-returns-11 c = λ g h. rw (c .before .before .change11 .given .1) (c .order-vertices .ensures g (_, h))
+returns-11 c = (λ g h. rw (c .before .before .change11 .given .1) (c .order-vertices .ensures g (_, h)), rw (c .before .before .change11 .given .1) (tt))
 
 returns-12 : tie.Need-returns-12
-returns-12 c = λ g h. rw (c .before .before .change12 .given .1) (c .order-vertices2 .ensures g (_, h))
+returns-12 c = (λ g h. rw (c .before .before .change12 .given .1) (c .order-vertices2 .ensures g (_, h)), rw (c .before .before .change12 .given .1) (tt))
 
 returns-13 : tie.Need-returns-13
-returns-13 c = λ g h. rw (c .before .before .change13 .given .1) (c .order-edges .ensures g (_, h))
+returns-13 c = (λ g h. rw (c .before .before .change13 .given .1) (c .order-edges .ensures g (_, h)), rw (c .before .before .change13 .given .1) (tt))
 
 returns-14 : tie.Need-returns-14
-returns-14 c = λ g h. rw (c .before .before .change14 .given .1) (c .order-edges2 .ensures g (_, h))
+returns-14 c = (λ g h. rw (c .before .before .change14 .given .1) (c .order-edges2 .ensures g (_, h)), rw (c .before .before .change14 .given .1) (tt))
 
 returns-15 : tie.Need-returns-15
-returns-15 c = λ g h. rw (c .before .before .change15 .given .1) (c .order-words .ensures g (_, h))
+returns-15 c = (λ g h. rw (c .before .before .change15 .given .1) (c .order-words .ensures g (_, h)), rw (c .before .before .change15 .given .1) (tt))
 
 returns-16 : tie.Need-returns-16
-returns-16 c = λ g h. rw (c .before .before .change16 .given .1) (c .order-words2 .ensures g (_, h))
+returns-16 c = (λ g h. rw (c .before .before .change16 .given .1) (c .order-words2 .ensures g (_, h)), rw (c .before .before .change16 .given .1) (tt))
 
 pub change-code-spec : {M : Type 1} → statement M
 change-code-spec =
