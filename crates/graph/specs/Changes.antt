@@ -173,7 +173,7 @@ cost (EdgeAfter a b) g = 1
 cost (WordBefore a b) g = 1
 cost (WordAfter a b) g = 1
 
--- ---- what a change asks of the graph: codes 2 to 9 do not apply
+-- ---- what a change asks of the graph: codes 2 to 9 do not apply, and a value is a word
 
 abbrev pub VertexThere : Graph → ℕ → Type 0
 VertexThere g n = countBy vn n (g .vseq) ≡ 1

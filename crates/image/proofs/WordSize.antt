@@ -23,7 +23,7 @@ use Rattle.image.proofs.Room.{few-vertices, few-edges}
 abbrev pub Word : ℕ → Type 0
 Word w = w < 2 ^ 32
 
--- "1 to 1,000 vertices, 1 to 4,000 edges", "n from 1 to 64"
+-- the upper limits of "1 to 1,000 vertices, 1 to 4,000 edges" and "n from 1 to 64"
 pub record InRange (b : Bounds) : Type 0 where
   pub vertices : b .vertices ≤ 1000
   pub edges : b .edges ≤ 4000

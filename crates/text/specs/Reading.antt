@@ -1,4 +1,4 @@
--- "Program chartrun reads up to 1,000 lines of standard input (60,000 bytes), five numbers a line, one space between, no leading zeros, each line ended by a newline (a rest without one is a line too, and bad)."
+-- "Program chartrun reads up to 1,000 lines of standard input (60,000 bytes), five numbers a line, one space between, no leading zeros, each line ended by a newline (a rest without one is a line too, and bad)"
 -- Bytes are numbers: the newline is 10, the space 32, the digits 48 to 57.
 use Prim.Native.Nat.{ℕ, _+_, _-_, _*_, _^_}
 use mathlib.Core.Bool.{Bool, false, not, _&&_, _||_}
@@ -64,7 +64,7 @@ wordsIn [] = []
 wordsIn (rest ∷ []) = []
 wordsIn (line ∷ l ∷ ls) = map (valueOf 0) (pieces 32 line) ++ wordsIn (l ∷ ls)
 
--- "Too many bytes give only unreadable 0; else too many lines only unreadable 1001; else the first bad line only unreadable and its number from 1."
+-- "Too many bytes give only `unreadable 0`; else too many lines only `unreadable 1001`; else the first bad line .. only unreadable and its number from 1."
 unfoldable pub readText : List ℕ → Verdict
 unfolding pieces lineCount firstBad wordsIn
 readText bytes =
