@@ -1,0 +1,111 @@
+-- The list that chartrun runs is never refused, and what the run leaves is what the reply shows.
+use Prim.Native.Nat.{ℕ, _+_, _*_, _/_, _%_, _≤_}
+use mathlib.Core.Path.{_≡_, refl, sym, ap, subst, _∙_}
+use mathlib.Core.Bool.{true, false}
+use mathlib.Core.List.{List, [], _∷_}
+use native.Mathlib.Omega.{arith}
+use lib.Dec.{ltb}
+use lib.ListN.{length, length-append, take, drop}
+use store.Seg.{take-pre}
+use borrow.Author.Tests.{le-ltb}
+use Rattle.lists.specs.Lists.{over}
+use Rattle.image.specs.Image.{loadable, load, save}
+use Rattle.history.specs.Machine.{Machine, present}
+use Rattle.machine.specs.Calls.{Call, World, callsOf}
+use Rattle.machine.specs.Machine.{answers, step, last}
+use Rattle.machine.specs.Run.{Lent, Ran, listRefusal, run, answerWords}
+use Rattle.machine.proofs.Whole.{demand-3}
+use Rattle.text.specs.declared.reading.ReadVerdict.{ReadVerdict}
+use Rattle.text.specs.declared.reading.ReadVerdict.the-variants.{Calls, Unreadable}
+use Rattle.text.specs.Reading.{readText, wordsOf, answered}
+use Rattle.text.specs.Writing.{writeText, unreadableText}
+use Rattle.text.proofs.Verdicts.{told-calls, told-unreadable}
+use Rattle.text.proofs.Accepts.{five-a-line, words-most}
+use Rattle.engine.specs.declared.run.Outcome.{Outcome}
+use Rattle.engine.specs.Outcomes.{ran}
+use Rattle.transcript.specs.Transcript.{world, begin, reply, replyTo, transcript, Written}
+
+-- what chartrun lends beside the calls
+abbrev pub lends : List ℕ → List ℕ → List ℕ → Lent
+lends calls answers end = record {
+  start = 0 ∷ 0 ∷ 6 ∷ 6 ∷ 6 ∷ 6 ∷ [];
+  rows = world .rows;
+  calls = calls;
+  vertexTable = 1600;
+  edgeTable = 9600;
+  changeTable = 12000;
+  answers = answers;
+  end = end;
+}
+
+answers-length : (w : World) (m : Machine) (xs : List Call) → length (answerWords (answers w m xs)) ≡ 2 * length xs
+unfolding answers
+answers-length w m [] = refl
+answers-length w m (x ∷ xs) = omega (arith, answers-length w (step w m x) xs)
+
+-- words written over a slice are its front
+front : (A slice slice′ : List ℕ) (n : ℕ) → n ≡ length A → slice′ ≡ over A slice → take n slice′ ≡ A
+front A slice slice′ n e f = rw (e, f) (take-pre A (drop (length A) slice))
+
+fits : (A slice slice′ : List ℕ) (n k : ℕ) → n ≡ length A → slice′ ≡ over A slice → length slice′ ≡ k → n ≤ k
+fits A slice slice′ n k e f h = omega (arith, e, h, ap length f, length-append A (drop (length A) slice))
+
+pub written-as : (text text′ : List ℕ) (n : ℕ) (out out′ : List ℕ) → text ≡ text′ → Written text n out out′ → Written text′ n out out′
+written-as text text′ n out out′ e h = subst (λ (t : List ℕ). Written t n out out′) e h
+
+-- of the calls ws: how many were done, the words of the image, and the two slices that the run wrote
+pub record Shows (ws : List ℕ) (done words : ℕ) (slice end : List ℕ) : Type 0 where
+  pub calls-fit : 2 * done ≤ 2000
+  pub words-fit : words ≤ 7006
+  pub text : writeText (take (2 * done) slice) (take words end) ≡ reply ws
+
+module _ (ws slice end : List ℕ) (whole : length ws % 5 ≡ 0) (few : length ws ≤ 5000) (a : length slice ≡ 2000) (b : length end ≡ 7006) where
+  pub accepts : listRefusal (lends ws slice end) ≡ 0
+  unfolding listRefusal
+  accepts =
+      let p : 2 * (length ws / 5) ≤ 2000 = omega arith in
+      rw (whole, a, le-ltb _ _ p, b)
+
+  -- what the run leaves, cut to the calls done and the words of the image, is what the reply shows
+  pub shows : (r : Outcome) (slice′ end′ : List ℕ) → length slice′ ≡ 2000 → length end′ ≡ 7006 → ran r slice′ end′ ≡ run (lends ws slice end) →
+      Shows ws (r .done) (r .words) slice′ end′
+  unfolding reply load
+  shows r slice′ end′ p q e =
+      let l = lends ws slice end in
+      let d = demand-3 l accepts in
+      let A = answerWords (answers world begin (callsOf ws)) in
+      let G = save (present (last world begin (callsOf ws))) in
+      let done : 2 * r .done ≡ length A = ap (λ (n : ℕ). 2 * n) (ap (λ (x : Ran). x .done) e ∙ d .done) ∙ sym (answers-length world begin (callsOf ws)) in
+      let words : r .words ≡ length G = ap (λ (x : Ran). x .words) e ∙ d .words in
+      let answered : slice′ ≡ over A slice = ap (λ (x : Ran). x .answers) e ∙ d .answered in
+      let saved : end′ ≡ over G end = ap (λ (x : Ran). x .end) e ∙ d .saved in
+      record {
+        calls-fit = fits A slice slice′ (2 * r .done) 2000 done answered p;
+        words-fit = fits G end end′ (r .words) 7006 words saved q;
+        text = λ i. writeText (front A slice slice′ (2 * r .done) done answered i) (front G end end′ (r .words) words saved i);
+      }
+
+-- the calls read stand at the front of calls, n words of them
+pub record CallsRead (bytes calls : List ℕ) (n : ℕ) : Type 0 where
+  pub fit : n ≤ length calls
+  pub whole : length (take n calls) % 5 ≡ 0
+  pub few : length (take n calls) ≤ 5000
+  pub text : reply (take n calls) ≡ transcript bytes
+
+module _ (bytes : List ℕ) (n : ℕ) (v : ReadVerdict) (read : v ≡ answered (readText bytes)) where
+  pub calls-read : (slice slice′ : List ℕ) → v ≡ Calls n → slice′ ≡ over (wordsOf (readText bytes)) slice → length slice′ ≡ 5000 → CallsRead bytes slice′ n
+  unfolding transcript
+  calls-read slice slice′ e f k =
+      let t = told-calls (readText bytes) n (sym e ∙ read) in
+      let ws = wordsOf (readText bytes) in
+      let p : take n slice′ ≡ ws = front ws slice slice′ n (t .1) f in
+      record {
+        fit = omega (arith, k, fits ws slice slice′ n 5000 (t .1) f k);
+        whole = omega (arith, ap length p, five-a-line bytes ws (t .0));
+        few = omega (arith, ap length p, words-most bytes ws (t .0));
+        text = ap reply p ∙ sym (ap replyTo (t .0));
+      }
+
+  pub unreadable-read : v ≡ Unreadable n → unreadableText n ≡ transcript bytes
+  unfolding transcript
+  unreadable-read e = sym (ap replyTo (told-unreadable (readText bytes) n (sym e ∙ read)))

@@ -1,0 +1,40 @@
+-- The program chartrun, from the bytes that it reads to the bytes that it writes.
+use Prim.Native.Nat.{ℕ}
+use mathlib.Core.Path.{_≡_}
+use mathlib.Core.List.{List, [], _∷_}
+use lib.ListN.{length}
+use Rattle.lists.specs.Lists.{over}
+use Rattle.graph.specs.Graph.{empty}
+use Rattle.image.specs.Image.{save}
+use Rattle.history.specs.Machine.{Machine, fresh, present}
+use Rattle.machine.specs.Calls.{World, callsOf}
+use Rattle.machine.specs.Machine.{answers, last}
+use Rattle.machine.specs.Run.{answerWords}
+use Rattle.text.specs.Reading.{Verdict, calls, unreadable, readText}
+use Rattle.text.specs.Writing.{writeText, unreadableText}
+
+-- "capacities 200, 800, 1,000; types 0 to 4, with 2 and 3 below 1"
+abbrev pub world : World
+world = record { rows = 0 ∷ 0 ∷ 2 ∷ 2 ∷ 0 ∷ []; vertices = 200; edges = 800; changes = 1000 }
+
+-- "empty start"
+abbrev pub begin : Machine
+begin = fresh empty
+
+-- "a line per call (done number, or refused code), then a line of image and the end chart"
+unfoldable pub reply : List ℕ → List ℕ
+unfolding answers last save writeText
+reply words = writeText (answerWords (answers world begin (callsOf words))) (save (present (last world begin (callsOf words))))
+
+unfoldable pub replyTo : Verdict → List ℕ
+unfolding reply unreadableText
+replyTo (calls words) = reply words
+replyTo (unreadable n) = unreadableText n
+
+unfoldable pub transcript : List ℕ → List ℕ
+unfolding readText replyTo
+transcript bytes = replyTo (readText bytes)
+
+-- the text is at the front of the slice, the bytes behind it stay, and its length is told
+abbrev pub Written : List ℕ → ℕ → List ℕ → List ℕ → Type 0
+Written text n out out′ = (n ≡ length text) × (out′ ≡ over text out)
