@@ -9,7 +9,8 @@ ghost use mathlib.Core.Path.{_≡_};
 ghost use Rattle.machine.specs.Run.{listRefusal, accepted as acceptedOf, run as runOf};
 ghost use Rattle.engine.specs.Outcomes.{lent, ran};
 
-// The code of the list, the calls done, the words of the end image.
+// The code of the list, the calls done, the words of the end image. Its layout is that of include/futtockfig.h.
+#[repr(C)]
 pub struct Outcome {
     pub code: u32,
     pub done: usize,

@@ -1,0 +1,60 @@
+// The run and the parts of an image for programs in C and Rust: include/futtockfig.h says the same in C.
+use engine::run::Outcome;
+use engine::run::run;
+ghost use mathlib.Core.Path.{_≡_};
+ghost use lib.ListN.{length};
+ghost use Rattle.machine.specs.Run.{listRefusal, run as runOf};
+ghost use Rattle.image.specs.Image.{part as partOf};
+ghost use Rattle.engine.specs.Outcomes.{lent, ran};
+ghost use Rattle.futtockfig.specs.Span.{partOffset};
+
+// A slice is a pointer and a length.
+#[no_mangle]
+pub extern "C" fn futtockfig_run(
+    start: &[u32],
+    rows: &[u64],
+    calls: &[u32],
+    vertices: &mut [u32],
+    edges: &mut [u32],
+    journal: &mut [u32],
+    answers: &mut [u32],
+    image: &mut [u32],
+) -> Outcome
+    ensures { λ r. ⌜ ran r (now (answers .exit)) (now (image .exit))
+        ≡ runOf (lent (now (start .entry)) (now (rows .entry)) (now (calls .entry)) (now (vertices .entry)) (now (edges .entry)) (now (journal .entry)) (now (answers .entry)) (now (image .entry))) ⌝ }
+    ensures { λ r. ⌜ ((listRefusal (lent (now (start .entry)) (now (rows .entry)) (now (calls .entry)) (now (vertices .entry)) (now (edges .entry)) (now (journal .entry)) (now (answers .entry)) (now (image .entry))) ≡ 0 → ⊥)
+        → (now (vertices .exit) ≡ now (vertices .entry)) × (now (edges .exit) ≡ now (edges .entry)) × (now (journal .exit) ≡ now (journal .entry))) ⌝ }
+{
+    run(start, rows, calls, vertices, edges, journal, answers, image)
+}
+
+// Where a part of an image lies, in words. No function that C calls can return a part itself.
+#[repr(C)]
+pub struct Span {
+    pub offset: usize,
+    pub len: usize,
+}
+
+#[no_mangle]
+pub extern "C" fn futtockfig_part(words: &[u32], part: u32) -> Span
+    ensures { λ r. ⌜ (r .offset ≡ partOffset part (now (words .entry))) × (r .len ≡ length (partOf part (now (words .entry)))) ⌝ }
+{
+    let len = image::part(words, part).len();
+    if len == 0 {
+        return Span { offset: 0, len };
+    }
+    if part == 1 {
+        return Span { offset: 6, len };
+    }
+    if part == 2 {
+        let before = image::part(words, 1).len();
+        return Span {
+            offset: 6 + before,
+            len,
+        };
+    }
+    Span {
+        offset: words.len() - len,
+        len,
+    }
+}
