@@ -1,11 +1,10 @@
 -- The words that are read are what the graph answers.
-use Prim.Native.Nat.{ℕ, _+_, _-_, _*_, _/_, _%_, _≤_}
+use Prim.Native.Nat.{ℕ, _+_, _-_, _/_, _%_, _≤_}
 use mathlib.Core.Path.{_≡_, refl, sym, ap, _∙_}
 use mathlib.Core.Logic.{_≢_}
 use mathlib.Core.List.{List, [], _∷_}
 use native.Mathlib.Omega.{arith}
 use lib.ListN.{getD}
-use borrow.Author.Tests.{ne-eqb, le-ltb}
 use Rattle.lists.specs.Lists.{first, after, before}
 use Rattle.lists.specs.Keyed.{countBy, prev, lastBy}
 use Rattle.lists.proofs.Picks.{pick-yes, pick-no, same, differ, same?, is-yes, is-zero}
@@ -26,6 +25,7 @@ use Rattle.graph.proofs.Lists.{held}
 use Rattle.tables.specs.Tables.{State, vlane, elane, ilane, vends, eends, endsAt, VIn, EIn, WIn, vat, eat, wat, vtype, vvalue, vfirst, vlast, vprev, vnext, etype, ekind, edecimetres, eprev, enext, wprev, wnext, wthis, readingAt}
 use Rattle.tables.specs.Holds.{Holds}
 use Rattle.queries.specs.Walks.{CanWalk}
+use Rattle.queries.proofs.ListWalks.{link-word}
 use Rattle.tables.specs.Capacities.{Sized}
 use Rattle.tables.proofs.Keys.{keys-count, keys-prev, keys-last}
 use Rattle.tables.proofs.Frames.{fair-v, fair-e, fair-i, row-v, row-e}
@@ -52,15 +52,14 @@ module _ (lane : Lane) (t : List ℕ) (e : Ends) (l : List ℕ) (fair : Fair lan
     real′ : x ≡ 0 → ⊥
     real′ q = real (sym q)
 
-    link-word : (s : Side) → linkOf s lane t e x ≡ getD t (word s lane x) 0
-    unfolding linkOf
-    link-word s = rw (ne-eqb x 0 real′, le-ltb (lane .stride * x) (lane .skip) (inside-is lane t e l fair h x c real′ .0))
+    read : (s : Side) → linkOf s lane t e x ≡ getD t (word s lane x) 0
+    read s = link-word lane t e s x real′ (inside-is lane t e l fair h x c real′ .0)
 
     pub before-is : getD t (word prv lane x) 0 ≡ prev wd 0 x l
-    before-is = sym (link-word prv) ∙ prev-is lane t e l fair h x c
+    before-is = sym (read prv) ∙ prev-is lane t e l fair h x c
 
     pub after-is : getD t (word nxt lane x) 0 ≡ after x l
-    after-is = sym (link-word nxt) ∙ next-is lane t e l fair h x c
+    after-is = sym (read nxt) ∙ next-is lane t e l fair h x c
 
     pub at-is : HeldAt lane t e x
     at-is = (l, h, has-is x l c)

@@ -1,17 +1,19 @@
 -- A walk along a held list, node by node, that adds f of each node.
-use Prim.Native.Nat.{ℕ, _+_, _≤_, _<_}
+use Prim.Native.Nat.{ℕ, _+_, _*_, _/_, _≤_, _<_}
 use mathlib.Core.Path.{_≡_, refl, sym, ap, _∙_}
 use mathlib.Core.Bool.{Bool}
 use mathlib.Core.List.{List, [], _∷_}
 use native.Mathlib.Omega.{arith}
-use lib.ListN.{length}
+use lib.ListN.{length, getD}
+use borrow.Author.Tests.{ne-eqb, le-ltb}
 use Rattle.lists.specs.Lists.{sumOf, before}
 use Rattle.ring.specs.declared.Lane.{Lane}
 use Rattle.ring.specs.declared.Ends.{Ends}
 use Rattle.ring.specs.Lists.{Fresh, All}
-use Rattle.ring.specs.Links.{Fair, prv, nxt, Inside, linkOf, Chain, Held, HeldAt, nodesFrom, nodes}
+use Rattle.ring.specs.Links.{Fair, Side, prv, nxt, word, Starts, Inside, linkOf, Chain, Held, HeldAt, nodesFrom, nodes}
 use Rattle.ring.proofs.Pigeon.{held-length}
 use Rattle.ring.proofs.Model.{nodes-chain, node-below, held-nodes}
+use Rattle.tables.specs.Tables.{ilane, endsAt, EIn, WIn, wat, vfirst, wnext}
 
 module _ (f : ℕ → ℕ) (P : ℕ → Type 0) (lane : Lane) (t : List ℕ) (e : Ends) where
   -- the walk is at w, behind the node `from`, has added n, and will have added `total`
@@ -108,6 +110,26 @@ sum-few f b lane t e fair l h =
 
 pub held-by : (lane : Lane) (t : List ℕ) {e e′ : Ends} (l : List ℕ) → e ≡ e′ → Held lane t e′ l → Held lane t e l
 held-by lane t l q h = rw q h
+
+-- ---- links as words of the tables
+
+pub link-word : (lane : Lane) (t : List ℕ) (e : Ends) (s : Side) (x : ℕ) → (x ≡ 0 → ⊥) → Starts lane x → linkOf s lane t e x ≡ getD t (word s lane x) 0
+unfolding linkOf
+link-word lane t e s x z h = rw (ne-eqb x 0 z, le-ltb (lane .stride * x) (lane .skip) h)
+
+pub first-link : (vt et : List ℕ) (v : ℕ) → vfirst vt v ≡ linkOf nxt ilane et (endsAt vt v) 0
+unfolding linkOf
+first-link vt et v = refl
+
+-- what the cursor asks of a word, and that it goes along the list
+module _ (et : List ℕ) (w : ℕ) (h : EIn et (w / 2)) where
+  pub word-in : WIn et w
+  word-in = (omega (arith, h), omega (arith, h))
+
+  pub next-link : (e : Ends) (y : ℕ) → y ≡ wnext et w → y ≡ linkOf nxt ilane et e w
+  next-link e y p =
+      let q : wat 1 w ≡ word nxt ilane w = omega (arith, word-in .0) in
+      p ∙ ap (λ (i : ℕ). getD et i 0) q ∙ sym (link-word ilane et e nxt w (λ z. omega (arith, z, word-in .0)) (omega (arith, word-in .0)))
 
 -- ---- for callers of the walk of `before`
 

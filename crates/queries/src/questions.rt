@@ -1,10 +1,12 @@
 // Answers that need more than one word: the others are words of a row, or of the head.
 use crate::plans::choose;
+use cursor::following;
 use ring::Ends;
 use ring::Lane;
 use tables::Head;
 use tables::rows::edge_type;
 use tables::rows::ends_of;
+use tables::rows::first_word;
 use tables::rows::this;
 ghost use mathlib.Core.Path.{_≡_};
 ghost use Prim.Native.Nat.{ℕ, _+_, _-_, _*_, _/_, _≤_};
@@ -117,33 +119,16 @@ fn counted(et: &[u32], w: u32) -> u32
     choose(a, z, 0, 1)
 }
 
-// How many distinct edges are at vertex v: a walk along its list.
+// How many distinct edges are at vertex v: a walk along its list by a cursor.
 pub fn count_edges(vt: &[u32], et: &[u32], v: u32) -> u32
     requires { ⌜ CanWalk (now vt) (now et) v ⌝ }
     ensures { λ r. ⌜ r ≡ edgeCount (now (vt .entry)) (now (et .entry)) v ⌝ }
 {
-    let e = ends_of(vt, v);
     let mut n = 0;
-    let mut w = ring::next(
-        et,
-        Lane {
-            stride: 6,
-            skip: 12,
-        },
-        e,
-        0,
-    );
+    let mut w = first_word(vt, v);
     while w != 0 {
         n += counted(et, w);
-        w = ring::next(
-            et,
-            Lane {
-                stride: 6,
-                skip: 12,
-            },
-            e,
-            w,
-        );
+        w = following(et, w);
     }
     n
 }
@@ -179,33 +164,16 @@ fn in_degree(words: &[u64; 64], et: &[u32], w: u32, t: u32, c: u32) -> u32
     0
 }
 
-// The degree of vertex v in class t on the side c: a walk along its list. `words` is the closure of the types.
+// The degree of vertex v in class t on the side c: a walk along its list by a cursor. `words` is the closure of the types.
 pub fn degree(words: &[u64; 64], vt: &[u32], et: &[u32], v: u32, t: u32, c: u32) -> u32
     requires { ⌜ CanWalk (now vt) (now et) v ⌝ }
     ensures { λ r. ⌜ ((rows : List ℕ) → goodRows rows ≡ true → now (words .entry) ≡ closureWords rows → r ≡ degreeAt (λ s. below rows s t) c (now (vt .entry)) (now (et .entry)) v) ⌝ }
 {
-    let e = ends_of(vt, v);
     let mut n = 0;
-    let mut w = ring::next(
-        et,
-        Lane {
-            stride: 6,
-            skip: 12,
-        },
-        e,
-        0,
-    );
+    let mut w = first_word(vt, v);
     while w != 0 {
         n += in_degree(words, et, w, t, c);
-        w = ring::next(
-            et,
-            Lane {
-                stride: 6,
-                skip: 12,
-            },
-            e,
-            w,
-        );
+        w = following(et, w);
     }
     n
 }
