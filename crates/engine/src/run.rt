@@ -6,6 +6,7 @@ use store::save;
 use types::closure;
 use versions::start as begin;
 ghost use mathlib.Core.Path.{_≡_};
+ghost use Rattle.machine.specs.Demand.{Demand3};
 ghost use Rattle.machine.specs.Run.{listRefusal, accepted as acceptedOf, run as runOf};
 ghost use Rattle.engine.specs.Outcomes.{lent, ran};
 
@@ -58,7 +59,7 @@ fn accepted(
 }
 
 // The result, the answers and the end image are those of the specification's run of the lent words, whatever they are.
-// A refused list writes nowhere. After an accepted one, what the tables and the journal hold is left open.
+// A refused list writes nowhere. After an accepted one, what the tables and the journal hold is left open, and demand 3 is met.
 pub fn run(
     start: &[u32],
     rows: &[u64],
@@ -73,6 +74,8 @@ pub fn run(
         ≡ runOf (lent (now (start .entry)) (now (rows .entry)) (now (calls .entry)) (now (vertices .entry)) (now (edges .entry)) (now (journal .entry)) (now (answers .entry)) (now (image .entry))) ⌝ }
     ensures { λ r. ⌜ ((listRefusal (lent (now (start .entry)) (now (rows .entry)) (now (calls .entry)) (now (vertices .entry)) (now (edges .entry)) (now (journal .entry)) (now (answers .entry)) (now (image .entry))) ≡ 0 → ⊥)
         → (now (vertices .exit) ≡ now (vertices .entry)) × (now (edges .exit) ≡ now (edges .entry)) × (now (journal .exit) ≡ now (journal .entry))) ⌝ }
+    ensures { λ r. ⌜ (listRefusal (lent (now (start .entry)) (now (rows .entry)) (now (calls .entry)) (now (vertices .entry)) (now (edges .entry)) (now (journal .entry)) (now (answers .entry)) (now (image .entry))) ≡ 0
+        → Demand3 (lent (now (start .entry)) (now (rows .entry)) (now (calls .entry)) (now (vertices .entry)) (now (edges .entry)) (now (journal .entry)) (now (answers .entry)) (now (image .entry))) (ran r (now (answers .exit)) (now (image .exit)))) ⌝ }
 {
     let code = refusal(
         start,

@@ -3,6 +3,7 @@ use engine::run::Outcome;
 use engine::run::run;
 ghost use mathlib.Core.Path.{_≡_};
 ghost use lib.ListN.{length};
+ghost use Rattle.machine.specs.Demand.{Demand3};
 ghost use Rattle.machine.specs.Run.{listRefusal, run as runOf};
 ghost use Rattle.image.specs.Image.{part as partOf};
 ghost use Rattle.engine.specs.Outcomes.{lent, ran};
@@ -24,6 +25,8 @@ pub extern "C" fn futtockfig_run(
         ≡ runOf (lent (now (start .entry)) (now (rows .entry)) (now (calls .entry)) (now (vertices .entry)) (now (edges .entry)) (now (journal .entry)) (now (answers .entry)) (now (image .entry))) ⌝ }
     ensures { λ r. ⌜ ((listRefusal (lent (now (start .entry)) (now (rows .entry)) (now (calls .entry)) (now (vertices .entry)) (now (edges .entry)) (now (journal .entry)) (now (answers .entry)) (now (image .entry))) ≡ 0 → ⊥)
         → (now (vertices .exit) ≡ now (vertices .entry)) × (now (edges .exit) ≡ now (edges .entry)) × (now (journal .exit) ≡ now (journal .entry))) ⌝ }
+    ensures { λ r. ⌜ (listRefusal (lent (now (start .entry)) (now (rows .entry)) (now (calls .entry)) (now (vertices .entry)) (now (edges .entry)) (now (journal .entry)) (now (answers .entry)) (now (image .entry))) ≡ 0
+        → Demand3 (lent (now (start .entry)) (now (rows .entry)) (now (calls .entry)) (now (vertices .entry)) (now (edges .entry)) (now (journal .entry)) (now (answers .entry)) (now (image .entry))) (ran r (now (answers .exit)) (now (image .exit)))) ⌝ }
 {
     run(start, rows, calls, vertices, edges, journal, answers, image)
 }
