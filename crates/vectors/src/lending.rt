@@ -12,105 +12,6 @@ pub struct Lengths {
     pub image: usize,
 }
 
-fn on_image(
-    start: &[u32],
-    rows: &[u64],
-    calls: &[u32],
-    vertices: &mut [u32],
-    edges: &mut [u32],
-    journal: &mut [u32],
-    answers: &mut [u32],
-    image: &mut [u32],
-    n: usize,
-) -> Outcome {
-    let end = least(n, image.len());
-    run(
-        start,
-        rows,
-        calls,
-        vertices,
-        edges,
-        journal,
-        answers,
-        &mut image[0..end],
-    )
-}
-
-fn on_answers(
-    start: &[u32],
-    rows: &[u64],
-    calls: &[u32],
-    vertices: &mut [u32],
-    edges: &mut [u32],
-    journal: &mut [u32],
-    answers: &mut [u32],
-    image: &mut [u32],
-    lent: Lengths,
-) -> Outcome {
-    let end = least(lent.answers, answers.len());
-    on_image(
-        start,
-        rows,
-        calls,
-        vertices,
-        edges,
-        journal,
-        &mut answers[0..end],
-        image,
-        lent.image,
-    )
-}
-
-fn on_journal(
-    start: &[u32],
-    rows: &[u64],
-    calls: &[u32],
-    vertices: &mut [u32],
-    edges: &mut [u32],
-    journal: &mut [u32],
-    answers: &mut [u32],
-    image: &mut [u32],
-    lent: Lengths,
-) -> Outcome {
-    let end = least(lent.journal, journal.len());
-    on_answers(
-        start,
-        rows,
-        calls,
-        vertices,
-        edges,
-        &mut journal[0..end],
-        answers,
-        image,
-        lent,
-    )
-}
-
-fn on_edges(
-    start: &[u32],
-    rows: &[u64],
-    calls: &[u32],
-    vertices: &mut [u32],
-    edges: &mut [u32],
-    journal: &mut [u32],
-    answers: &mut [u32],
-    image: &mut [u32],
-    lent: Lengths,
-) -> Outcome {
-    let end = least(lent.edges, edges.len());
-    on_journal(
-        start,
-        rows,
-        calls,
-        vertices,
-        &mut edges[0..end],
-        journal,
-        answers,
-        image,
-        lent,
-    )
-}
-
 pub fn run_on(
     start: &[u32],
     rows: &[u64],
@@ -122,16 +23,19 @@ pub fn run_on(
     image: &mut [u32],
     lent: Lengths,
 ) -> Outcome {
-    let end = least(lent.vertices, vertices.len());
-    on_edges(
+    let v = least(lent.vertices, vertices.len());
+    let e = least(lent.edges, edges.len());
+    let j = least(lent.journal, journal.len());
+    let a = least(lent.answers, answers.len());
+    let i = least(lent.image, image.len());
+    run(
         start,
         rows,
         calls,
-        &mut vertices[0..end],
-        edges,
-        journal,
-        answers,
-        image,
-        lent,
+        &mut vertices[0..v],
+        &mut edges[0..e],
+        &mut journal[0..j],
+        &mut answers[0..a],
+        &mut image[0..i],
     )
 }

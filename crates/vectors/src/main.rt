@@ -143,7 +143,8 @@ fn show_part(line: &[u8], start: &[u32]) {
     numbers(line, &mut n);
     let mut w = [0u32; 1];
     narrow(&n, 1, &mut w, 0);
-    writing::named(b"part", part(start, words::word(&w, 0)));
+    let which = words::word(&w, 0);
+    writing::part(which, part(start, which));
 }
 
 fn parts(s: Setting, line: &[u8], start: &[u32]) -> Setting {
@@ -267,32 +268,34 @@ fn fill_all(
 }
 
 // Every lent slice full of junk, the run, what it left: the words of the end image.
-fn whole(
-    s: Setting,
-    start: &[u32],
-    rows: &[u64],
-    calls: &[u32],
-    vertices: &mut [u32],
-    edges: &mut [u32],
-    journal: &mut [u32],
-    answers: &mut [u32],
-    image: &mut [u32],
-) -> usize {
+// There is room for 1,001 vertices, 4,001 edges and 20,001 changes, so that each limit has a list on either side.
+fn whole(s: Setting, start: &[u32], rows: &[u64], calls: &[u32], image: &mut [u32]) -> usize {
+    let mut vertices = [0u32; 8008];
+    let mut edges = [0u32; 48012];
+    let mut journal = [0u32; 240012];
+    let mut answers = [0u32; 800];
     let junk = s.junk;
-    fill_all(vertices, edges, journal, answers, image, junk);
+    fill_all(
+        &mut vertices,
+        &mut edges,
+        &mut journal,
+        &mut answers,
+        image,
+        junk,
+    );
     let lent = s.lent;
     let r = run_on(
         start,
         rows,
         calls,
-        vertices,
-        edges,
-        journal,
-        answers,
+        &mut vertices,
+        &mut edges,
+        &mut journal,
+        &mut answers,
         image,
         lent,
     );
-    report(r, calls, vertices, edges, journal, answers, image, junk);
+    report(r, calls, &vertices, &edges, &journal, &answers, image, junk);
     r.words
 }
 
@@ -303,10 +306,6 @@ fn run_line(
     start: &[u32],
     rows: &[u64],
     calls: &mut [u32],
-    vertices: &mut [u32],
-    edges: &mut [u32],
-    journal: &mut [u32],
-    answers: &mut [u32],
     image: &mut [u32],
 ) -> Setting {
     let t = append(s, line, calls);
@@ -315,10 +314,6 @@ fn run_line(
         front(start, t.start),
         front_wide(rows, t.rows),
         front(calls, t.calls),
-        vertices,
-        edges,
-        journal,
-        answers,
         image,
     );
     let mut u = t;
@@ -333,25 +328,10 @@ fn one_line(
     start: &mut [u32],
     rows: &mut [u64],
     calls: &mut [u32],
-    vertices: &mut [u32],
-    edges: &mut [u32],
-    journal: &mut [u32],
-    answers: &mut [u32],
     image: &mut [u32],
 ) -> Setting {
     if leads(line, b"run") {
-        return run_line(
-            s,
-            line,
-            start,
-            rows,
-            calls,
-            vertices,
-            edges,
-            journal,
-            answers,
-            image,
-        );
+        return run_line(s, line, start, rows, calls, image);
     }
     set_line(s, line, start, rows, calls, image)
 }
@@ -364,10 +344,6 @@ fn at_byte(
     start: &mut [u32],
     rows: &mut [u64],
     calls: &mut [u32],
-    vertices: &mut [u32],
-    edges: &mut [u32],
-    journal: &mut [u32],
-    answers: &mut [u32],
     image: &mut [u32],
 ) -> Setting {
     if byte(bytes, i) != 10 {
@@ -376,18 +352,7 @@ fn at_byte(
     let line = between(bytes, s.from, i);
     let mut t = s;
     t.from = wrapping_add_usize(i, 1);
-    one_line(
-        t,
-        line,
-        start,
-        rows,
-        calls,
-        vertices,
-        edges,
-        journal,
-        answers,
-        image,
-    )
+    one_line(t, line, start, rows, calls, image)
 }
 
 fn lines(
@@ -396,10 +361,6 @@ fn lines(
     start: &mut [u32],
     rows: &mut [u64],
     calls: &mut [u32],
-    vertices: &mut [u32],
-    edges: &mut [u32],
-    journal: &mut [u32],
-    answers: &mut [u32],
     image: &mut [u32],
 ) {
     let mut t = s;
@@ -407,31 +368,14 @@ fn lines(
     while i < bytes.len() {
         let k = i;
         i += 1;
-        t = at_byte(
-            t,
-            bytes,
-            k,
-            start,
-            rows,
-            calls,
-            vertices,
-            edges,
-            journal,
-            answers,
-            image,
-        );
+        t = at_byte(t, bytes, k, start, rows, calls, image);
     }
 }
 
-// Room for 1,001 vertices, 4,001 edges and 20,001 changes, so that each limit has a list on either side.
 fn cases(bytes: &[u8]) {
     let mut start = [0u32; 400];
     let mut rows = [0u64; 80];
     let mut calls = [0u32; 2000];
-    let mut vertices = [0u32; 8008];
-    let mut edges = [0u32; 48012];
-    let mut journal = [0u32; 240012];
-    let mut answers = [0u32; 800];
     let mut image = [0u32; 35017];
     let s = Setting {
         lent: Lengths {
@@ -448,18 +392,7 @@ fn cases(bytes: &[u8]) {
         junk: 4294967295,
         from: 0,
     };
-    lines(
-        s,
-        bytes,
-        &mut start,
-        &mut rows,
-        &mut calls,
-        &mut vertices,
-        &mut edges,
-        &mut journal,
-        &mut answers,
-        &mut image,
-    );
+    lines(s, bytes, &mut start, &mut rows, &mut calls, &mut image);
 }
 
 fn main() {

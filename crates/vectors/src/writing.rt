@@ -34,6 +34,12 @@ pub fn named(name: &[u8], list: &[u32]) {
     text(b"\n");
 }
 
+pub fn part(which: u32, list: &[u32]) {
+    text(b"part");
+    spaced(which as u64);
+    named(b":", list);
+}
+
 // The code, the calls done, the words of the end image.
 pub fn result(code: u32, done: usize, count: usize) {
     text(b"result");

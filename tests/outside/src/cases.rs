@@ -37,7 +37,7 @@ fn take(line: &str, case: &mut Case, last: &mut Vec<u32>, out: &mut String) -> O
         "part" => {
             let [which]: [u32; 1] = numbers(rest)?.try_into().ok()?;
             let (from, len) = image::part(&case.start, which).unwrap_or((0, 0));
-            show(out, "part", &case.start[from..from + len]);
+            show(out, &format!("part {which}:"), &case.start[from..from + len]);
         }
         "run" => {
             case.calls.extend(calls(rest)?);
@@ -107,7 +107,8 @@ mod tests {
     #[test]
     fn a_list_and_a_part() {
         let text = "# one vertex\ntables 8 12 12\nlent 4 17\nrows 0\nstart 0 0 6 6 6 6\nrun 1 1 0 9, 30\nlast\npart 1\nwords 30 0\nrun\n";
-        let wanted = "# one vertex\nresult 0 2 9\ncall 1 1 0 9 0: 0 1\ncall 30 0 0 0 0: 0 1\nimage 1 0 6 9 9 9 1 0 9\nkept\npart 1 0 9\nresult 101 0 0\nkept\n";
+        let wanted =
+            "# one vertex\nresult 0 2 9\ncall 1 1 0 9 0: 0 1\ncall 30 0 0 0 0: 0 1\nimage 1 0 6 9 9 9 1 0 9\nkept\npart 1: 1 0 9\nresult 101 0 0\nkept\n";
         assert_eq!(written(text).as_deref(), Ok(wanted));
         assert_eq!(written("run\nrum\n"), Err(2));
         assert_eq!(written("run 1,,2\n"), Err(1));

@@ -6,12 +6,10 @@ use Rattle.vectors.proofs.lines.Statement.{statement}
 use Rattle.vectors.proofs.lines.Tie as tie
 
 abbrev Inv-loop : tie.InvT-loop
-Inv-loop bytes start₀ rows₀ calls₀ vertices₀ edges₀ journal₀ answers₀ image₀ t₀ i₀ start rows calls vertices edges journal answers image t i =
-    (length start ≡ length start₀) × (length rows ≡ length rows₀) × (length calls ≡ length calls₀) × (length vertices ≡ length vertices₀) × (length edges ≡ length edges₀) × (length journal ≡ length journal₀) × (length answers ≡ length answers₀) × (length image ≡ length image₀)
+Inv-loop bytes start₀ rows₀ calls₀ image₀ t₀ i₀ start rows calls image t i = (length start ≡ length start₀) × (length rows ≡ length rows₀) × (length calls ≡ length calls₀) × (length image ≡ length image₀)
 
 abbrev μ-loop : tie.MeasureT-loop
-μ-loop bytes start₀ rows₀ calls₀ vertices₀ edges₀ journal₀ answers₀ image₀ t₀ i₀ start rows calls vertices edges journal answers image t i =
-    length bytes - i
+μ-loop bytes start₀ rows₀ calls₀ image₀ t₀ i₀ start rows calls image t i = length bytes - i
 
 loop-holds : tie.Need-loop-holds Inv-loop μ-loop
 loop-holds c = search needs
@@ -40,18 +38,6 @@ same-length-3 c = search needs
 same-length-4 : tie.Need-same-length-4 Inv-loop μ-loop
 same-length-4 c = search needs
 
-same-length-5 : tie.Need-same-length-5 Inv-loop μ-loop
-same-length-5 c = search needs
-
-same-length-6 : tie.Need-same-length-6 Inv-loop μ-loop
-same-length-6 c = search needs
-
-same-length-7 : tie.Need-same-length-7 Inv-loop μ-loop
-same-length-7 c = search needs
-
-same-length-8 : tie.Need-same-length-8 Inv-loop μ-loop
-same-length-8 c = search needs
-
 returns : tie.Need-returns Inv-loop μ-loop
 returns c = search needs
 
@@ -70,8 +56,4 @@ lines-spec =
     same-length-2
     same-length-3
     same-length-4
-    same-length-5
-    same-length-6
-    same-length-7
-    same-length-8
     returns)
