@@ -1,5 +1,7 @@
 // The lines of the text: its first word, its numbers.
+use crate::words::low;
 use crate::words::put_wide;
+use crate::words::wide;
 use std::num::wrapping_add_u64;
 use std::num::wrapping_add_usize;
 
@@ -111,4 +113,11 @@ pub fn numbers(line: &[u8], out: &mut [u64]) -> usize {
     }
     let t = closed(s, out);
     t.count
+}
+
+// The first number of the line as a word.
+pub fn first(line: &[u8]) -> u32 {
+    let mut n = [0u64; 8];
+    numbers(line, &mut n);
+    low(wide(&n, 0))
 }

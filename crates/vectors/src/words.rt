@@ -69,7 +69,7 @@ pub fn copy(from: &[u32], n: usize, to: &mut [u32]) {
     }
 }
 
-fn low(x: u64) -> u32 {
+pub fn low(x: u64) -> u32 {
     (x % 4294967296) as u32
 }
 
@@ -78,15 +78,6 @@ pub fn narrow(from: &[u64], n: usize, to: &mut [u32], at: usize) {
     let mut i = 0;
     while i < n {
         put(to, wrapping_add_usize(at, i), low(wide(from, i)));
-        i += 1;
-    }
-}
-
-// The first n numbers of from.
-pub fn copy_wide(from: &[u64], n: usize, to: &mut [u64]) {
-    let mut i = 0;
-    while i < n {
-        put_wide(to, i, wide(from, i));
         i += 1;
     }
 }
