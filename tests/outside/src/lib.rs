@@ -1,5 +1,6 @@
 //! Document 01's plain machine, written from the document alone, and what the engine is compared with.
 
+pub mod cases;
 #[cfg(feature = "engine")]
 pub mod engine;
 pub mod examples;

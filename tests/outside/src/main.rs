@@ -5,7 +5,9 @@
 //!             [--chartrun PATH]                 and the program chartrun
 //!             [--vectors DIR]                   and the cases kept in DIR
 //!     outside --text                            chartrun on the plain machine: standard input to output
+//!     outside --cases FILE                      what the program vectors must write for the cases in FILE
 
+use outside::cases;
 use outside::gen;
 use outside::image;
 use outside::machine::{is_change, is_kind, Call, Graph};
@@ -44,6 +46,15 @@ fn main() {
                 std::io::stdout().write_all(&text::chartrun(&input)).unwrap();
                 return;
             }
+            "--cases" => {
+                let file = value();
+                let text = std::fs::read_to_string(&file).unwrap_or_else(|e| fail(format!("{file}: {e}")));
+                match cases::written(&text) {
+                    Ok(lines) => print!("{lines}"),
+                    Err(line) => fail(format!("{file}: line {line} is none of a case")),
+                }
+                return;
+            }
             _ => usage(),
         }
     }
@@ -55,7 +66,7 @@ fn main() {
 }
 
 fn usage() -> ! {
-    eprintln!("usage: outside [--self] [--seeds N] [--from K] [--chartrun PATH] [--vectors DIR] | outside --text");
+    eprintln!("usage: outside [--self] [--seeds N] [--from K] [--chartrun PATH] [--vectors DIR] | outside --text | outside --cases FILE");
     exit(2)
 }
 
@@ -184,7 +195,7 @@ fn demands(case: &Case, outcome: &Outcome, reached: &mut Reached) -> Result<(), 
 #[cfg(not(feature = "engine"))]
 mod compare {
     pub fn run(_: &super::Options) {
-        eprintln!("outside: built without the feature `engine`; only --self and --text run");
+        eprintln!("outside: built without the feature `engine`; only --self, --text and --cases run");
         std::process::exit(2)
     }
 }

@@ -1,0 +1,116 @@
+//! Cases as text, run on the plain machine: what the program `vectors` must write for them.
+//! tests/README.md describes the text.
+
+use crate::image;
+use crate::run::{Case, Outcome};
+use std::fmt::{Display, Write};
+
+/// What is written for a text of cases, or the number of the first line that is none.
+pub fn written(text: &str) -> Result<String, usize> {
+    let mut case = Case { start: vec![], rows: vec![], calls: vec![], vertices: 0, edges: 0, journal: 0, answers: 0, image: 0 };
+    let mut last = Vec::new();
+    let mut out = String::new();
+    for (i, line) in text.lines().enumerate() {
+        take(line, &mut case, &mut last, &mut out).ok_or(i + 1)?;
+    }
+    Ok(out)
+}
+
+fn take(line: &str, case: &mut Case, last: &mut Vec<u32>, out: &mut String) -> Option<()> {
+    if line.is_empty() || line.starts_with('#') {
+        writeln!(out, "{line}").unwrap();
+        return Some(());
+    }
+    let (name, rest) = line.split_once(' ').unwrap_or((line, ""));
+    match name {
+        "tables" => [case.vertices, case.edges, case.journal] = numbers(rest)?.try_into().ok()?,
+        "lent" => [case.answers, case.image] = numbers(rest)?.try_into().ok()?,
+        // What the slices hold before a run changes nothing.
+        "junk" => {
+            let [_]: [u32; 1] = numbers(rest)?.try_into().ok()?;
+        }
+        "rows" => case.rows = numbers(rest)?,
+        "start" => case.start = numbers(rest)?,
+        "last" => case.start = last.clone(),
+        "call" => case.calls.extend(calls(rest)?),
+        "words" => case.calls.extend(numbers::<u32>(rest)?),
+        "part" => {
+            let [which]: [u32; 1] = numbers(rest)?.try_into().ok()?;
+            let (from, len) = image::part(&case.start, which).unwrap_or((0, 0));
+            show(out, &format!("part {which}:"), &case.start[from..from + len]);
+        }
+        "run" => {
+            case.calls.extend(calls(rest)?);
+            *last = report(case, out);
+            case.calls.clear();
+        }
+        _ => return None,
+    }
+    Some(())
+}
+
+fn numbers<T: std::str::FromStr>(text: &str) -> Option<Vec<T>> {
+    text.split_whitespace().map(|word| word.parse().ok()).collect()
+}
+
+/// Calls with commas between, each of one to five words; those left out are 0.
+fn calls(text: &str) -> Option<Vec<u32>> {
+    let mut words = Vec::new();
+    for call in text.split(',').filter(|_| !text.trim().is_empty()) {
+        let mut call: Vec<u32> = numbers(call)?;
+        if call.is_empty() || call.len() > 5 {
+            return None;
+        }
+        call.resize(5, 0);
+        words.extend(call);
+    }
+    Some(words)
+}
+
+/// Writes the result and returns the words of the end image.
+fn report(case: &Case, out: &mut String) -> Vec<u32> {
+    let image = match case.run() {
+        Outcome::Refused(code) => {
+            show(out, "result", &[code, 0, 0]);
+            vec![]
+        }
+        Outcome::Done { answers, image } => {
+            show(out, "result", &[0, answers.len() / 2, image.len()]);
+            for (call, answer) in case.calls.chunks(5).zip(answers.chunks(2)) {
+                show_open(out, "call", call);
+                show(out, ":", answer);
+            }
+            show(out, "image", &image);
+            image
+        }
+    };
+    out.push_str("kept\n");
+    image
+}
+
+fn show_open<T: Display>(out: &mut String, name: &str, words: &[T]) {
+    out.push_str(name);
+    for word in words {
+        write!(out, " {word}").unwrap();
+    }
+}
+
+fn show<T: Display>(out: &mut String, name: &str, words: &[T]) {
+    show_open(out, name, words);
+    out.push('\n');
+}
+
+#[cfg(test)]
+mod tests {
+    use super::written;
+
+    #[test]
+    fn a_list_and_a_part() {
+        let text = "# one vertex\ntables 8 12 12\nlent 4 17\nrows 0\nstart 0 0 6 6 6 6\nrun 1 1 0 9, 30\nlast\npart 1\nwords 30 0\nrun\n";
+        let wanted =
+            "# one vertex\nresult 0 2 9\ncall 1 1 0 9 0: 0 1\ncall 30 0 0 0 0: 0 1\nimage 1 0 6 9 9 9 1 0 9\nkept\npart 1: 1 0 9\nresult 101 0 0\nkept\n";
+        assert_eq!(written(text).as_deref(), Ok(wanted));
+        assert_eq!(written("run\nrum\n"), Err(2));
+        assert_eq!(written("run 1,,2\n"), Err(1));
+    }
+}
