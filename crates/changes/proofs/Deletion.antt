@@ -158,7 +158,7 @@ module _ (a : ℕ) (b : Bounds) (j : Position) (s₀ : State) (t₀ : List ℕ) 
 
     -- the step is made
     pub deleted : c ≡ cost (DeleteVertex a) (current l) → 12 * u + 12 ≤ length t → (j′ : Position) (s′ : State) (t′ : List ℕ) → t′ ≡ rowed u e c t → s′ ≡ applyS e s
-        → j′ .place ≡ j .place + 1 → j′ .steps ≡ j .place + 1 → j′ .used ≡ u + 1 → Journal b j′ s′ t′ (extended (stepOf (DeleteVertex a) (current l)) l)
+        → j′ .place ≡ j .place + 1 → j′ .steps ≡ j .place + 1 → j′ .used ≡ j .used + c → Journal b j′ s′ t′ (extended (stepOf (DeleteVertex a) (current l)) l)
     unfolding stepOf
     deleted z f j′ s′ t′ d p x y v =
         let n : u + 1 ≡ suc u = omega arith in
@@ -168,7 +168,7 @@ module _ (a : ℕ) (b : Bounds) (j : Position) (s₀ : State) (t₀ : List ℕ) 
         ap (λ (i : Edit). apply i (k .graph)) is-last ∙ sym (deleted-last (k .graph) (k .holds .sound) a empty) ∙ sym (k .same) in
         let m : u + 1 ≡ j .used + c = omega (arith, k .left, z, ap length (edges-none (k .graph) (k .holds .sound) a empty)) in
         subst (λ (i : ℕ). Journal b j′ s′ t′ (extended (stepWith i (changed (DeleteVertex a) (current l))) l)) z
-        (open-close b j s₀ t₀ l c s′ t′ (u + 1) o j′ (changed (DeleteVertex a) (current l)) (omega (arith, z)) m (subst (λ (i : Graph). Holds s′ i) r h) x y v)
+        (open-close b j s₀ t₀ l c s′ t′ (u + 1) o j′ (changed (DeleteVertex a) (current l)) (omega (arith, z)) m (subst (λ (i : Graph). Holds s′ i) r h) x y (v ∙ sym m))
 
 -- ---- the loop over the edges: of any position whose rows end at `base`
 

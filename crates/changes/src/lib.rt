@@ -1,8 +1,7 @@
 // The sixteen changes as steps.
 use graph::Change;
 use tables::Head;
-use timeline::Moved;
-use timeline::Position;
+use timeline::Current;
 ghost use mathlib.Core.Path.{_≡_};
 ghost use mathlib.Core.List.{List};
 ghost use Prim.Native.Nat.{_+_, _*_, _≤_};
@@ -37,19 +36,18 @@ pub struct Rows {
 
 // Takes the edges of vertex a out, a row each, for a step of so many rows.
 fn remove_edges(
-    pos: Position,
-    head: Head,
+    x: Current,
     vt: &mut [u32],
     et: &mut [u32],
     t: &mut [u32],
     a: u32,
     rows: u32,
 ) -> Rows
-    requires { ⌜ ((b : Bounds) × (l : Timeline) × VertexThere (current l) a × (rows ≡ cost (DeleteVertex a) (current l)) × (12 * (pos .used + rows) ≤ length (now t)) × Journal b pos (st head (now vt) (now et)) (now t) l) ⌝ }
-    ensures { λ r. ⌜ ((b : Bounds) → (l : Timeline) → Journal b pos (st head (now (vt .entry)) (now (et .entry))) (now (t .entry)) l → Deleting a b pos (st head (now (vt .entry)) (now (et .entry))) (now (t .entry)) l rows (st (r .head) (now (vt .exit)) (now (et .exit))) (now (t .exit)) (r .used) 0) ⌝ }
+    requires { ⌜ ((b : Bounds) × (l : Timeline) × VertexThere (current l) a × (rows ≡ cost (DeleteVertex a) (current l)) × (12 * (x .position .used + rows) ≤ length (now t)) × Journal b (x .position) (st (x .head) (now vt) (now et)) (now t) l) ⌝ }
+    ensures { λ r. ⌜ ((b : Bounds) → (l : Timeline) → Journal b (x .position) (st (x .head) (now (vt .entry)) (now (et .entry))) (now (t .entry)) l → Deleting a b (x .position) (st (x .head) (now (vt .entry)) (now (et .entry))) (now (t .entry)) l rows (st (r .head) (now (vt .exit)) (now (et .exit))) (now (t .exit)) (r .used) 0) ⌝ }
 {
-    let mut h = head;
-    let mut u = pos.used;
+    let mut h = x.head;
+    let mut u = x.position.used;
     let mut w = tables::rows::first_word(vt, a);
     while w != 0 {
         let e = queries::plans::plan_remove_edge(et, w / 2);
@@ -62,49 +60,39 @@ fn remove_edges(
 
 // 2: the edges of vertex a and then a, as one step.
 fn delete_vertex(
-    pos: Position,
-    head: Head,
+    x: Current,
     vt: &mut [u32],
     et: &mut [u32],
     t: &mut [u32],
     a: u32,
     rows: u32,
-) -> Moved
-    requires { ⌜ ((b : Bounds) × (l : Timeline) × VertexThere (current l) a × (rows ≡ cost (DeleteVertex a) (current l)) × (12 * (pos .used + rows) ≤ length (now t)) × Journal b pos (st head (now vt) (now et)) (now t) l) ⌝ }
-    ensures { λ r. ⌜ ((b : Bounds) → (l : Timeline) → Journal b pos (st head (now (vt .entry)) (now (et .entry))) (now (t .entry)) l → Journal b (r .position) (st (r .head) (now (vt .exit)) (now (et .exit))) (now (t .exit)) (extended (stepOf (DeleteVertex a) (current l)) l)) ⌝ }
+) -> Current
+    requires { ⌜ ((b : Bounds) × (l : Timeline) × VertexThere (current l) a × (rows ≡ cost (DeleteVertex a) (current l)) × (12 * (x .position .used + rows) ≤ length (now t)) × Journal b (x .position) (st (x .head) (now vt) (now et)) (now t) l) ⌝ }
+    ensures { λ r. ⌜ ((b : Bounds) → (l : Timeline) → Journal b (x .position) (st (x .head) (now (vt .entry)) (now (et .entry))) (now (t .entry)) l → Journal b (r .position) (st (r .head) (now (vt .exit)) (now (et .exit))) (now (t .exit)) (extended (stepOf (DeleteVertex a) (current l)) l)) ⌝ }
 {
-    let r = remove_edges(pos, head, vt, et, t, a, rows);
+    let r = remove_edges(x, vt, et, t, a, rows);
     let bare = r.head;
     let u = r.used;
     let e = queries::plans::plan_remove_vertex(vt, a);
     let h = timeline::add_row(bare, vt, et, t, u, e, rows);
-    let place = pos.place + 1;
-    Moved {
-        head: h,
-        position: Position {
-            place,
-            steps: place,
-            used: u + 1,
-        },
-    }
+    timeline::lent::stepped(x, h, rows)
 }
 
 // A change as one step: what lies after p is cut, and the change is carried out and written down.
 pub fn make_step(
-    pos: Position,
-    head: Head,
+    x: Current,
     vt: &mut [u32],
     et: &mut [u32],
     t: &mut [u32],
     change: Change,
     rows: u32,
-) -> Moved
-    requires { ⌜ ((b : Bounds) × (l : Timeline) × Allowed b (current l) change × (rows ≡ cost change (current l)) × (12 * (pos .used + rows) ≤ length (now t)) × Journal b pos (st head (now vt) (now et)) (now t) l) ⌝ }
-    ensures { λ r. ⌜ ((b : Bounds) → (l : Timeline) → Allowed b (current l) change → Journal b pos (st head (now (vt .entry)) (now (et .entry))) (now (t .entry)) l → Journal b (r .position) (st (r .head) (now (vt .exit)) (now (et .exit))) (now (t .exit)) (extended (stepOf change (current l)) l)) ⌝ }
+) -> Current
+    requires { ⌜ ((b : Bounds) × (l : Timeline) × Allowed b (current l) change × (rows ≡ cost change (current l)) × (12 * (x .position .used + rows) ≤ length (now t)) × Journal b (x .position) (st (x .head) (now vt) (now et)) (now t) l) ⌝ }
+    ensures { λ r. ⌜ ((b : Bounds) → (l : Timeline) → Allowed b (current l) change → Journal b (x .position) (st (x .head) (now (vt .entry)) (now (et .entry))) (now (t .entry)) l → Journal b (r .position) (st (r .head) (now (vt .exit)) (now (et .exit))) (now (t .exit)) (extended (stepOf change (current l)) l)) ⌝ }
 {
     if let Change::DeleteVertex(a) = change {
-        return delete_vertex(pos, head, vt, et, t, a, rows);
+        return delete_vertex(x, vt, et, t, a, rows);
     }
-    let e = queries::plans::plan(head, vt, et, change);
-    timeline::add_step(pos, head, vt, et, t, e)
+    let e = queries::plans::plan(x.head, vt, et, change);
+    timeline::add_step(x, vt, et, t, e)
 }

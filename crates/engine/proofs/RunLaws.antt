@@ -76,18 +76,18 @@ module _ (start rows calls vertices edges journal answers image : List ℕ) (e :
         }
 
     module _ (m : Machine) (y : Version) (vt et t places : List ℕ) (r : Running w y vt et t places closed types m) where
-      pub holds-present : Holds (st (y .head) vt et) (present m)
+      pub holds-present : Holds (st (y .current .head) vt et) (present m)
       holds-present = versions.holds-present (boundsIn w) y vt et t places m (r .represents)
 
-      pub can-save-present : CanSave (st (y .head) vt et) (length image)
+      pub can-save-present : CanSave (st (y .current .head) vt et) (length image)
       can-save-present =
-          can-save (boundsIn w) (st (y .head) vt et) (present m) (length image) holds-present
+          can-save (boundsIn w) (st (y .current .head) vt et) (present m) (length image) holds-present
           (versions.within-present (boundsIn w) y vt et t places m (r .represents))
           (versions.sized-present (boundsIn w) y vt et t places m (r .represents))
           (omega (arith, past .end-room))
 
     pub ends : (y : Version) (vt et t places answers′ image′ : List ℕ) (n : ℕ) →
-        Went w (fresh (load start)) (callsOf calls) y vt et t places closed types answers answers′ → Saved (st (y .head) vt et) image image′ n →
+        Went w (fresh (load start)) (callsOf calls) y vt et t places closed types answers answers′ → Saved (st (y .current .head) vt et) image image′ n →
         ran (record { code = 0; done = length calls / 5; words = n }) answers′ image′ ≡ accepted l
     unfolding accepted
     ends y vt et t places answers′ image′ n g s =

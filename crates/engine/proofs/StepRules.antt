@@ -86,18 +86,18 @@ bounds-are w vt et t closed types s = λ i. record { vertices = sym (s .vertices
 -- ---- a change, from its code on
 
 module _ (w : World) (m : Machine) (x : Version) (vt et t places closed : List ℕ) (types : ℕ) (h : Running w x vt et t places closed types m) where
-  pub holds : Holds (st (x .head) vt et) (present m)
+  pub holds : Holds (st (x .current .head) vt et) (present m)
   holds = holds-present (boundsIn w) x vt et t places m (h .represents)
 
   pub sound : WellFormed (present m)
   sound = sound-present (boundsIn w) x vt et t places m (h .represents)
 
-  pub sized : Sized (boundsIn w) (st (x .head) vt et)
+  pub sized : Sized (boundsIn w) (st (x .current .head) vt et)
   sized = sized-present (boundsIn w) x vt et t places m (h .represents)
 
   module _ (c : Change) (k : ℕ) (e : (g : Graph) → HoldsVE vt et g → k ≡ changeCode (tableBounds vt et types) g c) where
     code-of : k ≡ changeCode (boundsIn w) (present m) c
-    code-of = e (present m) (x .head, holds) ∙ ap (λ (b : Bounds). changeCode b (present m) c) (bounds-are w vt et t closed types (h .setting))
+    code-of = e (present m) (x .current .head, holds) ∙ ap (λ (b : Bounds). changeCode b (present m) c) (bounds-are w vt et t closed types (h .setting))
 
     pub alter-refused : (k ≡ 0 → ⊥) → Answered w m (Alter c) x k 0 vt et t places closed types
     alter-refused d = refused-answers w m (Alter c) x k vt et t places closed types h (code-refused w m c k code-of d) d

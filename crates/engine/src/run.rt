@@ -49,7 +49,7 @@ fn accepted(
         calls,
         answers,
     );
-    let last = y.head;
+    let last = y.current.head;
     let words = save(last, vertices, edges, image);
     Outcome {
         code: 0,

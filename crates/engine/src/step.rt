@@ -123,7 +123,7 @@ fn ask(
     ensures { λ r. ⌜ ((w : World) → (m : Machine) → (t places : List ℕ) → Running w x (now (vt .entry)) (now (et .entry)) t places (now (closed .entry)) types m
         → Stays w m (the.Ask question) x r (now (vt .entry)) (now (et .entry)) t places (now (closed .entry)) types) ⌝ }
 {
-    let head = x.head;
+    let head = x.current.head;
     let r = reply(head, vt, et, closed, types, question);
     Done {
         version: x,

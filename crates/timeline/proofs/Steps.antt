@@ -13,12 +13,13 @@ use Rattle.history.specs.Machine.{Step, Timeline, begun, graphAt, current, plac
 use Rattle.history.proofs.Timelines.{length-cut}
 use Rattle.journal.specs.Rows.{costAt, rowed, Below}
 use Rattle.journal.proofs.RowLaws.{below-less, cost-agree, rowed-below, rowed-cost, rowed-length}
-use Rattle.tables.specs.Tables.{State}
+use Rattle.tables.specs.Tables.{State, st}
 use Rattle.tables.specs.Holds.{Holds}
 use Rattle.tables.specs.Edits.{applyS, Can}
 use Rattle.tables.specs.Capacities.{Sized}
 use Rattle.tables.proofs.GraphRead.{holds-one}
 use Rattle.timeline.specs.declared.Position.{Position}
+use Rattle.timeline.specs.declared.Current.{Current}
 use Rattle.timeline.specs.Tape.{made, Tape}
 use Rattle.timeline.specs.Steps.{rowsTo, StepAt, Laid, Journal, Open}
 use Rattle.timeline.proofs.Tapes.{tape-can, tape-sound, made-within, made-agree, tape-cut, made-more, tape-more}
@@ -130,6 +131,10 @@ back-of b j s t l k h =
       before = sym (r .next) ∙ u;
       fits = omega (arith, k .tape .within, k .tape .upto);
     }
+
+-- the record that a lending function hands back, at what its contract says of it
+pub at-record : (b : Bounds) (x y : Current) (vt et t : List ℕ) (l : Timeline) → x ≡ y → Journal b (y .position) (st (y .head) vt et) t l → Journal b (x .position) (st (x .head) vt et) t l
+at-record b x y vt et t l e = subst (λ (z : Current). Journal b (z .position) (st (z .head) vt et) t l) (sym e)
 
 pub journal-undo : (b : Bounds) (j j′ : Position) (s s′ : State) (t : List ℕ) (l : Timeline) → Journal b j s t l → 1 ≤ j .place → (c : ℕ) → c ≡ costAt t (j .used - 1)
     → j′ .place ≡ j .place - 1 → j′ .steps ≡ j .steps → j′ .used ≡ j .used - c

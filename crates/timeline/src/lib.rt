@@ -1,6 +1,9 @@
 // The steps in the journal: undo, redo, going to a place, and steps that are added.
 use graph::Edit;
 use tables::Head;
+
+pub mod lent; // the record that every change updates, lent to thin functions
+
 ghost use mathlib.Core.Path.{_≡_};
 ghost use mathlib.Core.List.{List};
 ghost use Prim.Native.Nat.{ℕ, suc, _+_, _-_, _*_, _^_, _≤_, _<_};
@@ -25,7 +28,8 @@ pub struct Position {
     pub used: u32,
 }
 
-pub struct Moved {
+// What every change updates: ends and counts of the graph, and the position.
+pub struct Current {
     pub head: Head,
     pub position: Position,
 }
@@ -83,43 +87,29 @@ fn redo_rows(head: Head, vt: &mut [u32], et: &mut [u32], t: &[u32], from: u32, t
 }
 
 // 19: one step back.
-pub fn undo(pos: Position, head: Head, vt: &mut [u32], et: &mut [u32], t: &[u32]) -> Moved
-    requires { ⌜ 1 ≤ pos .place ⌝ }
-    requires { ⌜ ((b : Bounds) × (l : Timeline) × Journal b pos (st head (now vt) (now et)) (now t) l) ⌝ }
-    ensures { λ r. ⌜ ((b : Bounds) → (l : Timeline) → Journal b pos (st head (now (vt .entry)) (now (et .entry))) (now (t .entry)) l → Journal b (r .position) (st (r .head) (now (vt .exit)) (now (et .exit))) (now (t .entry)) (placed (l .place - 1) l)) ⌝ }
+pub fn undo(x: Current, vt: &mut [u32], et: &mut [u32], t: &[u32]) -> Current
+    requires { ⌜ 1 ≤ x .position .place ⌝ }
+    requires { ⌜ ((b : Bounds) × (l : Timeline) × Journal b (x .position) (st (x .head) (now vt) (now et)) (now t) l) ⌝ }
+    ensures { λ r. ⌜ ((b : Bounds) → (l : Timeline) → Journal b (x .position) (st (x .head) (now (vt .entry)) (now (et .entry))) (now (t .entry)) l → Journal b (r .position) (st (r .head) (now (vt .exit)) (now (et .exit))) (now (t .entry)) (placed (l .place - 1) l)) ⌝ }
 {
-    let used = pos.used;
+    let used = x.position.used;
     let c = journal::cost_at(t, used - 1);
     let to = used - c;
-    let h = undo_rows(head, vt, et, t, used, to);
-    Moved {
-        head: h,
-        position: Position {
-            place: pos.place - 1,
-            steps: pos.steps,
-            used: to,
-        },
-    }
+    let h = undo_rows(x.head, vt, et, t, used, to);
+    lent::moved(x, h, x.position.place - 1, to)
 }
 
 // 20: one step on.
-pub fn redo(pos: Position, head: Head, vt: &mut [u32], et: &mut [u32], t: &[u32]) -> Moved
-    requires { ⌜ pos .place < pos .steps ⌝ }
-    requires { ⌜ ((b : Bounds) × (l : Timeline) × Journal b pos (st head (now vt) (now et)) (now t) l) ⌝ }
-    ensures { λ r. ⌜ ((b : Bounds) → (l : Timeline) → Journal b pos (st head (now (vt .entry)) (now (et .entry))) (now (t .entry)) l → Journal b (r .position) (st (r .head) (now (vt .exit)) (now (et .exit))) (now (t .entry)) (placed (suc (l .place)) l)) ⌝ }
+pub fn redo(x: Current, vt: &mut [u32], et: &mut [u32], t: &[u32]) -> Current
+    requires { ⌜ x .position .place < x .position .steps ⌝ }
+    requires { ⌜ ((b : Bounds) × (l : Timeline) × Journal b (x .position) (st (x .head) (now vt) (now et)) (now t) l) ⌝ }
+    ensures { λ r. ⌜ ((b : Bounds) → (l : Timeline) → Journal b (x .position) (st (x .head) (now (vt .entry)) (now (et .entry))) (now (t .entry)) l → Journal b (r .position) (st (r .head) (now (vt .exit)) (now (et .exit))) (now (t .entry)) (placed (suc (l .place)) l)) ⌝ }
 {
-    let used = pos.used;
+    let used = x.position.used;
     let c = journal::cost_at(t, used);
     let to = used + c;
-    let h = redo_rows(head, vt, et, t, used, to);
-    Moved {
-        head: h,
-        position: Position {
-            place: pos.place + 1,
-            steps: pos.steps,
-            used: to,
-        },
-    }
+    let h = redo_rows(x.head, vt, et, t, used, to);
+    lent::moved(x, h, x.position.place + 1, to)
 }
 
 // Carries an edit out and writes it down as row i.
@@ -142,101 +132,63 @@ pub fn add_row(
 }
 
 // An edit as a step of its own: what lies after p is cut, the edit is carried out and written down.
-pub fn add_step(
-    pos: Position,
-    head: Head,
-    vt: &mut [u32],
-    et: &mut [u32],
-    t: &mut [u32],
-    edit: Edit,
-) -> Moved
-    requires { ⌜ 12 * pos .used + 12 ≤ length (now t) ⌝ }
-    requires { ⌜ ((b : Bounds) × (l : Timeline) × EditIn b edit × Applies edit (current l) × Journal b pos (st head (now vt) (now et)) (now t) l) ⌝ }
-    ensures { λ r. ⌜ ((b : Bounds) → (l : Timeline) → EditIn b edit → Journal b pos (st head (now (vt .entry)) (now (et .entry))) (now (t .entry)) l → Journal b (r .position) (st (r .head) (now (vt .exit)) (now (et .exit))) (now (t .exit)) (extended (record { cost = 1; graph = apply edit (current l) }) l)) ⌝ }
+pub fn add_step(x: Current, vt: &mut [u32], et: &mut [u32], t: &mut [u32], edit: Edit) -> Current
+    requires { ⌜ 12 * x .position .used + 12 ≤ length (now t) ⌝ }
+    requires { ⌜ ((b : Bounds) × (l : Timeline) × EditIn b edit × Applies edit (current l) × Journal b (x .position) (st (x .head) (now vt) (now et)) (now t) l) ⌝ }
+    ensures { λ r. ⌜ ((b : Bounds) → (l : Timeline) → EditIn b edit → Journal b (x .position) (st (x .head) (now (vt .entry)) (now (et .entry))) (now (t .entry)) l → Journal b (r .position) (st (r .head) (now (vt .exit)) (now (et .exit))) (now (t .exit)) (extended (record { cost = 1; graph = apply edit (current l) }) l)) ⌝ }
 {
-    let used = pos.used;
-    let h = add_row(head, vt, et, t, used, edit, 1);
-    let place = pos.place + 1;
-    Moved {
-        head: h,
-        position: Position {
-            place,
-            steps: place,
-            used: used + 1,
-        },
-    }
+    let h = add_row(x.head, vt, et, t, x.position.used, edit, 1);
+    lent::stepped(x, h, 1)
 }
 
 pub struct Went {
-    pub head: Head,
-    pub position: Position,
+    pub current: Current,
     pub moved: u32,
 }
 
-fn go_back(pos: Position, head: Head, vt: &mut [u32], et: &mut [u32], t: &[u32], place: u32) -> Went
-    requires { ⌜ place ≤ pos .place ⌝ }
-    requires { ⌜ ((b : Bounds) × (l : Timeline) × Journal b pos (st head (now vt) (now et)) (now t) l) ⌝ }
-    ensures { λ r. ⌜ ((b : Bounds) → (l : Timeline) → Journal b pos (st head (now (vt .entry)) (now (et .entry))) (now (t .entry)) l → Journal b (r .position) (st (r .head) (now (vt .exit)) (now (et .exit))) (now (t .entry)) (placed place l)) ⌝ }
-    ensures { λ r. ⌜ r .moved ≡ pos .place - place ⌝ }
+fn go_back(x: Current, vt: &mut [u32], et: &mut [u32], t: &[u32], place: u32) -> Went
+    requires { ⌜ place ≤ x .position .place ⌝ }
+    requires { ⌜ ((b : Bounds) × (l : Timeline) × Journal b (x .position) (st (x .head) (now vt) (now et)) (now t) l) ⌝ }
+    ensures { λ r. ⌜ ((b : Bounds) → (l : Timeline) → Journal b (x .position) (st (x .head) (now (vt .entry)) (now (et .entry))) (now (t .entry)) l → Journal b (r .current .position) (st (r .current .head) (now (vt .exit)) (now (et .exit))) (now (t .entry)) (placed place l)) ⌝ }
+    ensures { λ r. ⌜ r .moved ≡ x .position .place - place ⌝ }
 {
-    let mut h = head;
-    let mut p = pos;
+    let mut y = x;
     let mut moved: u32 = 0;
-    while place < p.place {
-        let r = undo(p, h, vt, et, t);
-        h = r.head;
-        p = r.position;
+    while place < y.position.place {
+        y = undo(y, vt, et, t);
         moved += 1;
     }
-    Went {
-        head: h,
-        position: p,
-        moved,
-    }
+    Went { current: y, moved }
 }
 
-fn go_on(pos: Position, head: Head, vt: &mut [u32], et: &mut [u32], t: &[u32], place: u32) -> Went
-    requires { ⌜ pos .place ≤ place ⌝ }
-    requires { ⌜ place ≤ pos .steps ⌝ }
-    requires { ⌜ ((b : Bounds) × (l : Timeline) × Journal b pos (st head (now vt) (now et)) (now t) l) ⌝ }
-    ensures { λ r. ⌜ ((b : Bounds) → (l : Timeline) → Journal b pos (st head (now (vt .entry)) (now (et .entry))) (now (t .entry)) l → Journal b (r .position) (st (r .head) (now (vt .exit)) (now (et .exit))) (now (t .entry)) (placed place l)) ⌝ }
-    ensures { λ r. ⌜ r .moved ≡ place - pos .place ⌝ }
+fn go_on(x: Current, vt: &mut [u32], et: &mut [u32], t: &[u32], place: u32) -> Went
+    requires { ⌜ x .position .place ≤ place ⌝ }
+    requires { ⌜ place ≤ x .position .steps ⌝ }
+    requires { ⌜ ((b : Bounds) × (l : Timeline) × Journal b (x .position) (st (x .head) (now vt) (now et)) (now t) l) ⌝ }
+    ensures { λ r. ⌜ ((b : Bounds) → (l : Timeline) → Journal b (x .position) (st (x .head) (now (vt .entry)) (now (et .entry))) (now (t .entry)) l → Journal b (r .current .position) (st (r .current .head) (now (vt .exit)) (now (et .exit))) (now (t .entry)) (placed place l)) ⌝ }
+    ensures { λ r. ⌜ r .moved ≡ place - x .position .place ⌝ }
 {
-    let mut h = head;
-    let mut p = pos;
+    let mut y = x;
     let mut moved: u32 = 0;
-    while p.place < place {
-        let r = redo(p, h, vt, et, t);
-        h = r.head;
-        p = r.position;
+    while y.position.place < place {
+        y = redo(y, vt, et, t);
         moved += 1;
     }
-    Went {
-        head: h,
-        position: p,
-        moved,
-    }
+    Went { current: y, moved }
 }
 
 // To a place: the steps between are undone or redone; how many.
-pub fn go_to(
-    pos: Position,
-    head: Head,
-    vt: &mut [u32],
-    et: &mut [u32],
-    t: &[u32],
-    place: u32,
-) -> Went
-    requires { ⌜ place ≤ pos .steps ⌝ }
-    requires { ⌜ ((b : Bounds) × (l : Timeline) × Journal b pos (st head (now vt) (now et)) (now t) l) ⌝ }
-    ensures { λ r. ⌜ ((b : Bounds) → (l : Timeline) → Journal b pos (st head (now (vt .entry)) (now (et .entry))) (now (t .entry)) l → Journal b (r .position) (st (r .head) (now (vt .exit)) (now (et .exit))) (now (t .entry)) (placed place l)) ⌝ }
-    ensures { λ r. ⌜ r .moved ≡ distance (pos .place) place ⌝ }
+pub fn go_to(x: Current, vt: &mut [u32], et: &mut [u32], t: &[u32], place: u32) -> Went
+    requires { ⌜ place ≤ x .position .steps ⌝ }
+    requires { ⌜ ((b : Bounds) × (l : Timeline) × Journal b (x .position) (st (x .head) (now vt) (now et)) (now t) l) ⌝ }
+    ensures { λ r. ⌜ ((b : Bounds) → (l : Timeline) → Journal b (x .position) (st (x .head) (now (vt .entry)) (now (et .entry))) (now (t .entry)) l → Journal b (r .current .position) (st (r .current .head) (now (vt .exit)) (now (et .exit))) (now (t .entry)) (placed place l)) ⌝ }
+    ensures { λ r. ⌜ r .moved ≡ distance (x .position .place) place ⌝ }
 {
-    let p = pos.place;
+    let p = x.position.place;
     if place < p {
-        return go_back(pos, head, vt, et, t, place);
+        return go_back(x, vt, et, t, place);
     }
-    go_on(pos, head, vt, et, t, place)
+    go_on(x, vt, et, t, place)
 }
 
 // 22: the present graph is the start.

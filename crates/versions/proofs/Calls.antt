@@ -31,7 +31,7 @@ use Rattle.versions.proofs.Following.{obeys-refused, obeys-accepted, re
 none-at : (k q : ℕ) → noMarks k ≡ at q → ⊥
 none-at k q e = let z : _≡_ {A = ℕ} 0 1 = cc in omega arith
 
-pub version-start : (b : Bounds) (x : Version) (vt et t places : List ℕ) (g : Graph) → Journal b (x .position) (st (x .head) vt et) t (begun g) → Marked noMarks (x .set) places → Represents b x vt et t places (fresh g)
+pub version-start : (b : Bounds) (x : Version) (vt et t places : List ℕ) (g : Graph) → Journal b (x .current .position) (st (x .current .head) vt et) t (begun g) → Marked noMarks (x .set) places → Represents b x vt et t places (fresh g)
 version-start b x vt et t places g j k = record { journal = j; marks = k; inside = λ k q e. absurd (none-at k q e) }
 
 -- a mark that is set has the present place
@@ -88,12 +88,12 @@ module _ (b : Bounds) (x : Version) (vt et t places : List ℕ) (m : Machine) (h
         (sym (ap (λ (t : Bool). t ⇒ 10 else 0) (lt-ltb (freeOf (capacityOf t) (m .line)) (cost c (present m)) (omega (arith, free-is, e, l))))) (λ z. omega arith) h
 
     -- there are rows for it
-    pub change-room : n ≤ free → 12 * (x .position .used + n) ≤ length t
+    pub change-room : n ≤ free → 12 * (x .current .position .used + n) ≤ length t
     change-room l =
-        omega (arith, f, l, q, h .journal .tape .within, h .journal .tape .upto, journal-free b (x .position) (st (x .head) vt et) t (m .line) capacity (h .journal))
+        omega (arith, f, l, q, h .journal .tape .within, h .journal .tape .upto, journal-free b (x .current .position) (st (x .current .head) vt et) t (m .line) capacity (h .journal))
 
-    pub change-done : n ≤ free → (x′ : Version) (vt′ et′ t′ : List ℕ) → Journal b (x′ .position) (st (x′ .head) vt′ et′) t′ (extended (stepOf c (present m)) (m .line))
-        → Marked (cutMarks (x .position .place) (m .marks)) (x′ .set) places → Follows (changing (capacityOf t) c) m b x′ 0 n vt′ et′ t′ places
+    pub change-done : n ≤ free → (x′ : Version) (vt′ et′ t′ : List ℕ) → Journal b (x′ .current .position) (st (x′ .current .head) vt′ et′) t′ (extended (stepOf c (present m)) (m .line))
+        → Marked (cutMarks (x .current .position .place) (m .marks)) (x′ .set) places → Follows (changing (capacityOf t) c) m b x′ 0 n vt′ et′ t′ places
     change-done l x′ vt′ et′ t′ j k = accepted (changing (capacityOf t) c) m b x′ vt′ et′ t′ places n
         (ap (λ (t : Bool). t ⇒ 10 else 0) (le-ltb (freeOf (capacityOf t) (m .line)) (cost c (present m)) (omega (arith, free-is, e, l)))) e (record {
           journal = j;
@@ -101,16 +101,16 @@ module _ (b : Bounds) (x : Version) (vt et t places : List ℕ) (m : Machine) (h
           inside = λ i p y. omega (arith, left-low (m .line .place) p (m .marks i) y, length-cut (m .line .place) (m .line .steps) (stepOf c (present m)) (h .journal .inside));
         })
 
-  pub mark-steps : (k q : ℕ) → m .marks k ≡ at q → q ≤ x .position .steps
+  pub mark-steps : (k q : ℕ) → m .marks k ≡ at q → q ≤ x .current .position .steps
   mark-steps k q y = omega (arith, h .inside k q y, h .journal .steps)
 
   -- ---- 19 and 20
 
-  pub undo-refused : (n : ℕ) → n ≡ x .position .place → n ≡ 0 → Follows undoing m b x 14 0 vt et t places
+  pub undo-refused : (n : ℕ) → n ≡ x .current .position .place → n ≡ 0 → Follows undoing m b x 14 0 vt et t places
   undo-refused n e z = refused undoing m b x vt et t places 14
       (sym (ap (λ (t : Bool). t ⇒ 14 else 0) (eq-eqb (m .line .place) 0 (sym (h .journal .place) ∙ sym e ∙ z)))) (λ z. omega arith) h
 
-  pub moved-to : (x′ : Version) (vt′ et′ : List ℕ) (p : ℕ) → x′ .set ≡ x .set → Journal b (x′ .position) (st (x′ .head) vt′ et′) t (placed p (m .line))
+  pub moved-to : (x′ : Version) (vt′ et′ : List ℕ) (p : ℕ) → x′ .set ≡ x .set → Journal b (x′ .current .position) (st (x′ .current .head) vt′ et′) t (placed p (m .line))
       → Represents b x′ vt′ et′ t places (moves p m)
   moved-to x′ vt′ et′ p e j = record {
     journal = j;
@@ -118,20 +118,20 @@ module _ (b : Bounds) (x : Version) (vt et t places : List ℕ) (m : Machine) (h
     inside = h .inside;
   }
 
-  pub undo-done : (n : ℕ) → n ≡ x .position .place → n ≢ 0 → (x′ : Version) (vt′ et′ : List ℕ) → x′ .set ≡ x .set
-      → Journal b (x′ .position) (st (x′ .head) vt′ et′) t (placed (m .line .place - 1) (m .line)) → Follows undoing m b x′ 0 1 vt′ et′ t places
+  pub undo-done : (n : ℕ) → n ≡ x .current .position .place → n ≢ 0 → (x′ : Version) (vt′ et′ : List ℕ) → x′ .set ≡ x .set
+      → Journal b (x′ .current .position) (st (x′ .current .head) vt′ et′) t (placed (m .line .place - 1) (m .line)) → Follows undoing m b x′ 0 1 vt′ et′ t places
   undo-done n e z x′ vt′ et′ q j = accepted undoing m b x′ vt′ et′ t places 1
       (ap (λ (t : Bool). t ⇒ 14 else 0) (ne-eqb (m .line .place) 0 (λ y. z (e ∙ h .journal .place ∙ y)))) refl (moved-to x′ vt′ et′ (m .line .place - 1) q j)
 
-  pub redo-refused : x .position .place ≡ x .position .steps → Follows redoing m b x 14 0 vt et t places
+  pub redo-refused : x .current .position .place ≡ x .current .position .steps → Follows redoing m b x 14 0 vt et t places
   redo-refused e = refused redoing m b x vt et t places 14
       (sym (ap (λ (t : Bool). t ⇒ 14 else 0) (eq-eqb (m .line .place) (length (m .line .steps)) (sym (h .journal .place) ∙ e ∙ h .journal .steps)))) (λ z. omega arith) h
 
-  pub redo-room : x .position .place ≢ x .position .steps → x .position .place < x .position .steps
+  pub redo-room : x .current .position .place ≢ x .current .position .steps → x .current .position .place < x .current .position .steps
   redo-room n = omega (arith, h .journal .place, h .journal .steps, h .journal .inside, n)
 
-  pub redo-done : x .position .place ≢ x .position .steps → (x′ : Version) (vt′ et′ : List ℕ) → x′ .set ≡ x .set
-      → Journal b (x′ .position) (st (x′ .head) vt′ et′) t (placed (suc (m .line .place)) (m .line)) → Follows redoing m b x′ 0 1 vt′ et′ t places
+  pub redo-done : x .current .position .place ≢ x .current .position .steps → (x′ : Version) (vt′ et′ : List ℕ) → x′ .set ≡ x .set
+      → Journal b (x′ .current .position) (st (x′ .current .head) vt′ et′) t (placed (suc (m .line .place)) (m .line)) → Follows redoing m b x′ 0 1 vt′ et′ t places
   redo-done n x′ vt′ et′ q j = accepted redoing m b x′ vt′ et′ t places 1
       (ap (λ (t : Bool). t ⇒ 14 else 0) (ne-eqb (m .line .place) (length (m .line .steps)) (λ y. n (h .journal .place ∙ y ∙ sym (h .journal .steps))))) refl
       (moved-to x′ vt′ et′ (suc (m .line .place)) q j)
@@ -158,26 +158,26 @@ module _ (b : Bounds) (x : Version) (vt et t places : List ℕ) (m : Machine) (h
       pub mark-place : (other : ℕ) → getD places (a - 1) 0 ≡ placeOr other (m .marks a)
       mark-place other = place-is (m .marks) (x .set) places (h .marks) a (named .low) (named .high) other mark-stands
 
-      pub mark-inside : getD places (a - 1) 0 ≤ x .position .steps
+      pub mark-inside : getD places (a - 1) 0 ≤ x .current .position .steps
       mark-inside = go (m .marks a) refl mark-stands
         where
-          go : (s : Standing) → m .marks a ≡ s → stands s ≡ true → getD places (a - 1) 0 ≤ x .position .steps
+          go : (s : Standing) → m .marks a ≡ s → stands s ≡ true → getD places (a - 1) 0 ≤ x .current .position .steps
           go gone f g = absurd (let z : _≡_ {A = ℕ} 0 1 = cc in omega arith)
           go (at q) f g = omega (arith, h .inside a q f, h .marks .known a q f .2, h .journal .steps)
 
-      pub go-done : (q n : ℕ) → q ≡ getD places (a - 1) 0 → n ≡ distance (x .position .place) q → (x′ : Version) (vt′ et′ : List ℕ) → x′ .set ≡ x .set
-          → Journal b (x′ .position) (st (x′ .head) vt′ et′) t (placed q (m .line)) → Follows (going a) m b x′ 0 n vt′ et′ t places
+      pub go-done : (q n : ℕ) → q ≡ getD places (a - 1) 0 → n ≡ distance (x .current .position .place) q → (x′ : Version) (vt′ et′ : List ℕ) → x′ .set ≡ x .set
+          → Journal b (x′ .current .position) (st (x′ .current .head) vt′ et′) t (placed q (m .line)) → Follows (going a) m b x′ 0 n vt′ et′ t places
       go-done q n w d x′ vt′ et′ s j =
           let p : q ≡ placeOr (m .line .place) (m .marks a) = w ∙ mark-place (m .line .place) in
           accepted (going a) m b x′ vt′ et′ t places n (sym code-is ∙ z)
           (d ∙ ap (λ (k : ℕ). distance k q) (h .journal .place) ∙ ap (distance (m .line .place)) p)
           (moved-to x′ vt′ et′ (placeOr (m .line .place) (m .marks a)) s
-          (subst (λ (k : ℕ). Journal b (x′ .position) (st (x′ .head) vt′ et′) t (placed k (m .line))) p j))
+          (subst (λ (k : ℕ). Journal b (x′ .current .position) (st (x′ .current .head) vt′ et′) t (placed k (m .line))) p j))
 
-      pub drop-done : (x′ : Version) → x′ .head ≡ x .head → x′ .position ≡ x .position → Marked (marked a gone (m .marks)) (x′ .set) places
+      pub drop-done : (x′ : Version) → x′ .current ≡ x .current → Marked (marked a gone (m .marks)) (x′ .set) places
           → Follows (dropping a) m b x′ 0 0 vt et t places
-      drop-done x′ p q k = accepted (dropping a) m b x′ vt et t places 0 (sym code-is ∙ z) refl (record {
-        journal = rw (p, q) (h .journal);
+      drop-done x′ p k = accepted (dropping a) m b x′ vt et t places 0 (sym code-is ∙ z) refl (record {
+        journal = rw p (h .journal);
         marks = k;
         inside = drop-inside (m .marks) a (length (m .line .steps)) (h .inside);
       })
@@ -191,17 +191,17 @@ module _ (b : Bounds) (x : Version) (vt et t places : List ℕ) (m : Machine) (h
     pub set-refused : code ≢ 0 → Follows (setting a) m b x code 0 vt et t places
     set-refused n = refused (setting a) m b x vt et t places code set-code n h
 
-    pub set-done : code ≡ 0 → (x′ : Version) (places′ : List ℕ) → x′ .head ≡ x .head → x′ .position ≡ x .position
-        → Marked (marked a (at (x .position .place)) (m .marks)) (x′ .set) places′ → Follows (setting a) m b x′ 0 0 vt et t places′
-    set-done z x′ places′ p q k = accepted (setting a) m b x′ vt et t places′ 0 (sym set-code ∙ z) refl (record {
-      journal = rw (p, q) (h .journal);
+    pub set-done : code ≡ 0 → (x′ : Version) (places′ : List ℕ) → x′ .current ≡ x .current
+        → Marked (marked a (at (x .current .position .place)) (m .marks)) (x′ .set) places′ → Follows (setting a) m b x′ 0 0 vt et t places′
+    set-done z x′ places′ p k = accepted (setting a) m b x′ vt et t places′ 0 (sym set-code ∙ z) refl (record {
+      journal = rw p (h .journal);
       marks = subst (λ (i : ℕ). Marked (marked a (at i) (m .marks)) (x′ .set) places′) (h .journal .place) k;
       inside = set-inside (m .marks) a (m .line .place) (length (m .line .steps)) (h .journal .inside) (h .inside);
     })
 
   -- ---- 22
 
-  pub commit-done : (x′ : Version) (n : ℕ) → n ≡ x .position .place → Journal b (x′ .position) (st (x′ .head) vt et) t (begun (current (m .line)))
+  pub commit-done : (x′ : Version) (n : ℕ) → n ≡ x .current .position .place → Journal b (x′ .current .position) (st (x′ .current .head) vt et) t (begun (current (m .line)))
       → Marked noMarks (x′ .set) places → Follows committing m b x′ 0 n vt et t places
   commit-done x′ n e j k = accepted committing m b x′ vt et t places n refl (e ∙ h .journal .place) (record { journal = j; marks = k; inside = λ k q e. absurd (none-at k q e) })
 
@@ -221,7 +221,7 @@ module _ (b : Bounds) (x : Version) (vt et t places : List ℕ) (m : Machine) (h
   pub count-done : (n : ℕ) → n ≡ standing (m .marks) → Obeys counting m 0 n
   count-done n e = obeys-accepted counting m n refl e
 
-  pub rows-fit : x .position .used ≤ capacityOf t
+  pub rows-fit : x .current .position .used ≤ capacityOf t
   rows-fit = omega (arith, h .journal .tape .within, h .journal .tape .upto)
 
   pub free-done : (n c : ℕ) → c ≡ capacityOf t → n ≡ freeOf c (m .line) → Obeys (freeing (capacityOf t)) m 0 n

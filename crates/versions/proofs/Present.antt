@@ -12,14 +12,14 @@ use Rattle.versions.specs.Represents.{Represents}
 
 module _ (b : Bounds) (x : Version) (vt et t places : List ℕ) (m : Machine) (h : Represents b x vt et t places m) where
   -- the tables hold Gp
-  pub holds-present : Holds (st (x .head) vt et) (present m)
-  holds-present = holds-current b (x .position) (st (x .head) vt et) t (m .line) (h .journal)
+  pub holds-present : Holds (st (x .current .head) vt et) (present m)
+  holds-present = holds-current b (x .current .position) (st (x .current .head) vt et) t (m .line) (h .journal)
 
   pub sound-present : WellFormed (present m)
-  sound-present = sound-current b (x .position) (st (x .head) vt et) t (m .line) (h .journal)
+  sound-present = sound-current b (x .current .position) (st (x .current .head) vt et) t (m .line) (h .journal)
 
   pub within-present : Within b (present m)
-  within-present = within-current b (x .position) (st (x .head) vt et) t (m .line) (h .journal)
+  within-present = within-current b (x .current .position) (st (x .current .head) vt et) t (m .line) (h .journal)
 
-  pub sized-present : Sized b (st (x .head) vt et)
+  pub sized-present : Sized b (st (x .current .head) vt et)
   sized-present = h .journal .tape .sized

@@ -19,7 +19,7 @@ capacityOf t = length t / 12
 
 -- the version x, the tables, the journal and the marks' places stand for the machine m
 pub record Represents (b : Bounds) (x : Version) (vt et t places : List ℕ) (m : Machine) : Type 0 where
-  pub journal : Journal b (x .position) (st (x .head) vt et) t (m .line)
+  pub journal : Journal b (x .current .position) (st (x .current .head) vt et) t (m .line)
   pub marks : Marked (m .marks) (x .set) places
   pub inside : (k q : ℕ) → m .marks k ≡ at q → q ≤ length (m .line .steps)
 

@@ -1,6 +1,7 @@
 // The graph with its history: each history call on the tables, the journal and the marks.
 use graph::Change;
 use tables::Head;
+use timeline::Current;
 use timeline::Position;
 ghost use mathlib.Core.Path.{_≡_};
 ghost use mathlib.Core.List.{List};
@@ -17,10 +18,9 @@ ghost use Rattle.tables.specs.Holds.{Holds};
 ghost use Rattle.tables.specs.Capacities.{Sized};
 ghost use Rattle.versions.specs.Represents.{capacityOf, Represents, Follows, namedCode, freshCode, bothCode};
 
-// The ends and counts of the graph, the position in the journal, the set of standing marks.
+// The record that every change updates, and the set of standing marks.
 pub struct Version {
-    pub head: Head,
-    pub position: Position,
+    pub current: Current,
     pub set: u64,
 }
 
@@ -43,8 +43,7 @@ pub fn start(head: Head) -> Version
     let position = timeline::begin();
     let set = marks::no_marks();
     Version {
-        head,
-        position,
+        current: Current { head, position },
         set,
     }
 }
@@ -71,11 +70,10 @@ pub fn change(
     requires { ⌜ ((b : Bounds) × (m : Machine) × Allowed b (present m) change × Represents b x (now vt) (now et) (now t) (now places) m) ⌝ }
     ensures { λ r. ⌜ ((b : Bounds) → (m : Machine) → Allowed b (present m) change → Represents b x (now (vt .entry)) (now (et .entry)) (now (t .entry)) (now (places .entry)) m → Follows (changing (capacityOf (now (t .entry))) change) m b (r .version) (r .code) (r .number) (now (vt .exit)) (now (et .exit)) (now (t .exit)) (now (places .entry))) ⌝ }
 {
-    let head = x.head;
-    let position = x.position;
-    let cost = changes::cost_of(head, vt, et, change);
+    let old = x.current;
+    let cost = changes::cost_of(old.head, vt, et, change);
     let capacity = (t.len() / 12) as u32;
-    let free = timeline::free_changes(position, capacity);
+    let free = timeline::free_changes(old.position, capacity);
     if free < cost {
         return Done {
             version: x,
@@ -83,16 +81,10 @@ pub fn change(
             number: 0,
         };
     }
-    let r = changes::make_step(position, head, vt, et, t, change, cost);
-    let h = r.head;
-    let p = r.position;
-    let set = cut(x.set, position, places);
+    let current = changes::make_step(old, vt, et, t, change, cost);
+    let set = cut(x.set, old.position, places);
     Done {
-        version: Version {
-            head: h,
-            position: p,
-            set,
-        },
+        version: Version { current, set },
         code: 0,
         number: cost,
     }
@@ -103,8 +95,7 @@ pub fn undo(x: Version, vt: &mut [u32], et: &mut [u32], t: &[u32]) -> Done
     requires { ⌜ ((b : Bounds) × (places : List ℕ) × (m : Machine) × Represents b x (now vt) (now et) (now t) places m) ⌝ }
     ensures { λ r. ⌜ ((b : Bounds) → (places : List ℕ) → (m : Machine) → Represents b x (now (vt .entry)) (now (et .entry)) (now (t .entry)) places m → Follows undoing m b (r .version) (r .code) (r .number) (now (vt .exit)) (now (et .exit)) (now (t .entry)) places) ⌝ }
 {
-    let head = x.head;
-    let position = x.position;
+    let position = x.current.position;
     if position.place == 0 {
         return Done {
             version: x,
@@ -112,13 +103,10 @@ pub fn undo(x: Version, vt: &mut [u32], et: &mut [u32], t: &[u32]) -> Done
             number: 0,
         };
     }
-    let r = timeline::undo(position, head, vt, et, t);
-    let h = r.head;
-    let p = r.position;
+    let current = timeline::undo(x.current, vt, et, t);
     Done {
         version: Version {
-            head: h,
-            position: p,
+            current,
             set: x.set,
         },
         code: 0,
@@ -131,8 +119,7 @@ pub fn redo(x: Version, vt: &mut [u32], et: &mut [u32], t: &[u32]) -> Done
     requires { ⌜ ((b : Bounds) × (places : List ℕ) × (m : Machine) × Represents b x (now vt) (now et) (now t) places m) ⌝ }
     ensures { λ r. ⌜ ((b : Bounds) → (places : List ℕ) → (m : Machine) → Represents b x (now (vt .entry)) (now (et .entry)) (now (t .entry)) places m → Follows redoing m b (r .version) (r .code) (r .number) (now (vt .exit)) (now (et .exit)) (now (t .entry)) places) ⌝ }
 {
-    let head = x.head;
-    let position = x.position;
+    let position = x.current.position;
     if position.place == position.steps {
         return Done {
             version: x,
@@ -140,13 +127,10 @@ pub fn redo(x: Version, vt: &mut [u32], et: &mut [u32], t: &[u32]) -> Done
             number: 0,
         };
     }
-    let r = timeline::redo(position, head, vt, et, t);
-    let h = r.head;
-    let p = r.position;
+    let current = timeline::redo(x.current, vt, et, t);
     Done {
         version: Version {
-            head: h,
-            position: p,
+            current,
             set: x.set,
         },
         code: 0,
@@ -214,8 +198,6 @@ pub fn go_to_mark(
     requires { ⌜ ((b : Bounds) × (m : Machine) × Represents b x (now vt) (now et) (now t) (now places) m) ⌝ }
     ensures { λ r. ⌜ ((b : Bounds) → (m : Machine) → Represents b x (now (vt .entry)) (now (et .entry)) (now (t .entry)) (now (places .entry)) m → Follows (going a) m b (r .version) (r .code) (r .number) (now (vt .exit)) (now (et .exit)) (now (t .entry)) (now (places .entry))) ⌝ }
 {
-    let head = x.head;
-    let position = x.position;
     let code = named(x.set, a);
     if code != 0 {
         return Done {
@@ -225,13 +207,11 @@ pub fn go_to_mark(
         };
     }
     let q = marks::place_of(places, a);
-    let r = timeline::go_to(position, head, vt, et, t, q);
-    let h = r.head;
-    let p = r.position;
+    let r = timeline::go_to(x.current, vt, et, t, q);
+    let current = r.current;
     Done {
         version: Version {
-            head: h,
-            position: p,
+            current,
             set: x.set,
         },
         code: 0,
@@ -243,8 +223,7 @@ pub fn go_to_mark(
 pub fn set_mark(x: Version, places: &mut [u32; 64], a: u32) -> Done
     ensures { λ r. ⌜ ((b : Bounds) → (vt et t : List ℕ) → (m : Machine) → Represents b x vt et t (now (places .entry)) m → Follows (setting a) m b (r .version) (r .code) (r .number) vt et t (now (places .exit))) ⌝ }
 {
-    let head = x.head;
-    let position = x.position;
+    let current = x.current;
     let code = unnamed(x.set, a);
     if code != 0 {
         return Done {
@@ -253,13 +232,9 @@ pub fn set_mark(x: Version, places: &mut [u32; 64], a: u32) -> Done
             number: 0,
         };
     }
-    let set = marks::set_mark(x.set, places, a, position.place);
+    let set = marks::set_mark(x.set, places, a, current.position.place);
     Done {
-        version: Version {
-            head,
-            position,
-            set,
-        },
+        version: Version { current, set },
         code: 0,
         number: 0,
     }
@@ -269,8 +244,7 @@ pub fn set_mark(x: Version, places: &mut [u32; 64], a: u32) -> Done
 pub fn drop_mark(x: Version, a: u32) -> Done
     ensures { λ r. ⌜ ((b : Bounds) → (vt et t places : List ℕ) → (m : Machine) → Represents b x vt et t places m → Follows (dropping a) m b (r .version) (r .code) (r .number) vt et t places) ⌝ }
 {
-    let head = x.head;
-    let position = x.position;
+    let current = x.current;
     let code = named(x.set, a);
     if code != 0 {
         return Done {
@@ -281,11 +255,7 @@ pub fn drop_mark(x: Version, a: u32) -> Done
     }
     let set = marks::drop_mark(x.set, a);
     Done {
-        version: Version {
-            head,
-            position,
-            set,
-        },
+        version: Version { current, set },
         code: 0,
         number: 0,
     }
@@ -295,14 +265,13 @@ pub fn drop_mark(x: Version, a: u32) -> Done
 pub fn commit(x: Version) -> Done
     ensures { λ r. ⌜ ((b : Bounds) → (vt et t places : List ℕ) → (m : Machine) → Represents b x vt et t places m → Follows committing m b (r .version) (r .code) (r .number) vt et t places) ⌝ }
 {
-    let head = x.head;
-    let old = x.position;
+    let head = x.current.head;
+    let old = x.current.position;
     let position = timeline::commit(old);
     let set = marks::no_marks();
     Done {
         version: Version {
-            head,
-            position,
+            current: Current { head, position },
             set,
         },
         code: 0,
@@ -343,10 +312,9 @@ pub fn free_changes(x: Version, t: &[u32]) -> Answer
     requires { ⌜ ((b : Bounds) × (vt et places : List ℕ) × (m : Machine) × Represents b x vt et (now t) places m) ⌝ }
     ensures { λ r. ⌜ ((b : Bounds) → (vt et places : List ℕ) → (m : Machine) → Represents b x vt et (now (t .entry)) places m → Obeys (freeing (capacityOf (now (t .entry)))) m (r .code) (r .number)) ⌝ }
 {
-    let position = x.position;
     let capacity = (t.len() / 12) as u32;
     Answer {
         code: 0,
-        number: timeline::free_changes(position, capacity),
+        number: timeline::free_changes(x.current.position, capacity),
     }
 }

@@ -17,7 +17,7 @@ delete-vertex-requires c κs =
     let s = c .before .before .before .before .before .before .before .before .before in
     let a = s .args in
     let p = s .pre in
-    let s₀ = st (a .head) (a .vt .now) (a .et .now) in
+    let s₀ = st (a .x .head) (a .vt .now) (a .et .now) in
     let e = c .before .before .before .before .change .given .1 in
     (p .0, p .1, subst (Allowed (p .0) (current (p .1))) e (p .2), p .3 ∙ ap (λ (x : Change). cost x (current (p .1))) e, p .4, p .5)
 
@@ -40,18 +40,18 @@ plan-requires c κs =
     let s = c .before .before .before .before .before .before in
     let a = s .args in
     let p = s .pre in
-    let s₀ = st (a .head) (a .vt .now) (a .et .now) in
-    can-plan (p .0) (a .pos) s₀ (a .t .now) (p .1) (p .5) (a .change) (p .2)
+    let s₀ = st (a .x .head) (a .vt .now) (a .et .now) in
+    can-plan (p .0) (a .x .position) s₀ (a .t .now) (p .1) (p .5) (a .change) (p .2)
 
 add-step-requires : tie.Need-add-step-requires
 add-step-requires c κs =
     let s = c .before .before .before .before .before .before .before .before .before .before in
     let a = s .args in
     let p = s .pre in
-    let s₀ = st (a .head) (a .vt .now) (a .et .now) in
+    let s₀ = st (a .x .head) (a .vt .now) (a .et .now) in
     let e = c .before .before .before .plan in
     let o = single-by (a .change) (c .before .before .before .before .before .before .match .keys2) in
-    (omega (arith, p .3, p .4, o .one (current (p .1))), (p .0, p .1, plan-inside (p .0) (a .pos) s₀ (a .t .now) (p .1) (p .5) (a .change) (p .2) (e .result) (e .ensures), plan-applies (p .0) (a .pos) s₀ (a .t .now) (p .1) (p .5) (a .change) (p .2) (e .result) (e .ensures) o, p .5))
+    (omega (arith, p .3, p .4, o .one (current (p .1))), (p .0, p .1, plan-inside (p .0) (a .x .position) s₀ (a .t .now) (p .1) (p .5) (a .change) (p .2) (e .result) (e .ensures), plan-applies (p .0) (a .x .position) s₀ (a .t .now) (p .1) (p .5) (a .change) (p .2) (e .result) (e .ensures) o, p .5))
 
 same-length-4 : tie.Need-same-length-4
 same-length-4 c = search needs
@@ -65,12 +65,12 @@ same-length-6 c = search needs
 returns-2 : tie.Need-returns-2
 returns-2 c =
     let a = c .before .before .before .before .before .before .before .before .before .before .before .before .before .before .before .before .before .args in
-    let s₀ = st (a .head) (a .vt .now) (a .et .now) in
+    let s₀ = st (a .x .head) (a .vt .now) (a .et .now) in
     let e = c .before .before .before .before .before .before .before .before .before .before .plan in
     let o = single-by (a .change) (c .before .before .before .before .before .before .before .before .before .before .before .before .before .match .keys2) in
     λ b l i j.
-    step-made b (a .pos) s₀ (a .t .now) l j (a .change) i (e .result) (e .ensures) o _ _ _
-    (c .before .before .before .before .before .before .add-step .ensures b l (plan-inside b (a .pos) s₀ (a .t .now) l j (a .change) i (e .result) (e .ensures)) j)
+    step-made b (a .x .position) s₀ (a .t .now) l j (a .change) i (e .result) (e .ensures) o _ _ _
+    (c .before .before .before .before .before .before .add-step .ensures b l (plan-inside b (a .x .position) s₀ (a .t .now) l j (a .change) i (e .result) (e .ensures)) j)
 
 pub make-step-spec : {M : Type 1} → statement M
 make-step-spec =

@@ -9,11 +9,11 @@ use Rattle.versions.proofs.change.Tie as tie
 
 cost-of-requires : tie.Need-cost-of-requires
 cost-of-requires c κs =
-    let s = c .before .before .before .before .before .before .before in
+    let s = c .before .before .before .before .before .before in
     let a = s .args in
     let p = s .pre in
-    let s₀ = st (a .x .head) (a .vt .now) (a .et .now) in
-    (p .0, present (p .1), p .3 .journal .tape .sized, holds-current (p .0) (a .x .position) s₀ (a .t .now) (p .1 .line) (p .3 .journal), p .2)
+    let s₀ = st (a .x .current .head) (a .vt .now) (a .et .now) in
+    (p .0, present (p .1), p .3 .journal .tape .sized, holds-current (p .0) (a .x .current .position) s₀ (a .t .now) (p .1 .line) (p .3 .journal), p .2)
 
 cast-capacity : tie.Need-cast-capacity
 cast-capacity c = search needs
@@ -29,18 +29,18 @@ same-length-2 c = search needs
 
 returns : tie.Need-returns
 returns c =
-    let a = c .before .before .before .before .before .before .before .before .before .before .args in
-    let s₀ = st (a .x .head) (a .vt .now) (a .et .now) in
+    let a = c .before .before .before .before .before .before .before .before .before .args in
+    let s₀ = st (a .x .current .head) (a .vt .now) (a .et .now) in
     λ b m i h.
-    change-refused b (a .x) (a .vt .now) (a .et .now) (a .t .now) (a .places .now) m h (a .change) _ _ (c .before .before .cost-of .ensures b (present m) (holds-current b (a .x .position) s₀ (a .t .now) (m .line) (h .journal)) i) _ refl (c .before .free-changes .ensures b s₀ (a .t .now) (m .line) (h .journal)) (c .if1 .taken)
+    change-refused b (a .x) (a .vt .now) (a .et .now) (a .t .now) (a .places .now) m h (a .change) _ _ (c .before .before .cost-of .ensures b (present m) (holds-current b (a .x .current .position) s₀ (a .t .now) (m .line) (h .journal)) i) _ refl (c .before .free-changes .ensures b s₀ (a .t .now) (m .line) (h .journal)) (c .if1 .taken)
 
 make-step-requires : tie.Need-make-step-requires
 make-step-requires c κs =
-    let s = c .before .before .before .before .before .before .before .before .before .before .before .before .before in
+    let s = c .before .before .before .before .before .before .before .before .before .before .before .before in
     let a = s .args in
     let p = s .pre in
-    let s₀ = st (a .x .head) (a .vt .now) (a .et .now) in
-    let e = c .before .before .before .before .before .cost-of .ensures (p .0) (present (p .1)) (holds-current (p .0) (a .x .position) s₀ (a .t .now) (p .1 .line) (p .3 .journal)) (p .2) in
+    let s₀ = st (a .x .current .head) (a .vt .now) (a .et .now) in
+    let e = c .before .before .before .before .before .cost-of .ensures (p .0) (present (p .1)) (holds-current (p .0) (a .x .current .position) s₀ (a .t .now) (p .1 .line) (p .3 .journal)) (p .2) in
     (p .0, p .1 .line, p .2, e, change-room (p .0) (a .x) (a .vt .now) (a .et .now) (a .t .now) (a .places .now) (p .1) (p .3) (a .change) _ _ e _ refl (c .before .before .before .before .free-changes .ensures (p .0) s₀ (a .t .now) (p .1 .line) (p .3 .journal)) (c .before .before .before .if1 .left), p .3 .journal)
 
 cut-requires : tie.Need-cut-requires
@@ -57,10 +57,10 @@ same-length-5 c = search needs
 
 returns-2 : tie.Need-returns-2
 returns-2 c =
-    let a = c .before .before .before .before .before .before .before .before .before .before .before .before .before .before .before .before .before .before .before .before .before .before .before .args in
-    let s₀ = st (a .x .head) (a .vt .now) (a .et .now) in
+    let a = c .before .before .before .before .before .before .before .before .before .before .before .before .before .before .before .before .before .before .before .before .args in
+    let s₀ = st (a .x .current .head) (a .vt .now) (a .et .now) in
     λ b m i h.
-    change-done b (a .x) (a .vt .now) (a .et .now) (a .t .now) (a .places .now) m h (a .change) _ _ (c .before .before .before .before .before .before .before .before .before .before .before .before .before .before .before .cost-of .ensures b (present m) (holds-current b (a .x .position) s₀ (a .t .now) (m .line) (h .journal)) i) _ refl (c .before .before .before .before .before .before .before .before .before .before .before .before .before .before .free-changes .ensures b s₀ (a .t .now) (m .line) (h .journal)) (c .before .before .before .before .before .before .before .before .before .before .before .before .before .if1 .left) _ _ _ _ (c .before .before .before .before .before .before .before .before .before .make-step .ensures b (m .line) i (h .journal))
+    change-done b (a .x) (a .vt .now) (a .et .now) (a .t .now) (a .places .now) m h (a .change) _ _ (c .before .before .before .before .before .before .before .before .before .before .before .before .before .cost-of .ensures b (present m) (holds-current b (a .x .current .position) s₀ (a .t .now) (m .line) (h .journal)) i) _ refl (c .before .before .before .before .before .before .before .before .before .before .before .before .free-changes .ensures b s₀ (a .t .now) (m .line) (h .journal)) (c .before .before .before .before .before .before .before .before .before .before .before .if1 .left) _ _ _ _ (c .before .before .before .before .before .before .before .make-step .ensures b (m .line) i (h .journal))
     (c .cut .ensures (m .marks) (h .marks) (mark-steps b (a .x) (a .vt .now) (a .et .now) (a .t .now) (a .places .now) m h))
 
 pub change-spec : {M : Type 1} → statement M

@@ -11,20 +11,20 @@ named-requires c κs = search needs
 returns : tie.Need-returns
 returns c =
     λ b vt et t places m h.
-    let a = c .before .before .before .before .args in
+    let a = c .before .before .before .args in
     drop-refused b (a .x) vt et t places m h (a .a) _ (c .before .named .ensures) (c .if1 .taken)
 
 drop-mark-requires : tie.Need-drop-mark-requires
 drop-mark-requires c κs =
-    let a = c .before .before .before .before .args in
+    let a = c .before .before .before .args in
     let n = named-none (a .x .set) (a .a) _ (c .before .named .ensures) (c .if1 .left) in
     (n .low, n .high, n .stands)
 
 returns-2 : tie.Need-returns-2
 returns-2 c =
     λ b vt et t places m h.
-    let a = c .before .before .before .before .before .args in
-    drop-done b (a .x) vt et t places m h (a .a) _ (c .before .before .named .ensures) (c .before .if1 .left) _ refl refl (c .drop-mark .ensures places (m .marks) (h .marks))
+    let a = c .before .before .before .before .args in
+    drop-done b (a .x) vt et t places m h (a .a) _ (c .before .before .named .ensures) (c .before .if1 .left) _ refl (c .drop-mark .ensures places (m .marks) (h .marks))
 
 pub drop-mark-spec : {M : Type 1} → statement M
 drop-mark-spec = tie.close (tie.spec named-requires returns drop-mark-requires returns-2)

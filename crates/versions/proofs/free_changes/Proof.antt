@@ -13,7 +13,7 @@ free-changes-requires c κs = search needs
 returns : tie.Need-returns
 returns c =
     λ b vt et places m h.
-    let a = c .before .before .before .args in
+    let a = c .before .before .args in
     free-done b (a .x) vt et (a .t .now) places m h _ _ refl (c .free-changes .ensures b _ (a .t .now) (m .line) (h .journal))
 
 pub free-changes-spec : {M : Type 1} → statement M

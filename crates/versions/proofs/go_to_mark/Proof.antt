@@ -12,21 +12,21 @@ named-requires c κs = search needs
 returns : tie.Need-returns
 returns c =
     λ b m h.
-    let a = c .before .before .before .before .before .before .before .args in
+    let a = c .before .before .before .before .before .args in
     go-refused b (a .x) (a .vt .now) (a .et .now) (a .t .now) (a .places .now) m h (a .a) _ (c .before .named .ensures) (c .if1 .taken)
 
 place-of-requires : tie.Need-place-of-requires
 place-of-requires c κs =
-    let a = c .before .before .before .before .before .before .before .args in
+    let a = c .before .before .before .before .before .args in
     let n = named-none (a .x .set) (a .a) _ (c .before .named .ensures) (c .if1 .left) in
     (n .low, n .high)
 
 go-to-requires : tie.Need-go-to-requires
 go-to-requires c κs =
-    let s = c .before .before .before .before .before .before .before .before .before .before in
+    let s = c .before .before .before .before .before .before .before .before in
     let a = s .args in
     let p = s .pre in
-    (subst (λ (q : ℕ). q ≤ a .x .position .steps) (sym (c .before .before .place-of .ensures)) (mark-inside (p .0) (a .x) (a .vt .now) (a .et .now) (a .t .now) (a .places .now) (p .1) (p .2) (a .a) _ (c .before .before .before .before .named .ensures) (c .before .before .before .if1 .left)), (p .0, p .1 .line, p .2 .journal))
+    (subst (λ (q : ℕ). q ≤ a .x .current .position .steps) (sym (c .before .before .place-of .ensures)) (mark-inside (p .0) (a .x) (a .vt .now) (a .et .now) (a .t .now) (a .places .now) (p .1) (p .2) (a .a) _ (c .before .before .before .before .named .ensures) (c .before .before .before .if1 .left)), (p .0, p .1 .line, p .2 .journal))
 
 same-length : tie.Need-same-length
 same-length c = search needs
@@ -37,9 +37,9 @@ same-length-2 c = search needs
 returns-2 : tie.Need-returns-2
 returns-2 c =
     λ b m h.
-    let a = c .before .before .before .before .before .before .before .before .before .before .before .before .before .before .before .before .before .args in
-    let e = c .before .before .before .before .before .before .go-to .ensures in
-    go-done b (a .x) (a .vt .now) (a .et .now) (a .t .now) (a .places .now) m h (a .a) _ (c .before .before .before .before .before .before .before .before .before .before .before .named .ensures) (c .before .before .before .before .before .before .before .before .before .before .if1 .left) _ _ (c .before .before .before .before .before .before .before .before .before .place-of .ensures) (e .1) _ _ _ refl (e .0 b (m .line) (h .journal))
+    let a = c .before .before .before .before .before .before .before .before .before .before .before .before .before .before .args in
+    let e = c .before .before .before .before .before .go-to .ensures in
+    go-done b (a .x) (a .vt .now) (a .et .now) (a .t .now) (a .places .now) m h (a .a) _ (c .before .before .before .before .before .before .before .before .before .before .named .ensures) (c .before .before .before .before .before .before .before .before .before .if1 .left) _ _ (c .before .before .before .before .before .before .before .before .place-of .ensures) (e .1) _ _ _ refl (e .0 b (m .line) (h .journal))
 
 pub go-to-mark-spec : {M : Type 1} → statement M
 go-to-mark-spec =

@@ -7,7 +7,7 @@ use Rattle.versions.proofs.redo.Tie as tie
 returns : tie.Need-returns
 returns c =
     λ b places m h.
-    let a = c .before .before .before .before .before .before .before .args in
+    let a = c .before .before .before .before .before .before .args in
     redo-refused b (a .x) (a .vt .now) (a .et .now) (a .t .now) places m h (c .if1 .taken)
 
 redo-requires : tie.Need-redo-requires
@@ -22,8 +22,8 @@ same-length-2 c = search needs
 returns-2 : tie.Need-returns-2
 returns-2 c =
     λ b places m h.
-    let a = c .before .before .before .before .before .before .before .before .before .before .before .before .before .before .before .before .args in
-    redo-done b (a .x) (a .vt .now) (a .et .now) (a .t .now) places m h (c .before .before .before .before .before .before .before .before .before .if1 .left) _ _ _ refl (c .before .before .before .before .before .before .redo .ensures b (m .line) (h .journal))
+    let a = c .before .before .before .before .before .before .before .before .before .before .before .before .before .args in
+    redo-done b (a .x) (a .vt .now) (a .et .now) (a .t .now) places m h (c .before .before .before .before .before .before .before .if1 .left) _ _ _ refl (c .before .before .before .before .redo .ensures b (m .line) (h .journal))
 
 pub redo-spec : {M : Type 1} → statement M
 redo-spec = tie.close (tie.spec returns redo-requires same-length same-length-2 returns-2)

@@ -11,20 +11,20 @@ unnamed-requires c κs = search needs
 returns : tie.Need-returns
 returns c =
     λ b vt et t m h.
-    let a = c .before .before .before .before .args in
+    let a = c .before .before .before .args in
     set-refused b (a .x) vt et t (a .places .now) m h (a .a) _ (c .before .unnamed .ensures) (c .if1 .taken)
 
 set-mark-requires : tie.Need-set-mark-requires
 set-mark-requires c κs =
-    let a = c .before .before .before .before .before .args in
+    let a = c .before .before .before .before .args in
     let n = fresh-none (a .x .set) (a .a) _ (c .before .before .unnamed .ensures) (c .before .if1 .left) in
     (n .low, n .high, n .stands)
 
 returns-2 : tie.Need-returns-2
 returns-2 c =
     λ b vt et t m h.
-    let a = c .before .before .before .before .before .before .args in
-    set-done b (a .x) vt et t (a .places .now) m h (a .a) _ (c .before .before .before .unnamed .ensures) (c .before .before .if1 .left) _ _ refl refl (c .set-mark .ensures (m .marks) (h .marks))
+    let a = c .before .before .before .before .before .args in
+    set-done b (a .x) vt et t (a .places .now) m h (a .a) _ (c .before .before .before .unnamed .ensures) (c .before .before .if1 .left) _ _ refl (c .set-mark .ensures (m .marks) (h .marks))
 
 pub set-mark-spec : {M : Type 1} → statement M
 set-mark-spec = tie.close (tie.spec unnamed-requires returns set-mark-requires returns-2)

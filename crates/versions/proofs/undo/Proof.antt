@@ -7,7 +7,7 @@ use Rattle.versions.proofs.undo.Tie as tie
 returns : tie.Need-returns
 returns c =
     λ b places m h.
-    let a = c .before .before .before .before .before .before .before .args in
+    let a = c .before .before .before .before .before .before .args in
     undo-refused b (a .x) (a .vt .now) (a .et .now) (a .t .now) places m h _ refl (c .if1 .taken)
 
 undo-requires : tie.Need-undo-requires
@@ -22,8 +22,8 @@ same-length-2 c = search needs
 returns-2 : tie.Need-returns-2
 returns-2 c =
     λ b places m h.
-    let a = c .before .before .before .before .before .before .before .before .before .before .before .before .before .before .before .before .args in
-    undo-done b (a .x) (a .vt .now) (a .et .now) (a .t .now) places m h _ refl (c .before .before .before .before .before .before .before .before .before .if1 .left) _ _ _ refl (c .before .before .before .before .before .before .undo .ensures b (m .line) (h .journal))
+    let a = c .before .before .before .before .before .before .before .before .before .before .before .before .before .args in
+    undo-done b (a .x) (a .vt .now) (a .et .now) (a .t .now) places m h _ refl (c .before .before .before .before .before .before .before .if1 .left) _ _ _ refl (c .before .before .before .before .undo .ensures b (m .line) (h .journal))
 
 pub undo-spec : {M : Type 1} → statement M
 undo-spec = tie.close (tie.spec returns undo-requires same-length same-length-2 returns-2)
