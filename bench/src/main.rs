@@ -186,4 +186,20 @@ fn main() {
             micros(plain) / micros(short)
         );
     }
+    check_alone(&all, Duration::from_secs(seconds));
+}
+
+/// The check of a full image by itself: a run that is lent one word too few for the end image ends with code 106, which
+/// is tested last, and does nothing else.
+fn check_alone(all: &[loads::Load], time: Duration) {
+    let mut case = all.last().expect("a load").case.clone();
+    case.image -= 1;
+    check("one word too few is not 106", Buffers::new(&case).outcome(futtockfig_run, &case) == Outcome::Refused(106));
+    let times = best(&case, &[by_hand_run, futtockfig_run], time);
+    println!();
+    println!(
+        "The check of a full image alone (a run refused with 106): C by hand {:.1} µs, engine {:.1} µs.",
+        micros(times[0]),
+        micros(times[1])
+    );
 }
