@@ -1,4 +1,3 @@
 pub mod Tapes
 pub mod Steps
-pub mod Going
 pub mod Cells

@@ -20,8 +20,8 @@ use Rattle.tables.specs.Capacities.{Sized}
 use Rattle.tables.proofs.GraphRead.{holds-one}
 use Rattle.timeline.specs.declared.Position.{Position}
 use Rattle.timeline.specs.declared.Current.{Current}
-use Rattle.timeline.specs.Tape.{made, Tape}
-use Rattle.timeline.specs.Steps.{rowsTo, StepAt, Laid, Journal, Open}
+use Rattle.timeline.specs.Tape.{made, Tape, Toward, back, on}
+use Rattle.timeline.specs.Steps.{rowsTo, StepAt, Laid, Behind, Journal, Open}
 use Rattle.timeline.proofs.Tapes.{tape-can, tape-sound, made-within, made-agree, tape-cut, made-more, tape-more}
 
 abbrev pub stepWith : ℕ → Graph → Step
@@ -110,83 +110,99 @@ rows-more i zero ss x h = refl
 rows-more i (suc p) [] x h = absurd (omega arith)
 rows-more i (suc p) (y ∷ ss) x h = rows-more (i + y .cost) p ss x (omega arith)
 
--- ---- undo
+-- ---- to another place
 
-pub record Back (j : Position) (t : List ℕ) (l : Timeline) : Type 0 where
+pub record Back (t : List ℕ) (ss : List Step) (q u : ℕ) : Type 0 where
   pub cost : ℕ
   pub some : 1 ≤ cost
-  pub word : costAt t (j .used - 1) ≡ cost
-  pub before : rowsTo 0 (l .place - 1) (l .steps) + cost ≡ j .used
-  pub fits : 12 * j .used ≤ length t
+  pub word : costAt t (u - 1) ≡ cost
+  pub before : rowsTo 0 q ss + cost ≡ u
+  pub fits : 12 * u ≤ length t
 
-pub back-of : (b : Bounds) (j : Position) (s : State) (t : List ℕ) (l : Timeline) → Journal b j s t l → 1 ≤ j .place → Back j t l
-back-of b j s t l k h =
-    let r = turn-at t (l .start) 0 (l .place - 1) (l .steps) (k .laid) (omega (arith, k .place, k .inside)) in
-    let e : suc (l .place - 1) ≡ l .place = omega (arith, k .place) in
-    let u : rowsTo 0 (suc (l .place - 1)) (l .steps) ≡ j .used = ap (λ (x : ℕ). rowsTo 0 x (l .steps)) e ∙ sym (k .used) in
-    record {
-      cost = r .cost;
-      some = r .some;
-      word = ap (λ (x : ℕ). costAt t (x - 1)) (sym u) ∙ r .last;
-      before = sym (r .next) ∙ u;
-      fits = omega (arith, k .tape .within, k .tape .upto);
-    }
+pub record Fore (t : List ℕ) (ss : List Step) (q u : ℕ) : Type 0 where
+  pub cost : ℕ
+  pub some : 1 ≤ cost
+  pub word : costAt t u ≡ cost
+  pub after : rowsTo 0 q ss ≡ u + cost
+  pub fits : 12 * (u + cost) ≤ length t
+
+module _ (t : List ℕ) (g : Graph) (ss : List Step) (to p q u : ℕ) (i : to ≤ length ss) (d : Toward to p q) (k : Behind t g ss p u) where
+  pub back-of : q < p → Back t ss q u
+  back-of h =
+      let e : p ≡ suc q = elim d [ back x y ↦ y | on x y ↦ absurd (omega arith) ] in
+      let r = turn-at t g 0 q ss (k .laid) (omega (arith, k .inside)) in
+      let w : rowsTo 0 (suc q) ss ≡ u = ap (λ (x : ℕ). rowsTo 0 x ss) (sym e) ∙ sym (k .used) in
+      record {
+        cost = r .cost;
+        some = r .some;
+        word = ap (λ (x : ℕ). costAt t (x - 1)) (sym w) ∙ r .last;
+        before = sym (r .next) ∙ w;
+        fits = omega (arith, w, r .within, k .within);
+      }
+
+  pub fore-of : p ≤ q → Fore t ss q u
+  fore-of h =
+      let e : q ≡ suc p = elim d [ back x y ↦ absurd (omega arith) | on x y ↦ y ] in
+      let l : p < to = elim d [ back x y ↦ absurd (omega arith) | on x y ↦ x ] in
+      let r = turn-at t g 0 p ss (k .laid) (omega arith) in
+      record {
+        cost = r .cost;
+        some = r .some;
+        word = ap (costAt t) (k .used) ∙ r .first;
+        after = ap (λ (x : ℕ). rowsTo 0 x ss) e ∙ r .next ∙ ap (λ (x : ℕ). x + r .cost) (sym (k .used));
+        fits = omega (arith, k .used, r .next, r .within, k .within);
+      }
+
+  behind-by : (v : ℕ) → v ≡ rowsTo 0 q ss → Behind t g ss q v
+  behind-by v e = record {
+    laid = k .laid;
+    within = k .within;
+    short = k .short;
+    inside = elim d [ back x y ↦ omega (arith, k .inside) | on x y ↦ omega arith ];
+    used = e;
+  }
+
+  pub behind-back : q < p → (c : ℕ) → c ≡ costAt t (u - 1) → Behind t g ss q (u - c)
+  behind-back h c e = let r = back-of h in behind-by (u - c) (omega (arith, e, r .word, r .before))
+
+  pub behind-on : p ≤ q → (c : ℕ) → c ≡ costAt t u → Behind t g ss q (u + c)
+  behind-on h c e = let r = fore-of h in behind-by (u + c) (omega (arith, e, r .word, r .after))
+
+rows-within : (i p : ℕ) (ss : List Step) → p ≤ length ss → rowsTo i p ss ≤ rowsTo i (length ss) ss
+rows-within i zero ss h = rows-from i (length ss) ss
+rows-within i (suc p) [] h = absurd (omega arith)
+rows-within i (suc p) (x ∷ ss) h = rows-within (i + x .cost) p ss (omega arith)
+
+pub behind-within : (t : List ℕ) (g : Graph) (ss : List Step) (p u : ℕ) → Behind t g ss p u → u ≤ rowsTo 0 (length ss) ss
+behind-within t g ss p u k = omega (arith, k .used, rows-within 0 p ss (k .inside))
+
+pub journal-behind : (b : Bounds) (j : Position) (s : State) (t : List ℕ) (l : Timeline) → Journal b j s t l → Behind t (l .start) (l .steps) (j .place) (j .used)
+journal-behind b j s t l k = record {
+  laid = k .laid;
+  within = k .tape .within;
+  short = k .tape .short;
+  inside = omega (arith, k .place, k .inside);
+  used = k .used ∙ ap (λ (x : ℕ). rowsTo 0 x (l .steps)) (sym (k .place));
+}
+
+pub journal-placed : (b : Bounds) (j j′ : Position) (s s′ : State) (t : List ℕ) (l : Timeline) → Journal b j s t l
+    → Behind t (l .start) (l .steps) (j′ .place) (j′ .used) → j′ .steps ≡ j .steps
+    → Tape b t (l .start) (rowsTo 0 (length (l .steps)) (l .steps)) s′ (j′ .used) → Journal b j′ s′ t (placed (j′ .place) l)
+journal-placed b j j′ s s′ t l k h y z = record {
+  tape = z;
+  laid = k .laid;
+  place = refl;
+  inside = h .inside;
+  steps = y ∙ k .steps;
+  used = h .used;
+}
 
 -- the record that a lending function hands back, at what its contract says of it
 pub at-record : (b : Bounds) (x y : Current) (vt et t : List ℕ) (l : Timeline) → x ≡ y → Journal b (y .position) (st (y .head) vt et) t l → Journal b (x .position) (st (x .head) vt et) t l
 at-record b x y vt et t l e = subst (λ (z : Current). Journal b (z .position) (st (z .head) vt et) t l) (sym e)
 
-pub journal-undo : (b : Bounds) (j j′ : Position) (s s′ : State) (t : List ℕ) (l : Timeline) → Journal b j s t l → 1 ≤ j .place → (c : ℕ) → c ≡ costAt t (j .used - 1)
-    → j′ .place ≡ j .place - 1 → j′ .steps ≡ j .steps → j′ .used ≡ j .used - c
-    → ((b : Bounds) (g : Graph) (n : ℕ) → Tape b t g n s (j .used) → Tape b t g n s′ (j .used - c)) → Journal b j′ s′ t (placed (l .place - 1) l)
-journal-undo b j j′ s s′ t l k h c q x y d f =
-    let r = back-of b j s t l k h in
-    record {
-      tape = subst (Tape b t (l .start) (rowsTo 0 (length (l .steps)) (l .steps)) s′) (sym d) (f b (l .start) (rowsTo 0 (length (l .steps)) (l .steps)) (k .tape));
-      laid = k .laid;
-      place = x ∙ ap (λ (i : ℕ). i - 1) (k .place);
-      inside = omega (arith, k .inside);
-      steps = y ∙ k .steps;
-      used = omega (arith, d, q, r .word, r .before);
-    }
-
--- ---- redo
-
-pub record Fore (j : Position) (t : List ℕ) (l : Timeline) : Type 0 where
-  pub cost : ℕ
-  pub some : 1 ≤ cost
-  pub word : costAt t (j .used) ≡ cost
-  pub after : rowsTo 0 (suc (l .place)) (l .steps) ≡ j .used + cost
-  pub inside : j .used + cost ≤ rowsTo 0 (length (l .steps)) (l .steps)
-  pub fits : 12 * (j .used + cost) ≤ length t
-
-pub fore-of : (b : Bounds) (j : Position) (s : State) (t : List ℕ) (l : Timeline) → Journal b j s t l → j .place < j .steps → Fore j t l
-fore-of b j s t l k h =
-    let r = turn-at t (l .start) 0 (l .place) (l .steps) (k .laid) (omega (arith, k .place, k .steps)) in
-    let i : j .used + r .cost ≤ rowsTo 0 (length (l .steps)) (l .steps) = omega (arith, r .next, r .within, k .used) in
-    record {
-      cost = r .cost;
-      some = r .some;
-      word = ap (costAt t) (k .used) ∙ r .first;
-      after = r .next ∙ ap (λ (x : ℕ). x + r .cost) (sym (k .used));
-      inside = i;
-      fits = omega (arith, k .tape .within, i);
-    }
-
-pub journal-redo : (b : Bounds) (j j′ : Position) (s s′ : State) (t : List ℕ) (l : Timeline) → Journal b j s t l → j .place < j .steps → (c : ℕ) → c ≡ costAt t (j .used)
-    → j′ .place ≡ j .place + 1 → j′ .steps ≡ j .steps → j′ .used ≡ j .used + c
-    → ((b : Bounds) (g : Graph) (n : ℕ) → j .used + c ≤ n → Tape b t g n s (j .used) → Tape b t g n s′ (j .used + c)) → Journal b j′ s′ t (placed (suc (l .place)) l)
-journal-redo b j j′ s s′ t l k h c q x y d f =
-    let r = fore-of b j s t l k h in
-    record {
-      tape = subst (Tape b t (l .start) (rowsTo 0 (length (l .steps)) (l .steps)) s′) (sym d)
-          (f b (l .start) (rowsTo 0 (length (l .steps)) (l .steps)) (omega (arith, q, r .word, r .inside)) (k .tape));
-      laid = k .laid;
-      place = omega (arith, x, k .place);
-      inside = omega (arith, k .place, k .steps);
-      steps = y ∙ k .steps;
-      used = omega (arith, d, q, r .word, r .after);
-    }
+pub placed-by : (b : Bounds) (j : Position) (s : State) (t : List ℕ) (l : Timeline) (p q : ℕ) → p ≡ q → Journal b j s t (placed p l) → Journal b j s t (placed q l)
+placed-by b j s t l p q e = subst (λ (x : ℕ). Journal b j s t (placed x l)) e
 
 -- ---- a step more
 

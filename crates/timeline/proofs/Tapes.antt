@@ -17,12 +17,8 @@ use Rattle.tables.specs.Tables.{State}
 use Rattle.tables.specs.Holds.{Holds}
 use Rattle.tables.specs.Edits.{applyS, Can}
 use Rattle.tables.specs.Capacities.{Sized}
-use Rattle.tables.proofs.Sizes.{Alike, same-size}
 use Rattle.tables.proofs.Callers.{can-apply, edited, edited-sized, can-revert, reverted, reverted-sized}
-use Rattle.timeline.specs.Tape.{made, Tape}
-
-alike-by : (e : Edit) (s s′ : State) → s′ ≡ applyS e s → Alike s s′
-alike-by e s s′ q = subst (λ (x : State). Alike s x) (sym q) (same-size e s)
+use Rattle.timeline.specs.Tape.{made, Tape, Toward, back, on}
 
 -- ---- what the rows make is well formed and within the bounds
 
@@ -102,62 +98,49 @@ made-agree u t t′ g b (suc i) h = rw (row-agree u i t t′ b (omega arith), ma
 
 -- ---- what a caller makes of what each call ensures
 
-pub can-by : (s : State) {e e′ : Edit} → e ≡ e′ → Can e′ s → Can e s
+can-by : (s : State) {e e′ : Edit} → e ≡ e′ → Can e′ s → Can e s
 can-by s q h = subst (λ (x : Edit). Can x s) (sym q) h
 
-pub did-by : (s : State) {s′ : State} {e e′ : Edit} → e ≡ e′ → s′ ≡ applyS e s → s′ ≡ applyS e′ s
+did-by : (s : State) {s′ : State} {e e′ : Edit} → e ≡ e′ → s′ ≡ applyS e s → s′ ≡ applyS e′ s
 did-by s q h = h ∙ ap (λ (x : Edit). applyS x s) q
 
--- ---- the loops over rows
+-- ---- one row, back or on; the lower of u and v is its number
 
-pub record BackTo (t : List ℕ) (s₀ s : State) (from to u : ℕ) : Type 0 where
+module _ (b : Bounds) (t : List ℕ) (g : Graph) (n : ℕ) (s : State) (to u v : ℕ) (i : to ≤ n) (d : Toward to u v) (k : Tape b t g n s u) where
+  pub row-room : 12 * (u - (u - v)) + 12 ≤ length t
+  row-room = elim d [ back h q ↦ omega (arith, k .upto, k .within) | on h q ↦ omega (arith, k .within) ]
+
+  module _ (e : Edit) (x : v < u → e ≡ inverse (rowAt t (u - (u - v)))) (y : u ≤ v → e ≡ rowAt t (u - (u - v))) where
+    back-row : u ≡ suc v → e ≡ inverse (rowAt t v)
+    back-row q = let p : u - (u - v) ≡ v = omega arith in x (omega arith) ∙ ap (λ (j : ℕ). inverse (rowAt t j)) p
+
+    on-row : v ≡ suc u → e ≡ rowAt t u
+    on-row q = let p : u - (u - v) ≡ u = omega arith in y (omega arith) ∙ ap (rowAt t) p
+
+    pub row-can : Can e s
+    row-can = elim d [
+      | back h q ↦ can-by s (back-row q) (can-back b t g n s v (subst (Tape b t g n s) q k))
+      | on h q ↦ can-by s (on-row q) (can-on b t g n s u k (omega arith))
+    ]
+
+    pub row-tape : (s′ : State) → s′ ≡ applyS e s → Tape b t g n s′ v
+    row-tape s′ z = elim d [
+      | back h q ↦ tape-back b t g n s v (subst (Tape b t g n s) q k) s′ (did-by s (back-row q) z)
+      | on h q ↦ subst (Tape b t g n s′) (sym q) (tape-on b t g n s u k (omega arith) s′ (did-by s (on-row q) z))
+    ]
+
+-- ---- the loops
+
+abbrev pub apart : ℕ → ℕ → ℕ
+apart u to = (u - to) + (to - u)
+
+pub nearer : (to u v : ℕ) → Toward to u v → apart v to < apart u to
+nearer to u v d = elim d [ back h q ↦ omega arith | on h q ↦ omega arith ]
+
+pub record Replayed (t : List ℕ) (s₀ s : State) (from to u : ℕ) : Type 0 where
   pub vlen : length (s .vt) ≡ length (s₀ .vt)
   pub elen : length (s .et) ≡ length (s₀ .et)
-  pub low : to ≤ u
-  pub goes : (b : Bounds) (g : Graph) (n : ℕ) → Tape b t g n s₀ from → Tape b t g n s u
-
-pub record OnTo (t : List ℕ) (s₀ s : State) (from to u : ℕ) : Type 0 where
-  pub vlen : length (s .vt) ≡ length (s₀ .vt)
-  pub elen : length (s .et) ≡ length (s₀ .et)
-  pub high : u ≤ to
   pub goes : (b : Bounds) (g : Graph) (n : ℕ) → to ≤ n → Tape b t g n s₀ from → Tape b t g n s u
-
--- the row number is written `u - 1` there
-module _ (b : Bounds) (t : List ℕ) (g : Graph) (n : ℕ) (s : State) (u v : ℕ) (q : u ≡ suc v) (k : Tape b t g n s u) where
-  pub back-can : Can (inverse (rowAt t v)) s
-  back-can = can-back b t g n s v (subst (Tape b t g n s) q k)
-
-  pub back-room : 12 * v + 12 ≤ length t
-  back-room = omega (arith, k .upto, k .within, q)
-
-pub back-turn : (t : List ℕ) (s₀ s s′ : State) (from to u v : ℕ) → BackTo t s₀ s from to u → to < u → u ≡ suc v → s′ ≡ applyS (inverse (rowAt t v)) s → BackTo t s₀ s′ from to v
-back-turn t s₀ s s′ from to u v k h q d =
-    let a = alike-by (inverse (rowAt t v)) s s′ d in
-    record {
-      vlen = a .vt ∙ k .vlen;
-      elen = a .et ∙ k .elen;
-      low = omega arith;
-      goes = λ b g n x. tape-back b t g n s v (subst (Tape b t g n s) q (k .goes b g n x)) s′ d;
-    }
-
-pub on-room : (b : Bounds) (t : List ℕ) (g : Graph) (n : ℕ) (s : State) (u : ℕ) → u < n → Tape b t g n s u → 12 * u + 12 ≤ length t
-on-room b t g n s u h k = omega (arith, k .within)
-
-pub on-turn : (t : List ℕ) (s₀ s s′ : State) (from to u v : ℕ) → OnTo t s₀ s from to u → u < to → v ≡ suc u → s′ ≡ applyS (rowAt t u) s → OnTo t s₀ s′ from to v
-on-turn t s₀ s s′ from to u v k h q d =
-    let a = alike-by (rowAt t u) s s′ d in
-    record {
-      vlen = a .vt ∙ k .vlen;
-      elen = a .et ∙ k .elen;
-      high = omega arith;
-      goes = λ b g n i x. subst (Tape b t g n s′) (sym q) (tape-on b t g n s u (k .goes b g n i x) (omega arith) s′ d);
-    }
-
-pub back-end : (t : List ℕ) (s₀ s : State) (from to u : ℕ) → BackTo t s₀ s from to u → u ≤ to → (b : Bounds) (g : Graph) (n : ℕ) → Tape b t g n s₀ from → Tape b t g n s to
-back-end t s₀ s from to u k h b g n x = let q : u ≡ to = omega (arith, k .low) in subst (Tape b t g n s) q (k .goes b g n x)
-
-pub on-end : (t : List ℕ) (s₀ s : State) (from to u : ℕ) → OnTo t s₀ s from to u → to ≤ u → (b : Bounds) (g : Graph) (n : ℕ) → to ≤ n → Tape b t g n s₀ from → Tape b t g n s to
-on-end t s₀ s from to u k h b g n i x = let q : u ≡ to = omega (arith, k .high) in subst (Tape b t g n s) q (k .goes b g n i x)
 
 -- ---- an edit is carried out and written down as the row after the last
 

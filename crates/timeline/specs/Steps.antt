@@ -1,5 +1,5 @@
 -- The steps of the timeline in the rows of the journal.
-use Prim.Native.Nat.{ℕ, zero, suc, _+_, _-_, _≤_, _<_}
+use Prim.Native.Nat.{ℕ, zero, suc, _+_, _-_, _*_, _^_, _≤_, _<_}
 use mathlib.Core.Path.{_≡_}
 use mathlib.Core.List.{List, [], _∷_}
 use lib.ListN.{length}
@@ -28,6 +28,14 @@ pub record StepAt (t : List ℕ) (g : Graph) (i : ℕ) (x : Step) : Type 0 where
 abbrev pub Laid : List ℕ → Graph → ℕ → List Step → Type 0
 Laid t g i [] = Unit {0}
 Laid t g i (x ∷ ss) = StepAt t g i x × Laid t g (i + x .cost) ss
+
+-- u rows lie behind place p: those of the first p steps
+pub record Behind (t : List ℕ) (g : Graph) (ss : List Step) (p u : ℕ) : Type 0 where
+  pub laid : Laid t g 0 ss
+  pub within : 12 * rowsTo 0 (length ss) ss ≤ length t
+  pub short : length t < 2 ^ 32
+  pub inside : p ≤ length ss
+  pub used : u ≡ rowsTo 0 p ss
 
 -- the position, the tables s and the journal's words t stand for the timeline l
 pub record Journal (b : Bounds) (j : Position) (s : State) (t : List ℕ) (l : Timeline) : Type 0 where

@@ -1,5 +1,6 @@
 -- The rows of the journal as edits that lead from one graph to the next, and the tables somewhere on the way.
 use Prim.Native.Nat.{ℕ, zero, suc, _*_, _^_, _≤_, _<_}
+use mathlib.Core.Path.{_≡_}
 use mathlib.Core.List.{List}
 use lib.ListN.{length}
 use Rattle.graph.specs.Graph.{Graph}
@@ -26,3 +27,8 @@ pub record Tape (b : Bounds) (t : List ℕ) (g : Graph) (n : ℕ) (s : State) (u
   pub short : length t < 2 ^ 32
   pub upto : u ≤ n
   pub holds : Holds s (made t g u)
+
+-- v is one nearer to a number than u
+pub data Toward (to u v : ℕ) : Type 0 where
+  back : to < u → u ≡ suc v → Toward to u v
+  on : u < to → v ≡ suc u → Toward to u v

@@ -11,15 +11,15 @@ ghost use lib.ListN.{length};
 ghost use Rattle.graph.specs.Graph.{Graph};
 ghost use Rattle.graph.specs.WellFormed.{Bounds, Within};
 ghost use Rattle.graph.specs.Edits.{Applies, EditIn, apply, inverse};
-ghost use Rattle.history.specs.Machine.{Timeline, begun, current, placed, extended, freeOf, distance};
+ghost use Rattle.history.specs.Machine.{Step, Timeline, begun, current, placed, extended, freeOf, distance};
 ghost use Rattle.journal.specs.Rows.{rowAt, rowed};
 ghost use Rattle.tables.specs.Tables.{State, st};
 ghost use Rattle.tables.specs.Edits.{applyS, Can};
 ghost use Rattle.tables.specs.Capacities.{Sized};
 ghost use Rattle.tables.specs.Holds.{Holds};
 ghost use Rattle.tables.specs.Read.{graphOf};
-ghost use Rattle.timeline.specs.Tape.{Tape};
-ghost use Rattle.timeline.specs.Steps.{Journal, Open};
+ghost use Rattle.timeline.specs.Tape.{Tape, Toward};
+ghost use Rattle.timeline.specs.Steps.{Journal, Behind};
 
 // The place p, the number of steps m, and the rows of steps 1 to p.
 pub struct Position {
@@ -34,56 +34,104 @@ pub struct Current {
     pub position: Position,
 }
 
-// Takes row i back.
-fn undo_row(head: Head, vt: &mut [u32], et: &mut [u32], t: &[u32], i: u32) -> Head
-    requires { ⌜ 12 * i + 12 ≤ length (now t) ⌝ }
-    requires { ⌜ Can (inverse (rowAt (now t) i)) (st head (now vt) (now et)) ⌝ }
-    ensures { λ r. ⌜ st r (now (vt .exit)) (now (et .exit)) ≡ applyS (inverse (rowAt (now (t .entry)) i)) (st head (now (vt .entry)) (now (et .entry))) ⌝ }
+// One nearer to another number.
+fn toward(u: u32, to: u32) -> u32
+    requires { ⌜ (u ≡ to → ⊥) ⌝ }
+    ensures { λ r. ⌜ Toward to u r ⌝ }
 {
-    let e = journal::row_at(t, i);
-    let b = tables::edits::inverse_of(e);
-    tables::edits::apply_edit(head, vt, et, b)
+    if to < u {
+        return u - 1;
+    }
+    u + 1
 }
 
-// Carries row i out.
-fn redo_row(head: Head, vt: &mut [u32], et: &mut [u32], t: &[u32], i: u32) -> Head
-    requires { ⌜ 12 * i + 12 ≤ length (now t) ⌝ }
-    requires { ⌜ Can (rowAt (now t) i) (st head (now vt) (now et)) ⌝ }
-    ensures { λ r. ⌜ st r (now (vt .exit)) (now (et .exit)) ≡ applyS (rowAt (now (t .entry)) i) (st head (now (vt .entry)) (now (et .entry))) ⌝ }
+// The lower of two numbers.
+fn lower(u: u32, v: u32) -> u32
+    ensures { λ r. ⌜ r ≡ u - (u - v) ⌝ }
 {
+    if v < u {
+        return v;
+    }
+    u
+}
+
+// The edit that leads from u rows behind to v, one more or one less.
+fn edit_between(t: &[u32], u: u32, v: u32) -> Edit
+    requires { ⌜ 12 * (u - (u - v)) + 12 ≤ length (now t) ⌝ }
+    ensures { λ r. ⌜ (v < u → r ≡ inverse (rowAt (now (t .entry)) (u - (u - v)))) ⌝ }
+    ensures { λ r. ⌜ (u ≤ v → r ≡ rowAt (now (t .entry)) (u - (u - v))) ⌝ }
+{
+    let i = lower(u, v);
     let e = journal::row_at(t, i);
+    if v < u {
+        return tables::edits::inverse_of(e);
+    }
+    e
+}
+
+// Takes one row back or carries it out: from u rows behind to v.
+fn replay_row(head: Head, vt: &mut [u32], et: &mut [u32], t: &[u32], u: u32, v: u32) -> Head
+    requires { ⌜ ((b : Bounds) × (g : Graph) × (n : ℕ) × (to : ℕ) × (to ≤ n) × Toward to u v × Tape b (now t) g n (st head (now vt) (now et)) u) ⌝ }
+    ensures { λ r. ⌜ ((b : Bounds) → (g : Graph) → (n : ℕ) → (to : ℕ) → to ≤ n → Toward to u v → Tape b (now (t .entry)) g n (st head (now (vt .entry)) (now (et .entry))) u → Tape b (now (t .entry)) g n (st r (now (vt .exit)) (now (et .exit))) v) ⌝ }
+{
+    let e = edit_between(t, u, v);
     tables::edits::apply_edit(head, vt, et, e)
 }
 
-// Takes the rows from `from` down to `to` back.
-fn undo_rows(head: Head, vt: &mut [u32], et: &mut [u32], t: &[u32], from: u32, to: u32) -> Head
-    requires { ⌜ to ≤ from ⌝ }
-    requires { ⌜ ((b : Bounds) × (g : Graph) × (n : ℕ) × Tape b (now t) g n (st head (now vt) (now et)) from) ⌝ }
-    ensures { λ r. ⌜ ((b : Bounds) → (g : Graph) → (n : ℕ) → Tape b (now (t .entry)) g n (st head (now (vt .entry)) (now (et .entry))) from → Tape b (now (t .entry)) g n (st r (now (vt .exit)) (now (et .exit))) to) ⌝ }
-{
-    let mut h = head;
-    let mut u = from;
-    while to < u {
-        let v = u - 1;
-        h = undo_row(h, vt, et, t, v);
-        u = v;
-    }
-    h
-}
-
-// Carries the rows from `from` up to `to` out.
-fn redo_rows(head: Head, vt: &mut [u32], et: &mut [u32], t: &[u32], from: u32, to: u32) -> Head
-    requires { ⌜ from ≤ to ⌝ }
+// Takes rows back or carries them out: from `from` rows behind to `to`. The one loop that replays, so that it is compiled as
+// one piece with the edits in it.
+fn replay(head: Head, vt: &mut [u32], et: &mut [u32], t: &[u32], from: u32, to: u32) -> Head
     requires { ⌜ ((b : Bounds) × (g : Graph) × (n : ℕ) × (to ≤ n) × Tape b (now t) g n (st head (now vt) (now et)) from) ⌝ }
     ensures { λ r. ⌜ ((b : Bounds) → (g : Graph) → (n : ℕ) → to ≤ n → Tape b (now (t .entry)) g n (st head (now (vt .entry)) (now (et .entry))) from → Tape b (now (t .entry)) g n (st r (now (vt .exit)) (now (et .exit))) to) ⌝ }
 {
     let mut h = head;
     let mut u = from;
-    while u < to {
-        h = redo_row(h, vt, et, t, u);
-        u = u + 1;
+    while u != to {
+        let v = toward(u, to);
+        h = replay_row(h, vt, et, t, u, v);
+        u = v;
     }
     h
+}
+
+// The rows behind place q, from those behind place p, one more or one less: the step's first row and its last have its cost.
+fn rows_beside(t: &[u32], u: u32, p: u32, q: u32) -> u32
+    requires { ⌜ ((g : Graph) × (ss : List Step) × (to : ℕ) × (to ≤ length ss) × Toward to p q × Behind (now t) g ss p u) ⌝ }
+    ensures { λ r. ⌜ ((g : Graph) → (ss : List Step) → (to : ℕ) → to ≤ length ss → Toward to p q → Behind (now (t .entry)) g ss p u → Behind (now (t .entry)) g ss q r) ⌝ }
+{
+    if q < p {
+        let c = journal::cost_at(t, u - 1);
+        return u - c;
+    }
+    let c = journal::cost_at(t, u);
+    u + c
+}
+
+// The rows behind a place, from those behind place p.
+fn rows_behind(t: &[u32], used: u32, from: u32, place: u32) -> u32
+    requires { ⌜ ((g : Graph) × (ss : List Step) × (place ≤ length ss) × Behind (now t) g ss from used) ⌝ }
+    ensures { λ r. ⌜ ((g : Graph) → (ss : List Step) → place ≤ length ss → Behind (now (t .entry)) g ss from used → Behind (now (t .entry)) g ss place r) ⌝ }
+{
+    let mut u = used;
+    let mut p = from;
+    while p != place {
+        let q = toward(p, place);
+        u = rows_beside(t, u, p, q);
+        p = q;
+    }
+    u
+}
+
+// To a place: its rows are counted, then those between are taken back or carried out.
+fn placed_at(x: Current, vt: &mut [u32], et: &mut [u32], t: &[u32], place: u32) -> Current
+    requires { ⌜ place ≤ x .position .steps ⌝ }
+    requires { ⌜ ((b : Bounds) × (l : Timeline) × Journal b (x .position) (st (x .head) (now vt) (now et)) (now t) l) ⌝ }
+    ensures { λ r. ⌜ ((b : Bounds) → (l : Timeline) → Journal b (x .position) (st (x .head) (now (vt .entry)) (now (et .entry))) (now (t .entry)) l → Journal b (r .position) (st (r .head) (now (vt .exit)) (now (et .exit))) (now (t .entry)) (placed place l)) ⌝ }
+{
+    let used = x.position.used;
+    let to = rows_behind(t, used, x.position.place, place);
+    let h = replay(x.head, vt, et, t, used, to);
+    lent::moved(x, h, place, to)
 }
 
 // 19: one step back.
@@ -92,11 +140,7 @@ pub fn undo(x: Current, vt: &mut [u32], et: &mut [u32], t: &[u32]) -> Current
     requires { ⌜ ((b : Bounds) × (l : Timeline) × Journal b (x .position) (st (x .head) (now vt) (now et)) (now t) l) ⌝ }
     ensures { λ r. ⌜ ((b : Bounds) → (l : Timeline) → Journal b (x .position) (st (x .head) (now (vt .entry)) (now (et .entry))) (now (t .entry)) l → Journal b (r .position) (st (r .head) (now (vt .exit)) (now (et .exit))) (now (t .entry)) (placed (l .place - 1) l)) ⌝ }
 {
-    let used = x.position.used;
-    let c = journal::cost_at(t, used - 1);
-    let to = used - c;
-    let h = undo_rows(x.head, vt, et, t, used, to);
-    lent::moved(x, h, x.position.place - 1, to)
+    placed_at(x, vt, et, t, x.position.place - 1)
 }
 
 // 20: one step on.
@@ -105,11 +149,7 @@ pub fn redo(x: Current, vt: &mut [u32], et: &mut [u32], t: &[u32]) -> Current
     requires { ⌜ ((b : Bounds) × (l : Timeline) × Journal b (x .position) (st (x .head) (now vt) (now et)) (now t) l) ⌝ }
     ensures { λ r. ⌜ ((b : Bounds) → (l : Timeline) → Journal b (x .position) (st (x .head) (now (vt .entry)) (now (et .entry))) (now (t .entry)) l → Journal b (r .position) (st (r .head) (now (vt .exit)) (now (et .exit))) (now (t .entry)) (placed (suc (l .place)) l)) ⌝ }
 {
-    let used = x.position.used;
-    let c = journal::cost_at(t, used);
-    let to = used + c;
-    let h = redo_rows(x.head, vt, et, t, used, to);
-    lent::moved(x, h, x.position.place + 1, to)
+    placed_at(x, vt, et, t, x.position.place + 1)
 }
 
 // Carries an edit out and writes it down as row i.
@@ -146,35 +186,14 @@ pub struct Went {
     pub moved: u32,
 }
 
-fn go_back(x: Current, vt: &mut [u32], et: &mut [u32], t: &[u32], place: u32) -> Went
-    requires { ⌜ place ≤ x .position .place ⌝ }
-    requires { ⌜ ((b : Bounds) × (l : Timeline) × Journal b (x .position) (st (x .head) (now vt) (now et)) (now t) l) ⌝ }
-    ensures { λ r. ⌜ ((b : Bounds) → (l : Timeline) → Journal b (x .position) (st (x .head) (now (vt .entry)) (now (et .entry))) (now (t .entry)) l → Journal b (r .current .position) (st (r .current .head) (now (vt .exit)) (now (et .exit))) (now (t .entry)) (placed place l)) ⌝ }
-    ensures { λ r. ⌜ r .moved ≡ x .position .place - place ⌝ }
+// The steps between two places.
+fn steps_between(p: u32, q: u32) -> u32
+    ensures { λ r. ⌜ r ≡ distance p q ⌝ }
 {
-    let mut y = x;
-    let mut moved: u32 = 0;
-    while place < y.position.place {
-        y = undo(y, vt, et, t);
-        moved += 1;
+    if q < p {
+        return p - q;
     }
-    Went { current: y, moved }
-}
-
-fn go_on(x: Current, vt: &mut [u32], et: &mut [u32], t: &[u32], place: u32) -> Went
-    requires { ⌜ x .position .place ≤ place ⌝ }
-    requires { ⌜ place ≤ x .position .steps ⌝ }
-    requires { ⌜ ((b : Bounds) × (l : Timeline) × Journal b (x .position) (st (x .head) (now vt) (now et)) (now t) l) ⌝ }
-    ensures { λ r. ⌜ ((b : Bounds) → (l : Timeline) → Journal b (x .position) (st (x .head) (now (vt .entry)) (now (et .entry))) (now (t .entry)) l → Journal b (r .current .position) (st (r .current .head) (now (vt .exit)) (now (et .exit))) (now (t .entry)) (placed place l)) ⌝ }
-    ensures { λ r. ⌜ r .moved ≡ place - x .position .place ⌝ }
-{
-    let mut y = x;
-    let mut moved: u32 = 0;
-    while y.position.place < place {
-        y = redo(y, vt, et, t);
-        moved += 1;
-    }
-    Went { current: y, moved }
+    q - p
 }
 
 // To a place: the steps between are undone or redone; how many.
@@ -184,11 +203,9 @@ pub fn go_to(x: Current, vt: &mut [u32], et: &mut [u32], t: &[u32], place: u32) 
     ensures { λ r. ⌜ ((b : Bounds) → (l : Timeline) → Journal b (x .position) (st (x .head) (now (vt .entry)) (now (et .entry))) (now (t .entry)) l → Journal b (r .current .position) (st (r .current .head) (now (vt .exit)) (now (et .exit))) (now (t .entry)) (placed place l)) ⌝ }
     ensures { λ r. ⌜ r .moved ≡ distance (x .position .place) place ⌝ }
 {
-    let p = x.position.place;
-    if place < p {
-        return go_back(x, vt, et, t, place);
-    }
-    go_on(x, vt, et, t, place)
+    let current = placed_at(x, vt, et, t, place);
+    let moved = steps_between(x.position.place, place);
+    Went { current, moved }
 }
 
 // 22: the present graph is the start.
