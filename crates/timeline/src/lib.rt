@@ -25,6 +25,7 @@ pub struct Position {
     pub used: u32,
 }
 
+// The head and the position after a step is undone, redone or added.
 pub struct Moved {
     pub head: Head,
     pub position: Position,
@@ -82,7 +83,7 @@ fn redo_rows(head: Head, vt: &mut [u32], et: &mut [u32], t: &[u32], from: u32, t
     h
 }
 
-// 19: one step back.
+// Kind 19: one step back.
 pub fn undo(pos: Position, head: Head, vt: &mut [u32], et: &mut [u32], t: &[u32]) -> Moved
     requires { ⌜ 1 ≤ pos .place ⌝ }
     requires { ⌜ ((b : Bounds) × (l : Timeline) × Journal b pos (st head (now vt) (now et)) (now t) l) ⌝ }
@@ -102,7 +103,7 @@ pub fn undo(pos: Position, head: Head, vt: &mut [u32], et: &mut [u32], t: &[u32]
     }
 }
 
-// 20: one step on.
+// Kind 20: one step on.
 pub fn redo(pos: Position, head: Head, vt: &mut [u32], et: &mut [u32], t: &[u32]) -> Moved
     requires { ⌜ pos .place < pos .steps ⌝ }
     requires { ⌜ ((b : Bounds) × (l : Timeline) × Journal b pos (st head (now vt) (now et)) (now t) l) ⌝ }
@@ -167,6 +168,7 @@ pub fn add_step(
     }
 }
 
+// The head and the position at another place, and the number of steps on the way to it.
 pub struct Went {
     pub head: Head,
     pub position: Position,
@@ -239,7 +241,7 @@ pub fn go_to(
     go_on(pos, head, vt, et, t, place)
 }
 
-// 22: the present graph is the start.
+// Kind 22: the present graph is the start.
 pub fn commit(pos: Position) -> Position
     ensures { λ r. ⌜ ((b : Bounds) → (s : State) → (t : List ℕ) → (l : Timeline) → Journal b pos s t l → Journal b r s t (begun (current l))) ⌝ }
 {
@@ -250,7 +252,7 @@ pub fn commit(pos: Position) -> Position
     }
 }
 
-// 51: free changes, of a capacity.
+// Kind 51: free changes, of a capacity.
 pub fn free_changes(pos: Position, capacity: u32) -> u32
     requires { ⌜ pos .used ≤ capacity ⌝ }
     ensures { λ r. ⌜ ((b : Bounds) → (s : State) → (t : List ℕ) → (l : Timeline) → Journal b pos s t l → r ≡ freeOf capacity l) ⌝ }
