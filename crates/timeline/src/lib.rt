@@ -168,7 +168,7 @@ pub fn add_step(
     }
 }
 
-// The head and the position at another place, and the number of steps on the way to it.
+// The head and the position at a place that is gone to, and how many steps lay between.
 pub struct Went {
     pub head: Head,
     pub position: Position,
