@@ -48,7 +48,7 @@ pub struct Answer {
     pub number: u32,
 }
 
-// 31
+// Kind 31.
 fn next_vertex(vt: &[u32], a: u32) -> Answer
     requires { ⌜ ((g : Graph) × HoldsV (now vt) g) ⌝ }
     ensures { λ r. ⌜ ((g : Graph) → (n : ℕ) → (rows : List ℕ) → HoldsV (now (vt .entry)) g → Told r (questionCode n g (ask.NextVertex a)) (questionNumber rows g (ask.NextVertex a))) ⌝ }
@@ -61,7 +61,7 @@ fn next_vertex(vt: &[u32], a: u32) -> Answer
     Answer { code: 0, number }
 }
 
-// 34
+// Kind 34.
 fn first_word_of(vt: &[u32], a: u32) -> Answer
     requires { ⌜ ((g : Graph) × HoldsV (now vt) g) ⌝ }
     ensures { λ r. ⌜ ((g : Graph) → (n : ℕ) → (rows : List ℕ) → HoldsV (now (vt .entry)) g → Told r (questionCode n g (ask.FirstWord a)) (questionNumber rows g (ask.FirstWord a))) ⌝ }
@@ -74,7 +74,7 @@ fn first_word_of(vt: &[u32], a: u32) -> Answer
     Answer { code: 0, number }
 }
 
-// 40
+// Kind 40.
 fn type_of_vertex(vt: &[u32], a: u32) -> Answer
     requires { ⌜ ((g : Graph) × HoldsV (now vt) g) ⌝ }
     ensures { λ r. ⌜ ((g : Graph) → (n : ℕ) → (rows : List ℕ) → HoldsV (now (vt .entry)) g → Told r (questionCode n g (ask.VertexType a)) (questionNumber rows g (ask.VertexType a))) ⌝ }
@@ -87,7 +87,7 @@ fn type_of_vertex(vt: &[u32], a: u32) -> Answer
     Answer { code: 0, number }
 }
 
-// 42
+// Kind 42.
 fn value_of(vt: &[u32], a: u32) -> Answer
     requires { ⌜ ((g : Graph) × HoldsV (now vt) g) ⌝ }
     ensures { λ r. ⌜ ((g : Graph) → (n : ℕ) → (rows : List ℕ) → HoldsV (now (vt .entry)) g → Told r (questionCode n g (ask.Value a)) (questionNumber rows g (ask.Value a))) ⌝ }
@@ -100,7 +100,7 @@ fn value_of(vt: &[u32], a: u32) -> Answer
     Answer { code: 0, number }
 }
 
-// 33
+// Kind 33.
 fn next_edge(et: &[u32], a: u32) -> Answer
     requires { ⌜ ((g : Graph) × HoldsE (now et) g) ⌝ }
     ensures { λ r. ⌜ ((g : Graph) → (n : ℕ) → (rows : List ℕ) → HoldsE (now (et .entry)) g → Told r (questionCode n g (ask.NextEdge a)) (questionNumber rows g (ask.NextEdge a))) ⌝ }
@@ -113,7 +113,7 @@ fn next_edge(et: &[u32], a: u32) -> Answer
     Answer { code: 0, number }
 }
 
-// 36
+// Kind 36.
 fn alpha_of(et: &[u32], a: u32) -> Answer
     requires { ⌜ ((g : Graph) × HoldsE (now et) g) ⌝ }
     requires { ⌜ Few (now et) ⌝ }
@@ -127,7 +127,7 @@ fn alpha_of(et: &[u32], a: u32) -> Answer
     Answer { code: 0, number }
 }
 
-// 37
+// Kind 37.
 fn omega_of(et: &[u32], a: u32) -> Answer
     requires { ⌜ ((g : Graph) × HoldsE (now et) g) ⌝ }
     requires { ⌜ Few (now et) ⌝ }
@@ -141,7 +141,7 @@ fn omega_of(et: &[u32], a: u32) -> Answer
     Answer { code: 0, number }
 }
 
-// 41
+// Kind 41.
 fn type_of_edge(et: &[u32], a: u32) -> Answer
     requires { ⌜ ((g : Graph) × HoldsE (now et) g) ⌝ }
     ensures { λ r. ⌜ ((g : Graph) → (n : ℕ) → (rows : List ℕ) → HoldsE (now (et .entry)) g → Told r (questionCode n g (ask.EdgeType a)) (questionNumber rows g (ask.EdgeType a))) ⌝ }
@@ -154,7 +154,7 @@ fn type_of_edge(et: &[u32], a: u32) -> Answer
     Answer { code: 0, number }
 }
 
-// 43
+// Kind 43.
 fn kind_of_reading(et: &[u32], a: u32) -> Answer
     requires { ⌜ ((g : Graph) × HoldsE (now et) g) ⌝ }
     ensures { λ r. ⌜ ((g : Graph) → (n : ℕ) → (rows : List ℕ) → HoldsE (now (et .entry)) g → Told r (questionCode n g (ask.ReadingKind a)) (questionNumber rows g (ask.ReadingKind a))) ⌝ }
@@ -167,7 +167,7 @@ fn kind_of_reading(et: &[u32], a: u32) -> Answer
     Answer { code: 0, number }
 }
 
-// 44
+// Kind 44.
 fn decimetres_of_reading(et: &[u32], a: u32) -> Answer
     requires { ⌜ ((g : Graph) × HoldsE (now et) g) ⌝ }
     ensures { λ r. ⌜ ((g : Graph) → (n : ℕ) → (rows : List ℕ) → HoldsE (now (et .entry)) g → Told r (questionCode n g (ask.Decimetres a)) (questionNumber rows g (ask.Decimetres a))) ⌝ }
@@ -180,7 +180,7 @@ fn decimetres_of_reading(et: &[u32], a: u32) -> Answer
     Answer { code: 0, number }
 }
 
-// 35
+// Kind 35.
 fn next_word(et: &[u32], a: u32) -> Answer
     requires { ⌜ ((g : Graph) × HoldsE (now et) g) ⌝ }
     ensures { λ r. ⌜ ((g : Graph) → (n : ℕ) → (rows : List ℕ) → HoldsE (now (et .entry)) g → Told r (questionCode n g (ask.NextWord a)) (questionNumber rows g (ask.NextWord a))) ⌝ }
@@ -193,7 +193,7 @@ fn next_word(et: &[u32], a: u32) -> Answer
     Answer { code: 0, number }
 }
 
-// 38
+// Kind 38.
 fn this_of(et: &[u32], a: u32) -> Answer
     requires { ⌜ ((g : Graph) × HoldsE (now et) g) ⌝ }
     ensures { λ r. ⌜ ((g : Graph) → (n : ℕ) → (rows : List ℕ) → HoldsE (now (et .entry)) g → Told r (questionCode n g (ask.This a)) (questionNumber rows g (ask.This a))) ⌝ }
@@ -206,7 +206,7 @@ fn this_of(et: &[u32], a: u32) -> Answer
     Answer { code: 0, number }
 }
 
-// 39
+// Kind 39.
 fn that_of(et: &[u32], a: u32) -> Answer
     requires { ⌜ ((g : Graph) × HoldsE (now et) g) ⌝ }
     ensures { λ r. ⌜ ((g : Graph) → (n : ℕ) → (rows : List ℕ) → HoldsE (now (et .entry)) g → Told r (questionCode n g (ask.That a)) (questionNumber rows g (ask.That a))) ⌝ }
@@ -229,7 +229,7 @@ fn as_number(b: bool) -> u32
     0
 }
 
-// 30
+// Kind 30.
 fn first_vertex(head: Head) -> Answer
     ensures { λ r. ⌜ ((g : Graph) → (n : ℕ) → (rows vt et : List ℕ) → Holds (st head vt et) g → Told r (questionCode n g ask.FirstVertex) (questionNumber rows g ask.FirstVertex)) ⌝ }
 {
@@ -239,7 +239,7 @@ fn first_vertex(head: Head) -> Answer
     }
 }
 
-// 32
+// Kind 32.
 fn first_edge(head: Head) -> Answer
     ensures { λ r. ⌜ ((g : Graph) → (n : ℕ) → (rows vt et : List ℕ) → Holds (st head vt et) g → Told r (questionCode n g ask.FirstEdge) (questionNumber rows g ask.FirstEdge)) ⌝ }
 {
@@ -249,7 +249,7 @@ fn first_edge(head: Head) -> Answer
     }
 }
 
-// 46
+// Kind 46.
 fn order_of_vertices(head: Head, vt: &[u32], a: u32, b: u32) -> Answer
     requires { ⌜ ((et : List ℕ) × (g : Graph) × Holds (st head (now vt) et) g) ⌝ }
     ensures { λ r. ⌜ ((g : Graph) → (n : ℕ) → (rows et : List ℕ) → Holds (st head (now (vt .entry)) et) g → Told r (questionCode n g (ask.VertexOrder a b)) (questionNumber rows g (ask.VertexOrder a b))) ⌝ }
@@ -263,7 +263,7 @@ fn order_of_vertices(head: Head, vt: &[u32], a: u32, b: u32) -> Answer
     Answer { code: 0, number }
 }
 
-// 47
+// Kind 47.
 fn order_of_edges(head: Head, et: &[u32], a: u32, b: u32) -> Answer
     requires { ⌜ ((vt : List ℕ) × (g : Graph) × Holds (st head vt (now et)) g) ⌝ }
     ensures { λ r. ⌜ ((g : Graph) → (n : ℕ) → (rows vt : List ℕ) → Holds (st head vt (now (et .entry))) g → Told r (questionCode n g (ask.EdgeOrder a b)) (questionNumber rows g (ask.EdgeOrder a b))) ⌝ }
@@ -277,7 +277,7 @@ fn order_of_edges(head: Head, et: &[u32], a: u32, b: u32) -> Answer
     Answer { code: 0, number }
 }
 
-// 48
+// Kind 48.
 fn order_of_words(vt: &[u32], et: &[u32], a: u32, b: u32) -> Answer
     requires { ⌜ ((head : Head) × (g : Graph) × Holds (st head (now vt) (now et)) g) ⌝ }
     ensures { λ r. ⌜ ((g : Graph) → (n : ℕ) → (rows : List ℕ) → (head : Head) → Holds (st head (now (vt .entry)) (now (et .entry))) g → Told r (questionCode n g (ask.WordOrder a b)) (questionNumber rows g (ask.WordOrder a b))) ⌝ }
@@ -308,7 +308,7 @@ fn degree_code(vt: &[u32], types: u32, a: u32, t: u32, c: u32) -> u32
     0
 }
 
-// 45
+// Kind 45.
 fn degree_of(
     closed: &[u64; 64],
     vt: &[u32],
@@ -329,7 +329,7 @@ fn degree_of(
     Answer { code: 0, number }
 }
 
-// 52
+// Kind 52.
 fn below_of(closed: &[u64; 64], types: u32, s: u32, t: u32) -> Answer
     ensures { λ r. ⌜ ((g : Graph) → (rows : List ℕ) → goodRows rows ≡ true → now (closed .entry) ≡ closureWords rows → Told r (questionCode types g (ask.Below s t)) (questionNumber rows g (ask.Below s t))) ⌝ }
 {

@@ -29,6 +29,7 @@ pub fn cost_of(head: Head, vt: &[u32], et: &[u32], change: Change) -> u32
     }
 }
 
+// The head after some rows of a step, and the rows in use with them; the position is that from before the step.
 pub struct Rows {
     pub head: Head,
     pub used: u32,
@@ -58,7 +59,7 @@ fn remove_edges(
     Rows { head: h, used: u }
 }
 
-// 2: the edges of vertex a and then a, as one step.
+// Kind 2: the edges of vertex a and then a, as one step.
 fn delete_vertex(
     x: Current,
     vt: &mut [u32],

@@ -1,8 +1,9 @@
 // Codes 2 to 9 of a change, read off the tables: the lowest that applies, 0 where none does.
 use graph::Change;
-use tables::Found;
+use tables::Lookup;
 use tables::lookups::find_edge;
 use tables::lookups::find_vertex;
+use tables::lookups::find_word;
 use tables::rows::this;
 ghost use mathlib.Core.Path.{_≡_};
 ghost use mathlib.Core.Bool.{not, _&&_, _||_};
@@ -12,21 +13,24 @@ ghost use lib.ListN.{length};
 ghost use Rattle.lists.specs.Choice.{_⇒_else_, _==_, within};
 ghost use Rattle.graph.specs.Graph.{Graph, hasVertex, hasEdge, edgeOf, isReading};
 ghost use Rattle.graph.specs.Graph as chart;
+ghost use Rattle.tables.specs.Capacities.{boundsOf};
+ghost use Rattle.tables.specs.Tables.{foundV, foundE, vertexCode, edgeCode};
 ghost use Rattle.commands.specs.Meaning.{lacksVertex, lacksEdge, changeCode};
-ghost use Rattle.checks.specs.Held.{HoldsV, HoldsE, HoldsVE, tableBounds, ChangeFits};
+ghost use Rattle.checks.specs.Held.{HoldsV, HoldsE, HoldsVE, ChangeFits};
 
-// 4: a vertex that is named.
+// Code 4: a vertex that is named.
 pub fn vertex_code(vt: &[u32], v: u32) -> u32
     ensures { λ r. ⌜ ((g : Graph) → HoldsV (now (vt .entry)) g → r ≡ (lacksVertex g v ⇒ 4 else 0)) ⌝ }
+    ensures { λ r. ⌜ r ≡ vertexCode (foundV (now (vt .entry)) v) ⌝ }
 {
     let f = find_vertex(vt, v);
-    let Found::At(_) = f else {
+    let Lookup::Found(_) = f else {
         return 4;
     };
     0
 }
 
-// 4: two vertices that are named.
+// Code 4: two vertices that are named.
 pub fn vertices_code(vt: &[u32], a: u32, b: u32) -> u32
     ensures { λ r. ⌜ ((g : Graph) → HoldsV (now (vt .entry)) g → r ≡ ((lacksVertex g a || lacksVertex g b) ⇒ 4 else 0)) ⌝ }
 {
@@ -37,18 +41,19 @@ pub fn vertices_code(vt: &[u32], a: u32, b: u32) -> u32
     vertex_code(vt, b)
 }
 
-// 5: an edge that is named.
+// Code 5: an edge that is named.
 pub fn edge_code(et: &[u32], e: u32) -> u32
     ensures { λ r. ⌜ ((g : Graph) → HoldsE (now (et .entry)) g → r ≡ (lacksEdge g e ⇒ 5 else 0)) ⌝ }
+    ensures { λ r. ⌜ r ≡ edgeCode (foundE (now (et .entry)) e) ⌝ }
 {
     let f = find_edge(et, e);
-    let Found::At(_) = f else {
+    let Lookup::Found(_) = f else {
         return 5;
     };
     0
 }
 
-// 5: two edges that are named.
+// Code 5: two edges that are named.
 pub fn edges_code(et: &[u32], a: u32, b: u32) -> u32
     ensures { λ r. ⌜ ((g : Graph) → HoldsE (now (et .entry)) g → r ≡ ((lacksEdge g a || lacksEdge g b) ⇒ 5 else 0)) ⌝ }
 {
@@ -59,7 +64,7 @@ pub fn edges_code(et: &[u32], a: u32, b: u32) -> u32
     edge_code(et, b)
 }
 
-// 6: a type that is named.
+// Code 6: a type that is named.
 fn type_code(types: u32, t: u32) -> u32
     ensures { λ r. ⌜ r ≡ (leb types t ⇒ 6 else 0) ⌝ }
 {
@@ -69,7 +74,7 @@ fn type_code(types: u32, t: u32) -> u32
     0
 }
 
-// 2: a number that is made, of a capacity.
+// Code 2: a number that is made, of a capacity.
 fn number_code(capacity: usize, n: u32) -> u32
     ensures { λ r. ⌜ r ≡ (not (within 1 capacity n) ⇒ 2 else 0) ⌝ }
 {
@@ -82,7 +87,7 @@ fn number_code(capacity: usize, n: u32) -> u32
     0
 }
 
-// 7: kind and decimetres of a reading.
+// Code 7: kind and decimetres of a reading.
 fn reading_code(k: u32, d: u32) -> u32
     ensures { λ r. ⌜ r ≡ (not (isReading k d) ⇒ 7 else 0) ⌝ }
 {
@@ -101,7 +106,7 @@ fn reading_code(k: u32, d: u32) -> u32
     7
 }
 
-// 9: the same twice.
+// Code 9: the same twice.
 fn twice_code(a: u32, b: u32) -> u32
     ensures { λ r. ⌜ r ≡ ((a == b) ⇒ 9 else 0) ⌝ }
 {
@@ -111,38 +116,38 @@ fn twice_code(a: u32, b: u32) -> u32
     0
 }
 
-// 3: a vertex that is there already.
+// Code 3: a vertex that is there already.
 fn vertex_used(vt: &[u32], n: u32) -> u32
     ensures { λ r. ⌜ ((g : Graph) → HoldsV (now (vt .entry)) g → r ≡ (hasVertex g n ⇒ 3 else 0)) ⌝ }
 {
     let f = find_vertex(vt, n);
-    let Found::At(_) = f else {
+    let Lookup::Found(_) = f else {
         return 0;
     };
     3
 }
 
-// 3: an edge that is there already.
+// Code 3: an edge that is there already.
 fn edge_used(et: &[u32], n: u32) -> u32
     ensures { λ r. ⌜ ((g : Graph) → HoldsE (now (et .entry)) g → r ≡ (hasEdge g n ⇒ 3 else 0)) ⌝ }
 {
     let f = find_edge(et, n);
-    let Found::At(_) = f else {
+    let Lookup::Found(_) = f else {
         return 0;
     };
     3
 }
 
-// 5 and 8: two words whose edges are there and that are seen from one vertex.
+// Codes 5 and 8: two words whose edges are there and that are seen from one vertex.
 pub fn words_code(et: &[u32], a: u32, b: u32) -> u32
     ensures { λ r. ⌜ ((g : Graph) → HoldsE (now (et .entry)) g → r ≡ ((lacksEdge g (edgeOf a) || lacksEdge g (edgeOf b)) ⇒ 5 else not (chart.this g a == chart.this g b) ⇒ 8 else 0)) ⌝ }
 {
-    let f = find_edge(et, a / 2);
-    let Found::At(_) = f else {
+    let f = find_word(et, a);
+    let Lookup::Found(_) = f else {
         return 5;
     };
-    let h = find_edge(et, b / 2);
-    let Found::At(_) = h else {
+    let h = find_word(et, b);
+    let Lookup::Found(_) = h else {
         return 5;
     };
     let u = this(et, a);
@@ -153,7 +158,7 @@ pub fn words_code(et: &[u32], a: u32, b: u32) -> u32
     0
 }
 
-// 1
+// Kind 1: codes 2, 3, 6.
 fn create_vertex(vt: &[u32], types: u32, n: u32, t: u32) -> u32
     ensures { λ r. ⌜ ((g : Graph) → HoldsV (now (vt .entry)) g → r ≡ (not (within 1 (length (now (vt .entry)) / 8) n) ⇒ 2 else hasVertex g n ⇒ 3 else leb types t ⇒ 6 else 0)) ⌝ }
 {
@@ -168,7 +173,7 @@ fn create_vertex(vt: &[u32], types: u32, n: u32, t: u32) -> u32
     type_code(types, t)
 }
 
-// 3
+// Kind 3: codes 2, 3, 4, 6.
 fn create_edge(vt: &[u32], et: &[u32], types: u32, n: u32, x: u32, y: u32, t: u32) -> u32
     ensures { λ r. ⌜ ((g : Graph) → HoldsVE (now (vt .entry)) (now (et .entry)) g → r ≡ (not (within 1 (length (now (et .entry)) / 12) n) ⇒ 2 else hasEdge g n ⇒ 3 else (lacksVertex g x || lacksVertex g y) ⇒ 4 else leb types t ⇒ 6 else 0)) ⌝ }
 {
@@ -187,7 +192,7 @@ fn create_edge(vt: &[u32], et: &[u32], types: u32, n: u32, x: u32, y: u32, t: u3
     type_code(types, t)
 }
 
-// 5
+// Kind 5: codes 4, 6.
 fn retype_vertex(vt: &[u32], types: u32, n: u32, t: u32) -> u32
     ensures { λ r. ⌜ ((g : Graph) → HoldsV (now (vt .entry)) g → r ≡ (lacksVertex g n ⇒ 4 else leb types t ⇒ 6 else 0)) ⌝ }
 {
@@ -198,7 +203,7 @@ fn retype_vertex(vt: &[u32], types: u32, n: u32, t: u32) -> u32
     type_code(types, t)
 }
 
-// 6
+// Kind 6: codes 5, 6.
 fn retype_edge(et: &[u32], types: u32, n: u32, t: u32) -> u32
     ensures { λ r. ⌜ ((g : Graph) → HoldsE (now (et .entry)) g → r ≡ (lacksEdge g n ⇒ 5 else leb types t ⇒ 6 else 0)) ⌝ }
 {
@@ -209,7 +214,7 @@ fn retype_edge(et: &[u32], types: u32, n: u32, t: u32) -> u32
     type_code(types, t)
 }
 
-// 8
+// Kind 8: codes 5, 7.
 fn set_reading(et: &[u32], n: u32, k: u32, d: u32) -> u32
     ensures { λ r. ⌜ ((g : Graph) → HoldsE (now (et .entry)) g → r ≡ (lacksEdge g n ⇒ 5 else not (isReading k d) ⇒ 7 else 0)) ⌝ }
 {
@@ -220,7 +225,7 @@ fn set_reading(et: &[u32], n: u32, k: u32, d: u32) -> u32
     reading_code(k, d)
 }
 
-// 9, 10
+// Kinds 9 and 10: codes 4, 5.
 fn set_end(vt: &[u32], et: &[u32], n: u32, v: u32) -> u32
     ensures { λ r. ⌜ ((g : Graph) → HoldsVE (now (vt .entry)) (now (et .entry)) g → r ≡ (lacksVertex g v ⇒ 4 else lacksEdge g n ⇒ 5 else 0)) ⌝ }
 {
@@ -231,7 +236,7 @@ fn set_end(vt: &[u32], et: &[u32], n: u32, v: u32) -> u32
     edge_code(et, n)
 }
 
-// 11, 12
+// Kinds 11 and 12: codes 4, 9.
 fn order_vertices(vt: &[u32], x: u32, y: u32) -> u32
     ensures { λ r. ⌜ ((g : Graph) → HoldsV (now (vt .entry)) g → r ≡ ((lacksVertex g x || lacksVertex g y) ⇒ 4 else (x == y) ⇒ 9 else 0)) ⌝ }
 {
@@ -242,7 +247,7 @@ fn order_vertices(vt: &[u32], x: u32, y: u32) -> u32
     twice_code(x, y)
 }
 
-// 13, 14
+// Kinds 13 and 14: codes 5, 9.
 fn order_edges(et: &[u32], x: u32, y: u32) -> u32
     ensures { λ r. ⌜ ((g : Graph) → HoldsE (now (et .entry)) g → r ≡ ((lacksEdge g x || lacksEdge g y) ⇒ 5 else (x == y) ⇒ 9 else 0)) ⌝ }
 {
@@ -253,7 +258,7 @@ fn order_edges(et: &[u32], x: u32, y: u32) -> u32
     twice_code(x, y)
 }
 
-// 15, 16
+// Kinds 15 and 16: codes 5, 8, 9.
 fn order_words(et: &[u32], x: u32, y: u32) -> u32
     ensures { λ r. ⌜ ((g : Graph) → HoldsE (now (et .entry)) g → r ≡ ((lacksEdge g (edgeOf x) || lacksEdge g (edgeOf y)) ⇒ 5 else not (chart.this g x == chart.this g y) ⇒ 8 else (x == y) ⇒ 9 else 0)) ⌝ }
 {
@@ -266,7 +271,7 @@ fn order_words(et: &[u32], x: u32, y: u32) -> u32
 
 // The code of any change; types is their number.
 pub fn change_code(vt: &[u32], et: &[u32], types: u32, change: Change) -> u32
-    ensures { λ r. ⌜ ((g : Graph) → HoldsVE (now (vt .entry)) (now (et .entry)) g → r ≡ changeCode (tableBounds (now (vt .entry)) (now (et .entry)) types) g change) ⌝ }
+    ensures { λ r. ⌜ ((g : Graph) → HoldsVE (now (vt .entry)) (now (et .entry)) g → r ≡ changeCode (boundsOf (now (vt .entry)) (now (et .entry)) types) g change) ⌝ }
     ensures { λ r. ⌜ ChangeFits change ⌝ }
 {
     match change {

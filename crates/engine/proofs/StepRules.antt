@@ -14,7 +14,7 @@ use Rattle.graph.specs.Changes.{VertexThere, Allowed}
 use Rattle.graph.proofs.Numbers.{vertex-once}
 use Rattle.tables.specs.Tables.{st}
 use Rattle.tables.specs.Holds.{Holds}
-use Rattle.tables.specs.Capacities.{Sized}
+use Rattle.tables.specs.Capacities.{Sized, boundsOf}
 use Rattle.pricing.specs.Prices.{nothingHeard, twoWay, gradeOf, grade}
 use Rattle.prices.specs.declared.Price.{Price}
 use Rattle.prices.specs.Ways.{priceOf}
@@ -32,7 +32,7 @@ use Rattle.commands.specs.declared.PriceCall.the-variants.{Range, Grade}
 use Rattle.commands.specs.declared.Command.the-variants.{Alter, Recall, Ask, Quote}
 use Rattle.commands.specs.declared.HistoryCall.the-variants.{SetMark, DropMark, Undo, Redo, GoTo, Commit, Between, Standing, Free}
 use Rattle.commands.specs.Meaning.{noMark, lacksMark, lacksVertex, changeCode, questionCode, questionNumber, priceCode, commandCode}
-use Rattle.checks.specs.Held.{HoldsVE, tableBounds, ChangeFits}
+use Rattle.checks.specs.Held.{HoldsVE, ChangeFits}
 use Rattle.checks.proofs.Codes.{stops, passes}
 use Rattle.engine.specs.Running.{Setting, Running, Answered, Priced}
 use Rattle.engine.proofs.StepLaws.{Rules, follows-answers, told-answers, refused-answers}
@@ -80,7 +80,7 @@ module _ (w : World) (m : Machine) where
   code-refused c k e d = rw (← e, ne-eqb k 0 d)
 
 -- the capacities of the tables are those of the run
-pub bounds-are : (w : World) (vt et t closed : List ℕ) (types : ℕ) → Setting w vt et t closed types → tableBounds vt et types ≡ boundsIn w
+pub bounds-are : (w : World) (vt et t closed : List ℕ) (types : ℕ) → Setting w vt et t closed types → boundsOf vt et types ≡ boundsIn w
 bounds-are w vt et t closed types s = λ i. record { vertices = sym (s .vertices) i; edges = sym (s .edges) i; types = s .types-in i }
 
 -- ---- a change, from its code on
@@ -95,7 +95,7 @@ module _ (w : World) (m : Machine) (x : Version) (vt et t places closed : List �
   pub sized : Sized (boundsIn w) (st (x .current .head) vt et)
   sized = sized-present (boundsIn w) x vt et t places m (h .represents)
 
-  module _ (c : Change) (k : ℕ) (e : (g : Graph) → HoldsVE vt et g → k ≡ changeCode (tableBounds vt et types) g c) where
+  module _ (c : Change) (k : ℕ) (e : (g : Graph) → HoldsVE vt et g → k ≡ changeCode (boundsOf vt et types) g c) where
     code-of : k ≡ changeCode (boundsIn w) (present m) c
     code-of = e (present m) (x .current .head, holds) ∙ ap (λ (b : Bounds). changeCode b (present m) c) (bounds-are w vt et t closed types (h .setting))
 

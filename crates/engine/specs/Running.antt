@@ -16,7 +16,7 @@ use Rattle.versions.specs.declared.Done.{Done}
 use Rattle.versions.specs.declared.Version.{Version}
 use Rattle.versions.specs.Represents.{Represents}
 use Rattle.machine.specs.Calls.{World, boundsIn}
-use Rattle.machine.proofs.ListRows.{Limits}
+use Rattle.machine.specs.Run.{Limits}
 use Rattle.machine.specs.Machine.{Answer}
 use Rattle.commands.specs.declared.Command.{Command}
 use Rattle.commands.specs.Meaning.{priceCode, answerTo, stepTo}

@@ -47,7 +47,7 @@ fn alter(
     versions::change(x, vt, et, t, places, change)
 }
 
-// 49
+// Kind 49: the steps between marks a and b.
 fn between(x: Version, places: &[u32; 64], a: u32, b: u32) -> Done
     ensures { λ r. ⌜ ((w : World) → (m : Machine) → (vt et t closed : List ℕ) → (types : ℕ) → Running w x vt et t (now (places .entry)) closed types m → Stays w m (the.Recall (history.Between a b)) x r vt et t (now (places .entry)) closed types) ⌝ }
 {
@@ -59,7 +59,7 @@ fn between(x: Version, places: &[u32; 64], a: u32, b: u32) -> Done
     }
 }
 
-// 50
+// Kind 50: how many marks stand.
 fn standing(x: Version) -> Done
     ensures { λ r. ⌜ ((w : World) → (m : Machine) → (vt et t places closed : List ℕ) → (types : ℕ) → Running w x vt et t places closed types m → Stays w m (the.Recall history.Standing) x r vt et t places closed types) ⌝ }
 {
@@ -71,7 +71,7 @@ fn standing(x: Version) -> Done
     }
 }
 
-// 51
+// Kind 51: free changes.
 fn free_changes(x: Version, t: &[u32]) -> Done
     requires { ⌜ ((w : World) × (m : Machine) × (vt : List ℕ) × (et : List ℕ) × (places : List ℕ) × (closed : List ℕ) × (types : ℕ) × Running w x vt et (now t) places closed types m) ⌝ }
     ensures { λ r. ⌜ ((w : World) → (m : Machine) → (vt et places closed : List ℕ) → (types : ℕ) → Running w x vt et (now (t .entry)) places closed types m → Stays w m (the.Recall history.Free) x r vt et (now (t .entry)) places closed types) ⌝ }
@@ -144,7 +144,7 @@ fn priced(x: Version, vt: &[u32], et: &[u32], a: u32, b: u32) -> Price
     price_of(vt, et, a, b)
 }
 
-// 53
+// Kind 53: the two-way range of a and b.
 fn range(x: Version, vt: &[u32], et: &[u32], a: u32, b: u32) -> Done
     requires { ⌜ ((w : World) × (m : Machine) × (t : List ℕ) × (places : List ℕ) × (closed : List ℕ) × (types : ℕ) × Running w x (now vt) (now et) t places closed types m) ⌝ }
     ensures { λ r. ⌜ ((w : World) → (m : Machine) → (t places closed : List ℕ) → (types : ℕ) → Running w x (now (vt .entry)) (now (et .entry)) t places closed types m
@@ -158,7 +158,7 @@ fn range(x: Version, vt: &[u32], et: &[u32], a: u32, b: u32) -> Done
     }
 }
 
-// 54
+// Kind 54: the grade of a and b.
 fn grade(x: Version, vt: &[u32], et: &[u32], a: u32, b: u32) -> Done
     requires { ⌜ ((w : World) × (m : Machine) × (t : List ℕ) × (places : List ℕ) × (closed : List ℕ) × (types : ℕ) × Running w x (now vt) (now et) t places closed types m) ⌝ }
     ensures { λ r. ⌜ ((w : World) → (m : Machine) → (t places closed : List ℕ) → (types : ℕ) → Running w x (now (vt .entry)) (now (et .entry)) t places closed types m
@@ -185,7 +185,7 @@ fn quote(x: Version, vt: &[u32], et: &[u32], call: PriceCall) -> Done
     }
 }
 
-// 1: a kind that is not named.
+// Code 1: a kind that is not named.
 fn unknown(x: Version) -> Done
     ensures { λ r. ⌜ ((w : World) → (m : Machine) → (vt et t places closed : List ℕ) → (types : ℕ) → Running w x vt et t places closed types m → Stays w m the.Unknown x r vt et t places closed types) ⌝ }
 {

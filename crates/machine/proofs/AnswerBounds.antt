@@ -36,13 +36,13 @@ use Rattle.machine.specs.Codes.{
   refusal,
 }
 use Rattle.machine.specs.Machine.{Sort, changes, sets, drops, undoes, redoes, goes, commits, asks, sortOf, asked, numberBy, answer, answers, step}
-use Rattle.machine.specs.Run.{Lent, worldOf, listRefusal, answerWords}
+use Rattle.machine.specs.Run.{Lent, worldOf, Limits, listRefusal, answerWords}
 use Rattle.machine.specs.Demand.{begins}
 use Rattle.machine.proofs.Allowed.{Words}
 use Rattle.machine.proofs.Graphs.{Formed, present-formed}
 use Rattle.machine.proofs.GraphBounds.{vertex-numbers-le, edge-numbers-le, alpha-le, omega-le, this-le, that-le, vertex-type-le, edge-type-le, value-lt, reading-kind-le, decimetres-le, list-words, degree-le, cost-le}
 use Rattle.machine.proofs.Invariant.{Invariant, fresh-invariant, step-invariant, place-le, moved-le, between-le, free-le, standing-le}
-use Rattle.machine.proofs.ListRows.{Limits, passed, start-formed}
+use Rattle.machine.proofs.ListRows.{passed, start-formed}
 
 -- ---- codes
 

@@ -12,12 +12,12 @@ use Rattle.image.proofs.Room.{image-fits}
 use Rattle.image.proofs.WordSize.{Word, image-small}
 use Rattle.machine.specs.Calls.{Call, World, boundsIn, callsOf}
 use Rattle.machine.specs.Machine.{last}
-use Rattle.machine.specs.Run.{Lent, worldOf, imageRoom, listRefusal}
+use Rattle.machine.specs.Run.{Lent, worldOf, Limits, imageRoom, listRefusal}
 use Rattle.machine.specs.Demand.{after}
 use Rattle.machine.proofs.Allowed.{Words}
 use Rattle.machine.proofs.AnswerBounds.{calls-fit}
 use Rattle.machine.proofs.Graphs.{Formed, end-formed}
-use Rattle.machine.proofs.ListRows.{Limits, limits-in, passed, start-formed}
+use Rattle.machine.proofs.ListRows.{limits-in, passed, start-formed}
 
 module _ (w : World) (g : Graph) (xs : List Call) (h : Formed w g) (f : All Words xs) where
   -- after any list of calls

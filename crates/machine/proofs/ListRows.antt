@@ -13,21 +13,10 @@ use Rattle.image.specs.Image.{load, loadable}
 use Rattle.image.proofs.Loads.{loaded}
 use Rattle.image.proofs.WordSize.{InRange}
 use Rattle.machine.specs.Calls.{World, boundsIn}
-use Rattle.machine.specs.Run.{Lent, worldOf, imageRoom, listRefusal}
+use Rattle.machine.specs.Run.{Lent, worldOf, Limits, imageRoom, listRefusal}
 use Rattle.machine.proofs.Allowed.{in-range}
 use Rattle.machine.proofs.CodeRows.{chain-zero}
 use Rattle.machine.proofs.Graphs.{Formed}
-
--- "1 to 1,000 vertices, 1 to 4,000 edges, 1 to 20,000 changes", and 1 to 64 types
-pub record Limits (w : World) : Type 0 where
-  pub some-vertices : 1 ≤ w .vertices
-  pub few-vertices : w .vertices ≤ 1000
-  pub some-edges : 1 ≤ w .edges
-  pub few-edges : w .edges ≤ 4000
-  pub some-changes : 1 ≤ w .changes
-  pub few-changes : w .changes ≤ 20000
-  pub some-types : 1 ≤ length (w .rows)
-  pub few-types : length (w .rows) ≤ 64
 
 pub limits-in : (w : World) → Limits w → InRange (boundsIn w)
 limits-in w k = record { vertices = k .few-vertices; edges = k .few-edges; types = k .few-types }

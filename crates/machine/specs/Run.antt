@@ -1,5 +1,5 @@
 -- A run: what is lent, the refusals of a list, the result and the lent words after it.
-use Prim.Native.Nat.{ℕ, _+_, _*_, _/_, _%_}
+use Prim.Native.Nat.{ℕ, _+_, _*_, _/_, _%_, _≤_}
 use mathlib.Core.Bool.{Bool, true, false, not, _&&_}
 use mathlib.Core.List.{List, [], _∷_}
 use lib.ListN.{length}
@@ -35,6 +35,17 @@ pub record Ran : Type 0 where
 -- "Capacities are lengths ÷ 8, 12, 12, rounded down"
 abbrev pub worldOf : Lent → World
 worldOf l = record { rows = l .rows; vertices = l .vertexTable / 8; edges = l .edgeTable / 12; changes = l .changeTable / 12 }
+
+-- "1 to 1,000 vertices, 1 to 4,000 edges, 1 to 20,000 changes", and 1 to 64 types
+pub record Limits (w : World) : Type 0 where
+  pub some-vertices : 1 ≤ w .vertices
+  pub few-vertices : w .vertices ≤ 1000
+  pub some-edges : 1 ≤ w .edges
+  pub few-edges : w .edges ≤ 4000
+  pub some-changes : 1 ≤ w .changes
+  pub few-changes : w .changes ≤ 20000
+  pub some-types : 1 ≤ length (w .rows)
+  pub few-types : length (w .rows) ≤ 64
 
 -- 106 asks for "6 + 3 × vertices + 8 × edges of capacity"
 abbrev pub imageRoom : World → ℕ

@@ -12,7 +12,7 @@ unfoldable pub digits : ℕ → ℕ → (ℕ → Bool) → ℕ
 digits zero k b = 0
 digits (suc n) k b = bit (b k) + 2 * digits n (suc k) b
 
--- mark a is in the set: its digit, counted from 0, is 1
+-- mark a is in the set: digit a − 1, counted from 0, is 1
 abbrev pub inSet : ℕ → ℕ → Bool
 inSet set a = set / 2 ^ (a - 1) % 2 == 1
 

@@ -3,7 +3,7 @@ ghost use mathlib.Core.Path.{_≡_};
 ghost use mathlib.Core.Bool.{true, false};
 ghost use mathlib.Core.List.{List};
 ghost use Prim.Native.Nat.{ℕ, _-_, _≤_};
-ghost use lib.ListN.{length, getD};
+ghost use lib.ListN.{length, getD, set as setAt};
 ghost use Rattle.history.specs.Machine.{Standing, gone, at, noMarks, marked, cut, cutMarks, standing, distance};
 ghost use Rattle.marks.specs.Marked.{inSet, Marked};
 
@@ -25,17 +25,18 @@ pub fn place_of(places: &[u32; 64], a: u32) -> u32
     places[k as usize]
 }
 
-// 17: mark a, which does not stand, at place p.
+// Kind 17: mark a, which does not stand, at place p.
 pub fn set_mark(set: u64, places: &mut [u32; 64], a: u32, p: u32) -> u64
     requires { ⌜ (1 ≤ a) × (a ≤ 64) × (inSet set a ≡ false) ⌝ }
     ensures { λ r. ⌜ ((ms : ℕ → Standing) → Marked ms set (now (places .entry)) → Marked (marked a (at p) ms) r (now (places .exit))) ⌝ }
+    ensures { λ r. ⌜ now (places .exit) ≡ setAt (now (places .entry)) (a - 1) p ⌝ }
 {
     let k = a - 1;
     places[k as usize] = p;
     set | (1u64 << k)
 }
 
-// 18: mark a, which stands, goes.
+// Kind 18: mark a, which stands, goes.
 pub fn drop_mark(set: u64, a: u32) -> u64
     requires { ⌜ (1 ≤ a) × (a ≤ 64) × (inSet set a ≡ true) ⌝ }
     ensures { λ r. ⌜ ((places : List ℕ) → (ms : ℕ → Standing) → Marked ms set places → Marked (marked a gone ms) r places) ⌝ }
@@ -72,14 +73,14 @@ pub fn cut_marks(set: u64, places: &[u32; 64], p: u32) -> u64
     s
 }
 
-// 50: how many marks stand, the count of ones of the set.
+// Kind 50: how many marks stand, the count of ones of the set.
 pub fn count_marks(set: u64) -> u32
     ensures { λ r. ⌜ ((places : List ℕ) → (ms : ℕ → Standing) → Marked ms set places → r ≡ standing ms) ⌝ }
 {
     u64::count_ones(set)
 }
 
-// 49: the steps between two places.
+// Kind 49: the steps between two places.
 pub fn between(p: u32, q: u32) -> u32
     ensures { λ r. ⌜ r ≡ distance p q ⌝ }
 {

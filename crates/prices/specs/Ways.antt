@@ -11,7 +11,7 @@ use Rattle.prices.specs.declared.Way.{Way}
 use Rattle.prices.specs.declared.Way.the-variants.{Nothing, Heard}
 use Rattle.prices.specs.declared.Price.{Price}
 
--- "One way is the largest heard decimetres on edges from a to b", of the decimetres that are heard on these
+-- "One way is the largest heard decimetres on edges from a to b": of the list of these decimetres
 abbrev pub wayOf : List ℕ → Way
 wayOf [] = Nothing
 wayOf (d ∷ ds) = Heard (largest (d ∷ ds))

@@ -1,7 +1,7 @@
 // The price list, read off the lent tables.
+use cursor::following;
 use graph::Reading;
-use ring::Lane;
-use tables::rows::ends_of;
+use tables::rows::first_word;
 use tables::rows::reading_at;
 use tables::rows::this;
 ghost use mathlib.Core.Path.{_≡_};
@@ -21,7 +21,7 @@ pub enum Way {
     Heard(u32),
 }
 
-// Code 16 where a way has nothing heard, else 0 and the two-way range.
+// A code and the two-way range: code 16 where a way has nothing heard; 0 as range with any code.
 pub struct Price {
     pub code: u32,
     pub range: u32,
@@ -66,34 +66,17 @@ fn reading_to(et: &[u32], b: u32, w: u32) -> Reading
     reading_at(et, w / 2)
 }
 
-// One way from a to b: a walk along the list of a.
+// One way from a to b: a walk along the list of a by a cursor.
 pub fn one_way(vt: &[u32], et: &[u32], a: u32, b: u32) -> Way
     requires { ⌜ CanWalk (now vt) (now et) a ⌝ }
     ensures { λ r. ⌜ ((h : Head) (g : Graph) → Holds (st h (now (vt .entry)) (now (et .entry))) g → VertexThere g a → r ≡ wayOf (heard g a b)) ⌝ }
 {
-    let e = ends_of(vt, a);
     let mut way = Way::Nothing;
-    let mut w = ring::next(
-        et,
-        Lane {
-            stride: 6,
-            skip: 12,
-        },
-        e,
-        0,
-    );
+    let mut w = first_word(vt, a);
     while w != 0 {
         let reading = reading_to(et, b, w);
         way = with_reading(way, reading);
-        w = ring::next(
-            et,
-            Lane {
-                stride: 6,
-                skip: 12,
-            },
-            e,
-            w,
-        );
+        w = following(et, w);
     }
     way
 }

@@ -108,9 +108,6 @@ pub sum-few : (f : ℕ → ℕ) → ((w : ℕ) → f w ≤ 1) → (lane : Lane) 
 sum-few f b lane t e fair l h =
     rw (held-nodes lane t e fair l h) (omega (arith, sum-le f b l, held-length lane t e (length t + lane .skip) l (λ x s i. node-below lane (length t) x fair s i) h))
 
-pub held-by : (lane : Lane) (t : List ℕ) {e e′ : Ends} (l : List ℕ) → e ≡ e′ → Held lane t e′ l → Held lane t e l
-held-by lane t l q h = rw q h
-
 -- ---- links as words of the tables
 
 pub link-word : (lane : Lane) (t : List ℕ) (e : Ends) (s : Side) (x : ℕ) → (x ≡ 0 → ⊥) → Starts lane x → linkOf s lane t e x ≡ getD t (word s lane x) 0

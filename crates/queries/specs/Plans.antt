@@ -11,7 +11,7 @@ use Rattle.graph.specs.Graph.{readingOf}
 use Rattle.tables.specs.declared.Head.{Head}
 use Rattle.tables.specs.Tables.{State, VIn, EIn, WIn, vtype, vvalue, vlast, vprev, etype, eprev, wprev, wthis, readingAt}
 
--- x, or the place p once x is out
+-- x; where x is a itself, which leaves its list first, the place p of a
 abbrev pub unless : ℕ → ℕ → ℕ → ℕ
 unless a p x = pick x a p x
 

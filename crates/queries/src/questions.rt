@@ -1,4 +1,4 @@
-// Answers that need more than one word: the others are words of a row, or of the head.
+// Ends, orders, counts and degree: the other answers are words of a named row, or of the head.
 use crate::plans::choose;
 use cursor::following;
 use ring::Ends;

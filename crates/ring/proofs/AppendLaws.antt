@@ -25,10 +25,3 @@ module _ (lane : Lane) (t : List ℕ) (e : Ends) (l : List ℕ) (x : ℕ) (fair 
   pub held-append : Held lane (insertT lane t e (e .last) x) (insertE lane t e (e .last) x) (l ++ x ∷ [])
   held-append =
       rw (sym (insert-last x l (h .distinct)), ← held-last lane t e l h) (held-insert lane t e l (e .last) x fair h fx ix last-in)
-
--- ---- for callers: what is held where `append` returns
-
-pub appended : (lane : Lane) (t : List ℕ) (e : Ends) (x : ℕ) {t′ : List ℕ} {e′ : Ends} (l : List ℕ) →
-    (t′ ≡ insertT lane t e (e .last) x) × (e′ ≡ insertE lane t e (e .last) x) →
-    Fair lane → Held lane t e l → Fresh x (0 ∷ l) → Inside lane (length t) x → Held lane t′ e′ (l ++ x ∷ [])
-appended lane t e x l q fair h fx ix = rw (q .0, q .1) (held-append lane t e l x fair h fx ix)

@@ -5,6 +5,7 @@ use Rattle.graph.specs.declared.Edit.{Edit}
 use Rattle.graph.specs.declared.Edit.the-variants.{InsertVertex, RemoveVertex, InsertEdge, RemoveEdge, SetVertex, SetEdge, MoveVertex, MoveEdge, MoveWord}
 use Rattle.tables.specs.Tables.{State, vlane, elane, vends, eends, VIn, EIn, CanMove, setVertexS, moveVertexS, insertVertexS, CanInsertVertex, removeVertexS, CanRemoveVertex, setEdgeS, moveEdgeS, insertEdgeS, CanInsertEdge, removeEdgeS, CanRemoveEdge, moveWordS, CanMoveWord}
 
+-- the head and the tables after an edit; what an edit says of the graph before it is not looked at
 abbrev pub applyS : Edit → State → State
 applyS (InsertVertex n t v p) s = insertVertexS n t v p s
 applyS (RemoveVertex n t v p) s = removeVertexS n s
@@ -16,6 +17,7 @@ applyS (MoveVertex n old new) s = moveVertexS n new s
 applyS (MoveEdge n old new) s = moveEdgeS n new s
 applyS (MoveWord w v old u new) s = moveWordS w v u new s
 
+-- what each edit needs of the tables, so that it reads and writes only within them and counts without overflow
 abbrev pub Can : Edit → State → Type 0
 Can (InsertVertex n t v p) s = CanInsertVertex n p s
 Can (RemoveVertex n t v p) s = CanRemoveVertex n s
@@ -27,7 +29,7 @@ Can (MoveVertex n old new) s = CanMove vlane n new (s .vt) (vends (s .head))
 Can (MoveEdge n old new) s = CanMove elane n new (s .et) (eends (s .head))
 Can (MoveWord w v old u new) s = CanMoveWord w v u new s
 
--- the tables are no longer than a word can count
+-- under 2 ^ 31 words, so that both words of an edge with a row have 32 bits
 pub record Small (s : State) : Type 0 where
   pub vt : length (s .vt) < 2 ^ 31
   pub et : length (s .et) < 2 ^ 31

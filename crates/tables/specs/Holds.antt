@@ -22,15 +22,19 @@ pub record ERow (et : List ℕ) (e n : ℕ) (x : Edge) : Type 0 where
   pub kind : getD et (eat 5 e) 0 ≡ readingKind (x .reading)
   pub decimetres : getD et (eat 9 e) 0 ≡ decimetres (x .reading)
 
+-- the row of every number from 1 on, whether it is in the graph or not: the live word is 1 for a vertex, else 0
 abbrev pub VRows : List ℕ → List Vertex → Type 0
 VRows vt vs = (v : ℕ) → 1 ≤ v → VRow vt v (countBy vn v vs) (vertexIn vs v)
 
+-- the same of edges
 abbrev pub ERows : List ℕ → List Edge → Type 0
 ERows et es = (e : ℕ) → 1 ≤ e → ERow et e (countBy en e es) (edgeIn es e)
 
+-- the this of every oriented word from 2 on, 0 where its edge is not in the graph
 abbrev pub Thises : List ℕ → List Edge → Type 0
 Thises et es = (w : ℕ) → 2 ≤ w → getD et (wat 2 w) 0 ≡ thisIn es w
 
+-- the incidence list of every number from 1 on, empty where it is not in the graph
 abbrev pub Lists : List ℕ → List ℕ → List Vertex → Type 0
 Lists vt et vs = (v : ℕ) → 1 ≤ v → Held ilane et (endsAt vt v) (listIn vs v)
 

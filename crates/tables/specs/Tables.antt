@@ -12,8 +12,8 @@ use lib.Dec.{ltb}
 use Rattle.lists.specs.Choice.{_⇒_else_, _==_}
 use Rattle.graph.specs.Graph.{readingKind, decimetres, readingOf}
 use Rattle.tables.specs.declared.Head.{Head}
-use Rattle.tables.specs.declared.Found.{Found}
-use Rattle.tables.specs.declared.Found.the-variants.{At, Missing}
+use Rattle.tables.specs.declared.Lookup.{Lookup}
+use Rattle.tables.specs.declared.Lookup.the-variants.{Found, Missing}
 
 -- the links of "Vseq lists all vertices, Eseq all edges", and of the incidence lists
 abbrev pub vlane : Lane
@@ -262,10 +262,20 @@ pub record CanRemoveEdge (n a z : ℕ) (s : State) : Type 0 where
   pub out : CanDetach a (2 * n) (detachS z (2 * n + 1) s)
   pub row : CanDropEdge n (detachS a (2 * n) (detachS z (2 * n + 1) s))
 
--- ---- look-ups: "A call that names a missing unit or reading stops there"
+-- ---- look-ups: "lookup returns Found or Missing; let .. else leaves with the refusal code"
 
-unfoldable pub foundV : List ℕ → ℕ → Found
-foundV vt v = (v == 0) ⇒ Missing else ltb (length vt) (8 * v) ⇒ Missing else (getD vt (vat 0 v) 0 == 0) ⇒ Missing else At (8 * v - 8)
+unfoldable pub foundV : List ℕ → ℕ → Lookup
+foundV vt v = (v == 0) ⇒ Missing else ltb (length vt) (8 * v) ⇒ Missing else (getD vt (vat 0 v) 0 == 0) ⇒ Missing else Found (8 * v - 8)
 
-unfoldable pub foundE : List ℕ → ℕ → Found
-foundE et e = (e == 0) ⇒ Missing else ltb (length et) (12 * e) ⇒ Missing else (getD et (eat 3 e) 0 == 0) ⇒ Missing else At (12 * e - 12)
+unfoldable pub foundE : List ℕ → ℕ → Lookup
+foundE et e = (e == 0) ⇒ Missing else ltb (length et) (12 * e) ⇒ Missing else (getD et (eat 3 e) 0 == 0) ⇒ Missing else Found (12 * e - 12)
+
+-- "A call that names a missing unit or reading stops there with its code": code 4, "a vertex named is missing"
+abbrev pub vertexCode : Lookup → ℕ
+vertexCode (Found at) = 0
+vertexCode Missing = 4
+
+-- code 5, "an edge named is missing"
+abbrev pub edgeCode : Lookup → ℕ
+edgeCode (Found at) = 0
+edgeCode Missing = 5

@@ -35,8 +35,8 @@ pub struct Places {
     pub into: u32,
 }
 
-// Where the row of a number starts.
-pub enum Found {
-    At(usize),
+// What a look-up of a number returns: where its row starts, or that it has none.
+pub enum Lookup {
+    Found(usize),
     Missing,
 }

@@ -134,7 +134,7 @@ fn placed_at(x: Current, vt: &mut [u32], et: &mut [u32], t: &[u32], place: u32) 
     lent::moved(x, h, place, to)
 }
 
-// 19: one step back.
+// Kind 19: one step back.
 pub fn undo(x: Current, vt: &mut [u32], et: &mut [u32], t: &[u32]) -> Current
     requires { ⌜ 1 ≤ x .position .place ⌝ }
     requires { ⌜ ((b : Bounds) × (l : Timeline) × Journal b (x .position) (st (x .head) (now vt) (now et)) (now t) l) ⌝ }
@@ -143,7 +143,7 @@ pub fn undo(x: Current, vt: &mut [u32], et: &mut [u32], t: &[u32]) -> Current
     placed_at(x, vt, et, t, x.position.place - 1)
 }
 
-// 20: one step on.
+// Kind 20: one step on.
 pub fn redo(x: Current, vt: &mut [u32], et: &mut [u32], t: &[u32]) -> Current
     requires { ⌜ x .position .place < x .position .steps ⌝ }
     requires { ⌜ ((b : Bounds) × (l : Timeline) × Journal b (x .position) (st (x .head) (now vt) (now et)) (now t) l) ⌝ }
@@ -181,6 +181,7 @@ pub fn add_step(x: Current, vt: &mut [u32], et: &mut [u32], t: &mut [u32], edit:
     lent::stepped(x, h, 1)
 }
 
+// The head and the position at a place that is gone to, and how many steps lay between.
 pub struct Went {
     pub current: Current,
     pub moved: u32,
@@ -208,7 +209,7 @@ pub fn go_to(x: Current, vt: &mut [u32], et: &mut [u32], t: &[u32], place: u32) 
     Went { current, moved }
 }
 
-// 22: the present graph is the start.
+// Kind 22: the present graph is the start.
 pub fn commit(pos: Position) -> Position
     ensures { λ r. ⌜ ((b : Bounds) → (s : State) → (t : List ℕ) → (l : Timeline) → Journal b pos s t l → Journal b r s t (begun (current l))) ⌝ }
 {
@@ -219,7 +220,7 @@ pub fn commit(pos: Position) -> Position
     }
 }
 
-// 51: free changes, of a capacity.
+// Kind 51: free changes, of a capacity.
 pub fn free_changes(pos: Position, capacity: u32) -> u32
     requires { ⌜ pos .used ≤ capacity ⌝ }
     ensures { λ r. ⌜ ((b : Bounds) → (s : State) → (t : List ℕ) → (l : Timeline) → Journal b pos s t l → r ≡ freeOf capacity l) ⌝ }

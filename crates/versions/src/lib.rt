@@ -31,6 +31,7 @@ pub struct Done {
     pub number: u32,
 }
 
+// Code and number of a call that changes nothing.
 pub struct Answer {
     pub code: u32,
     pub number: u32,
@@ -58,7 +59,7 @@ fn cut(set: u64, position: Position, places: &[u32; 64]) -> u64
     marks::cut_marks(set, places, position.place)
 }
 
-// 1 to 16: a change whose codes 2 to 9 do not apply.
+// Kinds 1 to 16: a change whose codes 2 to 9 do not apply.
 pub fn change(
     x: Version,
     vt: &mut [u32],
@@ -90,7 +91,7 @@ pub fn change(
     }
 }
 
-// 19: one step back.
+// Kind 19: one step back.
 pub fn undo(x: Version, vt: &mut [u32], et: &mut [u32], t: &[u32]) -> Done
     requires { ⌜ ((b : Bounds) × (places : List ℕ) × (m : Machine) × Represents b x (now vt) (now et) (now t) places m) ⌝ }
     ensures { λ r. ⌜ ((b : Bounds) → (places : List ℕ) → (m : Machine) → Represents b x (now (vt .entry)) (now (et .entry)) (now (t .entry)) places m → Follows undoing m b (r .version) (r .code) (r .number) (now (vt .exit)) (now (et .exit)) (now (t .entry)) places) ⌝ }
@@ -114,7 +115,7 @@ pub fn undo(x: Version, vt: &mut [u32], et: &mut [u32], t: &[u32]) -> Done
     }
 }
 
-// 20: one step on.
+// Kind 20: one step on.
 pub fn redo(x: Version, vt: &mut [u32], et: &mut [u32], t: &[u32]) -> Done
     requires { ⌜ ((b : Bounds) × (places : List ℕ) × (m : Machine) × Represents b x (now vt) (now et) (now t) places m) ⌝ }
     ensures { λ r. ⌜ ((b : Bounds) → (places : List ℕ) → (m : Machine) → Represents b x (now (vt .entry)) (now (et .entry)) (now (t .entry)) places m → Follows redoing m b (r .version) (r .code) (r .number) (now (vt .exit)) (now (et .exit)) (now (t .entry)) places) ⌝ }
@@ -138,7 +139,7 @@ pub fn redo(x: Version, vt: &mut [u32], et: &mut [u32], t: &[u32]) -> Done
     }
 }
 
-// 11, 13 or 0: mark a must stand.
+// Code 11, 13 or 0: mark a must stand.
 fn named(set: u64, a: u32) -> u32
     ensures { λ r. ⌜ r ≡ namedCode set a ⌝ }
 {
@@ -154,7 +155,7 @@ fn named(set: u64, a: u32) -> u32
     13
 }
 
-// 11, 12 or 0: mark a must not stand.
+// Code 11, 12 or 0: mark a must not stand.
 fn unnamed(set: u64, a: u32) -> u32
     ensures { λ r. ⌜ r ≡ freshCode set a ⌝ }
 {
@@ -186,7 +187,7 @@ fn both(c: u32, d: u32) -> u32
     d
 }
 
-// 21: to the place of mark a.
+// Kind 21: to the place of mark a.
 pub fn go_to_mark(
     x: Version,
     vt: &mut [u32],
@@ -219,7 +220,7 @@ pub fn go_to_mark(
     }
 }
 
-// 17: mark a at the present place.
+// Kind 17: mark a at the present place.
 pub fn set_mark(x: Version, places: &mut [u32; 64], a: u32) -> Done
     ensures { λ r. ⌜ ((b : Bounds) → (vt et t : List ℕ) → (m : Machine) → Represents b x vt et t (now (places .entry)) m → Follows (setting a) m b (r .version) (r .code) (r .number) vt et t (now (places .exit))) ⌝ }
 {
@@ -240,7 +241,7 @@ pub fn set_mark(x: Version, places: &mut [u32; 64], a: u32) -> Done
     }
 }
 
-// 18: mark a goes.
+// Kind 18: mark a goes.
 pub fn drop_mark(x: Version, a: u32) -> Done
     ensures { λ r. ⌜ ((b : Bounds) → (vt et t places : List ℕ) → (m : Machine) → Represents b x vt et t places m → Follows (dropping a) m b (r .version) (r .code) (r .number) vt et t places) ⌝ }
 {
@@ -261,7 +262,7 @@ pub fn drop_mark(x: Version, a: u32) -> Done
     }
 }
 
-// 22: the present graph is the start, and no mark stands.
+// Kind 22: the present graph is the start, and no mark stands.
 pub fn commit(x: Version) -> Done
     ensures { λ r. ⌜ ((b : Bounds) → (vt et t places : List ℕ) → (m : Machine) → Represents b x vt et t places m → Follows committing m b (r .version) (r .code) (r .number) vt et t places) ⌝ }
 {
@@ -279,7 +280,7 @@ pub fn commit(x: Version) -> Done
     }
 }
 
-// 49: the steps between marks a and b.
+// Kind 49: the steps between marks a and b.
 pub fn between(x: Version, places: &[u32; 64], a: u32, b: u32) -> Answer
     ensures { λ r. ⌜ ((bounds : Bounds) → (vt et t : List ℕ) → (m : Machine) → Represents bounds x vt et t (now (places .entry)) m → Obeys (measuring a b) m (r .code) (r .number)) ⌝ }
 {
@@ -297,7 +298,7 @@ pub fn between(x: Version, places: &[u32; 64], a: u32, b: u32) -> Answer
     }
 }
 
-// 50: how many marks stand.
+// Kind 50: how many marks stand.
 pub fn standing(x: Version) -> Answer
     ensures { λ r. ⌜ ((b : Bounds) → (vt et t places : List ℕ) → (m : Machine) → Represents b x vt et t places m → Obeys counting m (r .code) (r .number)) ⌝ }
 {
@@ -307,7 +308,7 @@ pub fn standing(x: Version) -> Answer
     }
 }
 
-// 51: free changes.
+// Kind 51: free changes.
 pub fn free_changes(x: Version, t: &[u32]) -> Answer
     requires { ⌜ ((b : Bounds) × (vt et places : List ℕ) × (m : Machine) × Represents b x vt et (now t) places m) ⌝ }
     ensures { λ r. ⌜ ((b : Bounds) → (vt et places : List ℕ) → (m : Machine) → Represents b x vt et (now (t .entry)) places m → Obeys (freeing (capacityOf (now (t .entry)))) m (r .code) (r .number)) ⌝ }

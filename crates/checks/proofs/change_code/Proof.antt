@@ -103,13 +103,13 @@ returns : tie.Need-returns
 returns c = (λ g h. rw (c .before .before .change .given .1) (c .create-vertex .ensures g (_, h)), rw (c .before .before .change .given .1) (omega (arith, c .before .known-told .given .1)))
 
 returns-2 : tie.Need-returns-2
-returns-2 c = (λ g h. rw (c .before .before .change2 .given .1) (c .vertex-code .ensures g (_, h)), rw (c .before .before .change2 .given .1) (tt))
+returns-2 c = (λ g h. rw (c .before .before .change2 .given .1) (c .vertex-code .ensures .0 g (_, h)), rw (c .before .before .change2 .given .1) (tt))
 
 returns-3 : tie.Need-returns-3
 returns-3 c = (λ g h. rw (c .before .before .change3 .given .1) (c .create-edge .ensures g h), rw (c .before .before .change3 .given .1) (tt))
 
 returns-4 : tie.Need-returns-4
-returns-4 c = (λ g h. rw (c .before .before .change4 .given .1) (c .edge-code .ensures g (_, h)), rw (c .before .before .change4 .given .1) (tt))
+returns-4 c = (λ g h. rw (c .before .before .change4 .given .1) (c .edge-code .ensures .0 g (_, h)), rw (c .before .before .change4 .given .1) (tt))
 
 returns-5 : tie.Need-returns-5
 returns-5 c = (λ g h. rw (c .before .before .change5 .given .1) (c .retype-vertex .ensures g (_, h)), rw (c .before .before .change5 .given .1) (tt))
@@ -118,7 +118,7 @@ returns-6 : tie.Need-returns-6
 returns-6 c = (λ g h. rw (c .before .before .change6 .given .1) (c .retype-edge .ensures g (_, h)), rw (c .before .before .change6 .given .1) (tt))
 
 returns-7 : tie.Need-returns-7
-returns-7 c = (λ g h. rw (c .before .before .change7 .given .1) (c .vertex-code2 .ensures g (_, h)), rw (c .before .before .change7 .given .1) (omega (arith, c .before .known-told7 .given .1)))
+returns-7 c = (λ g h. rw (c .before .before .change7 .given .1) (c .vertex-code2 .ensures .0 g (_, h)), rw (c .before .before .change7 .given .1) (omega (arith, c .before .known-told7 .given .1)))
 
 returns-8 : tie.Need-returns-8
 returns-8 c = (λ g h. rw (c .before .before .change8 .given .1) (c .set-reading .ensures g (_, h)), rw (c .before .before .change8 .given .1) (tt))

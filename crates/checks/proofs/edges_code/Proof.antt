@@ -9,13 +9,13 @@ edge-code-requires : tie.Need-edge-code-requires
 edge-code-requires c κs = search needs
 
 returns : tie.Need-returns
-returns c = λ g h. either (lacksEdge g (c .before .before .before .args .a)) (lacksEdge g (c .before .before .before .args .b)) 5 _ (c .before .edge-code .ensures g h) (c .if1 .taken)
+returns c = λ g h. either (lacksEdge g (c .before .before .before .args .a)) (lacksEdge g (c .before .before .before .args .b)) 5 _ (c .before .edge-code .ensures .0 g h) (c .if1 .taken)
 
 edge-code-requires-2 : tie.Need-edge-code-requires-2
 edge-code-requires-2 c κs = search needs
 
 returns-2 : tie.Need-returns-2
-returns-2 c = λ g h. second (lacksEdge g (c .before .before .before .before .args .a)) (lacksEdge g (c .before .before .before .before .args .b)) 5 _ _ (omega arith) (c .before .before .edge-code .ensures g h) (c .before .if1 .left) (c .edge-code2 .ensures g h)
+returns-2 c = λ g h. second (lacksEdge g (c .before .before .before .before .args .a)) (lacksEdge g (c .before .before .before .before .args .b)) 5 _ _ (omega arith) (c .before .before .edge-code .ensures .0 g h) (c .before .if1 .left) (c .edge-code2 .ensures .0 g h)
 
 pub edges-code-spec : {M : Type 1} → statement M
 edges-code-spec = tie.close (tie.spec edge-code-requires returns edge-code-requires-2 returns-2)

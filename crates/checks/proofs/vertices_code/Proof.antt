@@ -9,13 +9,13 @@ vertex-code-requires : tie.Need-vertex-code-requires
 vertex-code-requires c κs = search needs
 
 returns : tie.Need-returns
-returns c = λ g h. either (lacksVertex g (c .before .before .before .args .a)) (lacksVertex g (c .before .before .before .args .b)) 4 _ (c .before .vertex-code .ensures g h) (c .if1 .taken)
+returns c = λ g h. either (lacksVertex g (c .before .before .before .args .a)) (lacksVertex g (c .before .before .before .args .b)) 4 _ (c .before .vertex-code .ensures .0 g h) (c .if1 .taken)
 
 vertex-code-requires-2 : tie.Need-vertex-code-requires-2
 vertex-code-requires-2 c κs = search needs
 
 returns-2 : tie.Need-returns-2
-returns-2 c = λ g h. second (lacksVertex g (c .before .before .before .before .args .a)) (lacksVertex g (c .before .before .before .before .args .b)) 4 _ _ (omega arith) (c .before .before .vertex-code .ensures g h) (c .before .if1 .left) (c .vertex-code2 .ensures g h)
+returns-2 c = λ g h. second (lacksVertex g (c .before .before .before .before .args .a)) (lacksVertex g (c .before .before .before .before .args .b)) 4 _ _ (omega arith) (c .before .before .vertex-code .ensures .0 g h) (c .before .if1 .left) (c .vertex-code2 .ensures .0 g h)
 
 pub vertices-code-spec : {M : Type 1} → statement M
 vertices-code-spec =

@@ -23,9 +23,11 @@ shl-result : tie.Need-shl-result
 shl-result c = search needs
 
 returns : tie.Need-returns
-returns c = λ ms h.
-    let a = c .args in
-    mark-put ms (a .set) (a .places .now) h (a .a) (c .pre .0) (c .pre .1) (a .p) _ (sym (in-set ms (a .set) (a .places .now) h (a .a) (c .pre .0) (c .pre .1)) ∙ c .pre .2) refl
+returns c =
+    let a = c .args in (
+      λ ms h. mark-put ms (a .set) (a .places .now) h (a .a) (c .pre .0) (c .pre .1) (a .p) _ (sym (in-set ms (a .set) (a .places .now) h (a .a) (c .pre .0) (c .pre .1)) ∙ c .pre .2) refl,
+      refl,
+    )
 
 pub set-mark-spec : {M : Type 1} → statement M
 set-mark-spec =

@@ -1,15 +1,15 @@
 -- The invariant: the way so far, after what is ahead, is the way after the whole list. The measure is the length of what is ahead.
 use Prim.Native.Nat.{ℕ, _/_}
-use mathlib.Core.Path.{_≡_, refl, sym, ap, _∙_}
+use mathlib.Core.Path.{_≡_, sym, ap, _∙_}
 use mathlib.Core.List.{List}
 use borrow.Author.Needs.{needs}
 use Rattle.lists.specs.Lists.{sumOf}
 use Rattle.ring.specs.declared.Ends.{Ends}
 use Rattle.ring.specs.Links.{nxt, linkOf, nodes}
 use Rattle.graph.specs.declared.Reading.{Reading}
-use Rattle.tables.specs.Tables.{st, ilane, EIn}
+use Rattle.tables.specs.Tables.{st, ilane, endsAt, EIn, wnext}
 use Rattle.tables.proofs.Frames.{fair-i}
-use Rattle.queries.proofs.ListWalks.{Walk, Step, left, walk-start, walk-step, held-by}
+use Rattle.queries.proofs.ListWalks.{Walk, Step, left, walk-start, walk-step, first-link, word-in, next-link}
 use Rattle.prices.specs.declared.Way.{Way}
 use Rattle.prices.specs.declared.Way.the-variants.{Nothing}
 use Rattle.prices.specs.Ways.{withReading, readingTo, along}
@@ -26,82 +26,90 @@ abbrev Stands : List ℕ → Ends → ℕ → Type 0
 Stands et e w = Walk (λ x. 0) (Row et) ilane et e w 0 (sumOf (λ x. 0) (nodes ilane et e))
 
 abbrev Inv-loop : tie.InvT-loop
-Inv-loop vt et a b e way₀ w₀ way w =
-    Stands et e w × (along (readingTo et b) way (ahead ilane et e w) ≡ along (readingTo et b) Nothing (nodes ilane et e))
+Inv-loop vt et a b way₀ w₀ way w =
+    Stands et (endsAt vt a) w × (along (readingTo et b) way (ahead ilane et (endsAt vt a) w) ≡ along (readingTo et b) Nothing (nodes ilane et (endsAt vt a)))
 
 abbrev μ-loop : tie.MeasureT-loop
-μ-loop vt et a b e way₀ w₀ way w = left ilane et e w
+μ-loop vt et a b way₀ w₀ way w = left ilane et (endsAt vt a) w
 
 module _ (et : List ℕ) (e : Ends) (w : ℕ) (k : Stands et e w) (z : w ≡ 0 → ⊥) where
   step : Step (λ x. 0) (Row et) ilane et e w 0 (sumOf (λ x. 0) (nodes ilane et e))
   step = walk-step (λ x. 0) (Row et) ilane et e w 0 (sumOf (λ x. 0) (nodes ilane et e)) k z
 
-  on : (b : ℕ) (way way′ : Way) (r : Reading) (y : ℕ) → r ≡ readingTo et b w → way′ ≡ withReading way r → y ≡ linkOf nxt ilane et e w →
+  link : (y : ℕ) → y ≡ wnext et w → y ≡ linkOf nxt ilane et e w
+  link = next-link et w (step .holds) e
+
+  on : (b : ℕ) (way way′ : Way) (r : Reading) (y : ℕ) → r ≡ readingTo et b w → way′ ≡ withReading way r → y ≡ wnext et w →
       along (readingTo et b) way (ahead ilane et e w) ≡ along (readingTo et b) Nothing (nodes ilane et e) →
       along (readingTo et b) way′ (ahead ilane et e y) ≡ along (readingTo et b) Nothing (nodes ilane et e)
   on b way way′ r y p q n h =
       ap (λ (x : Way). along (readingTo et b) x (ahead ilane et e y)) (q ∙ ap (withReading way) p)
-      ∙ sym (ap (along (readingTo et b) way) (ahead-on (λ x. 0) (Row et) ilane et e w 0 (sumOf (λ x. 0) (nodes ilane et e)) k z y n))
+      ∙ sym (ap (along (readingTo et b) way) (ahead-on (λ x. 0) (Row et) ilane et e w 0 (sumOf (λ x. 0) (nodes ilane et e)) k z y (link y n)))
       ∙ h
 
-ends-of-requires : tie.Need-ends-of-requires Inv-loop μ-loop
-ends-of-requires c κs = c .before .before .pre .row
-
-next-requires : tie.Need-next-requires Inv-loop μ-loop
-next-requires c κs = (fair-i, λ z. absurd (z refl))
+first-word-requires : tie.Need-first-word-requires Inv-loop μ-loop
+first-word-requires c κs = c .before .before .pre .row
 
 loop-holds : tie.Need-loop-holds Inv-loop μ-loop
 unfolding nodes
 loop-holds c =
-    let s = c .before .before .before .before in
+    let s = c .before .before .before in
     let et = s .args .et .now in
-    let e = c .before .ends-of in (
-      walk-start (λ x. 0) (Row et) ilane et (e .result) fair-i (s .pre .list) (held-by ilane et (s .pre .list) (e .ensures) (s .pre .held)) (s .pre .rows) (c .next .result) (c .next .ensures),
-      ap (λ (w : ℕ). along (readingTo et (s .args .b)) Nothing (ahead ilane et (e .result) w)) (c .next .ensures),
+    let e = endsAt (s .args .vt .now) (s .args .a) in
+    let q = c .first-word .ensures ∙ first-link (s .args .vt .now) et (s .args .a) in (
+      walk-start (λ x. 0) (Row et) ilane et e fair-i (s .pre .list) (s .pre .held) (s .pre .rows) (c .first-word .result) q,
+      ap (λ (w : ℕ). along (readingTo et (s .args .b)) Nothing (ahead ilane et e w)) q,
     )
 
 reading-to-requires : tie.Need-reading-to-requires Inv-loop μ-loop
 reading-to-requires c κs =
     let l = c .before .loop in
-    step (c .before .before .before .before .before .before .args .et .now) (c .before .before .before .ends-of .result) (l .w) (l .inv .0) (c .loop-test .taken) .holds
+    let s = c .before .before .before .before .before in
+    step (s .args .et .now) (endsAt (s .args .vt .now) (s .args .a)) (l .w) (l .inv .0) (c .loop-test .taken) .holds
 
 with-reading-requires : tie.Need-with-reading-requires Inv-loop μ-loop
 with-reading-requires c κs = search needs
 
-next-requires-2 : tie.Need-next-requires-2 Inv-loop μ-loop
-next-requires-2 c κs =
+following-requires : tie.Need-following-requires Inv-loop μ-loop
+following-requires c κs =
     let l = c .before .before .before .loop in
-    (fair-i, step (c .before .before .before .before .before .before .before .before .args .et .now) (c .before .before .before .before .before .ends-of .result) (l .w) (l .inv .0) (c .before .before .loop-test .taken) .inside)
+    let s = c .before .before .before .before .before .before .before in
+    let et = s .args .et .now in
+    word-in et (l .w) (step et (endsAt (s .args .vt .now) (s .args .a)) (l .w) (l .inv .0) (c .before .before .loop-test .taken) .holds)
 
 loop-less : tie.Need-loop-less Inv-loop μ-loop
 loop-less c =
     let l = c .before .before .before .before .loop in
-    step (c .before .before .before .before .before .before .before .before .before .args .et .now) (c .before .before .before .before .before .before .ends-of .result) (l .w) (l .inv .0) (c .before .before .before .loop-test .taken)
-    .less (c .next2 .result) (c .next2 .ensures)
+    let s = c .before .before .before .before .before .before .before .before in
+    let et = s .args .et .now in
+    let e = endsAt (s .args .vt .now) (s .args .a) in
+    let z = c .before .before .before .loop-test .taken in
+    let y = c .following in
+    step et e (l .w) (l .inv .0) z .less (y .result) (link et e (l .w) (l .inv .0) z (y .result) (y .ensures))
 
 loop-again : tie.Need-loop-again Inv-loop μ-loop
 loop-again c =
     let l = c .before .before .before .before .loop in
-    let s = c .before .before .before .before .before .before .before .before .before in
+    let s = c .before .before .before .before .before .before .before .before in
     let et = s .args .et .now in
-    let e = c .before .before .before .before .before .before .ends-of .result in
+    let e = endsAt (s .args .vt .now) (s .args .a) in
     let z = c .before .before .before .loop-test .taken in
     let r = c .before .before .reading-to in
-    let n = c .before .with-reading in (
-      step et e (l .w) (l .inv .0) z .next (c .next2 .result) (c .next2 .ensures),
-      on et e (l .w) (l .inv .0) z (s .args .b) (l .way) (n .result) (r .result) (c .next2 .result) (r .ensures) (n .ensures) (c .next2 .ensures) (l .inv .1),
+    let n = c .before .with-reading in
+    let y = c .following in (
+      step et e (l .w) (l .inv .0) z .next (y .result) (link et e (l .w) (l .inv .0) z (y .result) (y .ensures)),
+      on et e (l .w) (l .inv .0) z (s .args .b) (l .way) (n .result) (r .result) (y .result) (r .ensures) (n .ensures) (y .ensures) (l .inv .1),
     )
 
 returns : tie.Need-returns Inv-loop μ-loop
 returns c =
     let l = c .before .loop in
-    let s = c .before .before .before .before .before .before in
+    let s = c .before .before .before .before .before in
     let et = s .args .et .now in
-    let e = c .before .before .before .ends-of in
+    let e = endsAt (s .args .vt .now) (s .args .a) in
     λ h g holds there.
-    sym (ap (along (readingTo et (s .args .b)) (l .way)) (ahead-end (λ x. 0) (Row et) ilane et (e .result) (l .w) 0 0 (c .loop-test .left)))
+    sym (ap (along (readingTo et (s .args .b)) (l .way)) (ahead-end (λ x. 0) (Row et) ilane et e (l .w) 0 0 (c .loop-test .left)))
     ∙ l .inv .1
-    ∙ ap (λ (x : Ends). along (readingTo et (s .args .b)) Nothing (nodes ilane et x)) (e .ensures)
     ∙ way-is (st h (s .args .vt .now) et) g holds (s .args .a) (s .args .b) there
 
 pub one-way-spec : {M : Type 1} → statement M
@@ -110,12 +118,11 @@ one-way-spec =
     (tie.spec
     Inv-loop
     μ-loop
-    ends-of-requires
-    next-requires
+    first-word-requires
     loop-holds
     reading-to-requires
     with-reading-requires
-    next-requires-2
+    following-requires
     loop-less
     loop-again
     returns)

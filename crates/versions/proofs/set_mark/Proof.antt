@@ -24,7 +24,7 @@ returns-2 : tie.Need-returns-2
 returns-2 c =
     λ b vt et t m h.
     let a = c .before .before .before .before .before .args in
-    set-done b (a .x) vt et t (a .places .now) m h (a .a) _ (c .before .before .before .unnamed .ensures) (c .before .before .if1 .left) _ _ refl (c .set-mark .ensures (m .marks) (h .marks))
+    set-done b (a .x) vt et t (a .places .now) m h (a .a) _ (c .before .before .before .unnamed .ensures) (c .before .before .if1 .left) _ _ refl (c .set-mark .ensures .0 (m .marks) (h .marks))
 
 pub set-mark-spec : {M : Type 1} → statement M
 set-mark-spec = tie.close (tie.spec unnamed-requires returns set-mark-requires returns-2)
