@@ -5,7 +5,7 @@ use Rattle.graph.specs.declared.Edit.{Edit}
 use Rattle.graph.specs.declared.Edit.the-variants.{InsertVertex, RemoveVertex, InsertEdge, RemoveEdge, SetVertex, SetEdge, MoveVertex, MoveEdge, MoveWord}
 use Rattle.tables.specs.Tables.{State, vlane, elane, vends, eends, VIn, EIn, CanMove, setVertexS, moveVertexS, insertVertexS, CanInsertVertex, removeVertexS, CanRemoveVertex, setEdgeS, moveEdgeS, insertEdgeS, CanInsertEdge, removeEdgeS, CanRemoveEdge, moveWordS, CanMoveWord}
 
--- the head and the tables after an edit; what an edit says of the graph before it is not looked at
+-- the head and the tables after an edit; of what the edit says of the graph before it, only the ends of an edge and the vertex of a word are used
 abbrev pub applyS : Edit → State → State
 applyS (InsertVertex n t v p) s = insertVertexS n t v p s
 applyS (RemoveVertex n t v p) s = removeVertexS n s
@@ -17,7 +17,7 @@ applyS (MoveVertex n old new) s = moveVertexS n new s
 applyS (MoveEdge n old new) s = moveEdgeS n new s
 applyS (MoveWord w v old u new) s = moveWordS w v u new s
 
--- what each edit needs of the tables, so that it reads and writes only within them and counts without overflow
+-- what each edit asks of the tables, so that what it reads and writes is within them and its counts are words
 abbrev pub Can : Edit → State → Type 0
 Can (InsertVertex n t v p) s = CanInsertVertex n p s
 Can (RemoveVertex n t v p) s = CanRemoveVertex n s

@@ -22,7 +22,7 @@ pub record ERow (et : List ℕ) (e n : ℕ) (x : Edge) : Type 0 where
   pub kind : getD et (eat 5 e) 0 ≡ readingKind (x .reading)
   pub decimetres : getD et (eat 9 e) 0 ≡ decimetres (x .reading)
 
--- the row of every number from 1 on, whether it is in the graph or not: the live word is 1 for a vertex, else 0
+-- the row of every number from 1 on, whether it is in the graph or not: its live word is 1 or 0
 abbrev pub VRows : List ℕ → List Vertex → Type 0
 VRows vt vs = (v : ℕ) → 1 ≤ v → VRow vt v (countBy vn v vs) (vertexIn vs v)
 

@@ -35,7 +35,7 @@ pub struct Places {
     pub into: u32,
 }
 
-// What a look-up of a number returns: where its row starts, or that it has none.
+// What a look-up of a number returns: where its row starts, or that the graph does not have it.
 pub enum Lookup {
     Found(usize),
     Missing,
