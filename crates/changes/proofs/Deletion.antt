@@ -11,8 +11,8 @@ use Rattle.lists.proofs.Picks.{is-yes}
 use Rattle.graph.specs.declared.Edit.{Edit}
 use Rattle.graph.specs.declared.Change.the-variants.{DeleteVertex}
 use Rattle.graph.specs.Graph.{Graph, wd, listOf, edgeOf}
-use Rattle.graph.specs.WellFormed.{Bounds, Within}
-use Rattle.graph.specs.Changes.{changed, cost, edgesAt, VertexThere, EdgeThere}
+use Rattle.graph.specs.WellFormed.{Bounds}
+use Rattle.graph.specs.Changes.{changed, cost, VertexThere, EdgeThere}
 use Rattle.graph.specs.Edits.{Applies, EditIn, apply}
 use Rattle.graph.specs.Plans.{removal, vertexRemoval, plan}
 use Rattle.graph.proofs.Lists.{ordered-list}
@@ -20,7 +20,7 @@ use Rattle.graph.proofs.Removals.{removal-applies, vertex-removal-applies}
 use Rattle.graph.proofs.EdgesAt.{first-there, edges-none, edges-first, removals-vertices}
 use Rattle.graph.proofs.PlanBounds.{removal-in, plan-in}
 use Rattle.graph.proofs.ChangeLaws.{deleted-step, deleted-last}
-use Rattle.history.specs.Machine.{Step, Timeline, current, extended}
+use Rattle.history.specs.Machine.{Timeline, current, extended}
 use Rattle.history.specs.Rules.{stepOf}
 use Rattle.journal.specs.Rows.{rowed}
 use Rattle.tables.specs.Tables.{State, VIn, EIn, vfirst}
@@ -30,8 +30,8 @@ use Rattle.queries.specs.Plans.{Short, planRemoveEdge, planRemoveVertex}
 use Rattle.queries.proofs.Answers.{first-word, vertex-row, edge-row}
 use Rattle.queries.proofs.PlanLaws.{removal-is, plan-is}
 use Rattle.timeline.specs.declared.Position.{Position}
-use Rattle.timeline.specs.Steps.{Journal, Open}
-use Rattle.timeline.proofs.Steps.{stepWith, holds-current, same-current, open-start, open-within, open-can, open-more, open-holds, open-close}
+use Rattle.timeline.specs.Steps.{Journal}
+use Rattle.timeline.proofs.Steps.{stepWith, holds-current, open-start, open-within, open-can, open-more, open-holds, open-close}
 use Rattle.changes.specs.Deleting.{Deleting}
 
 -- a list and its first word
@@ -64,7 +64,7 @@ module _ (a : ℕ) (b : Bounds) (j : Position) (s₀ : State) (t₀ : List ℕ) 
   row-room e f = omega (arith, k .left, k .opened .size, e, f)
 
   pub row-short : c ≡ cost (DeleteVertex a) (current l) → 12 * (j .used + c) ≤ length t₀ → u + 1 < 2 ^ 32
-  row-short e f = omega (arith, row-room e f, k .opened .tape .short)
+  row-short e f = omega (arith, row-room e f, k .opened .rows .short)
 
   pub row-before : c ≡ cost (DeleteVertex a) (current l) → u < j .used + c
   row-before e = omega (arith, k .left, e)
@@ -84,7 +84,7 @@ module _ (a : ℕ) (b : Bounds) (j : Position) (s₀ : State) (t₀ : List ℕ) 
     pub edge-here : Short (w / 2) × EIn (s .et) (w / 2)
     edge-here =
         let i = edge-row s (k .graph) (k .holds) (w / 2) edge-there in
-        (omega (arith, i, k .opened .tape .sized .edges, k .opened .tape .sized .fewEdges), i)
+        (omega (arith, i, k .opened .rows .sized .edges, k .opened .rows .sized .fewEdges), i)
 
     module _ (e : Edit) (q : e ≡ planRemoveEdge (s .et) (w / 2)) where
       is-removal : e ≡ removal (edgeOf w) (k .graph)
@@ -172,7 +172,7 @@ module _ (a : ℕ) (b : Bounds) (j : Position) (s₀ : State) (t₀ : List ℕ) 
 
 -- ---- the loop over the edges: of any position whose rows end at `base`
 
-pub record Rowing (a base c : ℕ) (s₀ : State) (t₀ : List ℕ) (s : State) (t : List ℕ) (u w : ℕ) : Type 0 where
+pub record RemovalLoop (a base c : ℕ) (s₀ : State) (t₀ : List ℕ) (s : State) (t : List ℕ) (u w : ℕ) : Type 0 where
   pub vlen : length (s .vt) ≡ length (s₀ .vt)
   pub elen : length (s .et) ≡ length (s₀ .et)
   pub tlen : length t ≡ length t₀

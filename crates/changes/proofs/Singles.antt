@@ -1,9 +1,8 @@
 -- The changes that are one edit, and the cost of each change.
-use Prim.Native.Nat.{ℕ, _+_, _*_, _^_, _≤_, _<_}
-use mathlib.Core.Path.{_≡_, refl, sym, ap, subst, _∙_}
+use Prim.Native.Nat.{ℕ, _+_, _^_, _<_}
+use mathlib.Core.Path.{_≡_, sym, ap, subst, _∙_}
 use mathlib.Core.List.{List, [], _∷_}
 use native.Mathlib.Omega.{arith}
-use lib.ListN.{length}
 use types.Run.{OneOf, miss}
 use denote.Enum.Declared.{tagOf}
 use Rattle.graph.proofs.Change.{the-type}
@@ -12,7 +11,7 @@ use Rattle.graph.specs.declared.Change.{Change}
 use Rattle.graph.specs.declared.Change.the-variants.{DeleteVertex}
 use Rattle.graph.specs.Graph.{Graph}
 use Rattle.graph.specs.WellFormed.{Bounds}
-use Rattle.graph.specs.Changes.{changed, cost, edgesAt, VertexThere, Allowed}
+use Rattle.graph.specs.Changes.{changed, cost, VertexThere, Allowed}
 use Rattle.graph.specs.Edits.{Applies, EditIn, apply}
 use Rattle.graph.specs.Plans.{plan, firstEdits}
 use Rattle.graph.proofs.PlanLaws as graph-plans
@@ -23,7 +22,7 @@ use Rattle.history.specs.Rules.{stepOf}
 use Rattle.tables.specs.Tables.{State, ilane, endsAt}
 use Rattle.tables.specs.Holds.{Holds}
 use Rattle.tables.specs.Capacities.{Sized}
-use Rattle.tables.proofs.Frames.{fair-i}
+use Rattle.tables.proofs.Frames.{valid-i}
 use Rattle.queries.specs.Plans.{planS, CanPlan}
 use Rattle.queries.specs.Walks.{CanWalk, countedAt, edgeCount}
 use Rattle.queries.proofs.Answers.{can-walk}
@@ -61,7 +60,7 @@ module _ (b : Bounds) (s : State) (z : Sized b s) (g : Graph) (h : Holds s g) (c
 
   pub count-short : (n : ℕ) → n ≡ edgeCount (s .vt) (s .et) a → n + 1 < 2 ^ 32
   unfolding edgeCount
-  count-short n q = omega (arith, q, sum-few (countedAt (s .et)) (counted-le (s .et)) ilane (s .et) (endsAt (s .vt) a) fair-i (can-count .list) (can-count .held), can-count .small)
+  count-short n q = omega (arith, q, sum-few (countedAt (s .et)) (counted-le (s .et)) ilane (s .et) (endsAt (s .vt) a) valid-i (can-count .list) (can-count .held), can-count .small)
 
 pub counted : (b : Bounds) (s : State) (g : Graph) → Holds s g → (c : Change) (a n : ℕ) → c ≡ DeleteVertex a → Allowed b g c → n ≡ edgeCount (s .vt) (s .et) a → n + 1 ≡ cost c g
 counted b s g h c a n e i q =
@@ -76,7 +75,7 @@ module _ (b : Bounds) (j : Position) (s : State) (t : List ℕ) (l : Timeline) (
   holds = holds-current b j s t l k
 
   pub can-plan : CanPlan c s
-  can-plan = table-plans.can-plan b s (k .tape .sized) (current l) holds c i
+  can-plan = table-plans.can-plan b s (k .rows .sized) (current l) holds c i
 
   module _ (e : Edit) (q : e ≡ planS c s) where
     is-plan : e ≡ plan c (current l)

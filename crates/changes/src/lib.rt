@@ -3,7 +3,6 @@ use graph::Change;
 use tables::Head;
 use timeline::Current;
 ghost use mathlib.Core.Path.{_≡_};
-ghost use mathlib.Core.List.{List};
 ghost use Prim.Native.Nat.{_+_, _*_, _≤_};
 ghost use lib.ListN.{length};
 ghost use Rattle.graph.specs.declared.Change.the-variants.{DeleteVertex};

@@ -6,7 +6,7 @@ use tables::lookups::find_vertex;
 use tables::lookups::find_word;
 use tables::rows::this;
 ghost use mathlib.Core.Path.{_≡_};
-ghost use mathlib.Core.Bool.{not, _&&_, _||_};
+ghost use mathlib.Core.Bool.{not, _||_};
 ghost use Prim.Native.Nat.{_/_};
 ghost use lib.Dec.{leb};
 ghost use lib.ListN.{length};

@@ -1,9 +1,8 @@
 -- A command means what the table of codes and the machine say of its call.
-use Prim.Native.Nat.{ℕ, zero, suc, _≤_, _<_}
+use Prim.Native.Nat.{ℕ, suc, _≤_, _<_}
 use mathlib.Core.Path.{_≡_, refl, sym, ap, _∙_, subst}
 use mathlib.Core.Logic.{_⊎_, inl, inr}
 use mathlib.Core.Bool.{Bool, true, false, not, _&&_, _||_}
-use mathlib.Core.List.{List}
 use native.Mathlib.Omega.{arith}
 use lib.Dec.{leb}
 use lib.ListN.{length}
@@ -30,12 +29,11 @@ use Rattle.graph.specs.declared.Change.the-variants.{
   WordAfter,
 }
 use Rattle.graph.specs.Graph.{hasVertex, hasEdge, edgeOf, this, isReading}
-use Rattle.graph.specs.Changes.{changed, cost}
-use Rattle.machine.specs.Calls.{Call, World, known, changeOf}
+use Rattle.graph.specs.Changes.{cost}
+use Rattle.machine.specs.Calls.{Call, Parameters, known, changeOf}
 use Rattle.machine.specs.Codes.{free, refusal, noRoom, nothingToRange}
-use Rattle.machine.specs.Machine.{Answer, sortOf, numberBy, asked, nextBy, stepBy, answer, step}
+use Rattle.machine.specs.Machine.{sortOf, numberBy, asked, nextBy, stepBy, answer, step}
 use Rattle.machine.proofs.Sorts.{ofKind, call-is}
-use Rattle.commands.specs.declared.Command.{Command}
 use Rattle.commands.specs.declared.Command.the-variants.{Unknown}
 use Rattle.commands.specs.Commands.{historyOf, questionOf, commandOf}
 use Rattle.commands.specs.Meaning.{roomCode, orElse, commandCode, commandNumber, commandNext, answerTo, stepTo}
@@ -67,12 +65,12 @@ four false u v s n k l j r = three u v s k l j r
 -- ---- each kind
 
 -- what is shown of a call
-record Meant (w : World) (m : Machine) (x : Call) : Type 0 where
+record Meant (w : Parameters) (m : Machine) (x : Call) : Type 0 where
   code : refusal w m x ≡ commandCode w m (commandOf x)
   number : (refusal w m x == 0) ≡ true → numberBy (sortOf (present m) x) w m x ≡ commandNumber w m (commandOf x)
   next : (refusal w m x == 0) ≡ true → nextBy (sortOf (present m) x) m x ≡ commandNext m (commandOf x)
 
-module _ (w : World) (m : Machine) (x : Call) where
+module _ (w : Parameters) (m : Machine) (x : Call) where
   of-1 : Meant w m (ofKind 1 x)
   unfolding ofKind refusal noRoom nothingToRange sortOf numberBy asked nextBy stepBy changeOf historyOf questionOf commandOf
   of-1 = record { code = simp or-false (three (not (within 1 (w .vertices) (x .a))) (hasVertex (present m) (x .a)) (leb (length (w .rows)) (x .b)) 1 2 5 (roomCode (free w m) (cost (CreateVertex (x .a) (x .b) (x .c)) (present m)))); number = λ z. refl; next = λ z. refl }

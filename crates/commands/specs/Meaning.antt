@@ -2,7 +2,7 @@
 -- is what the table of codes says of the call.
 use Prim.Native.Nat.{ℕ, suc, _-_}
 use mathlib.Core.List.{List}
-use mathlib.Core.Bool.{Bool, true, false, not, _&&_, _||_}
+use mathlib.Core.Bool.{Bool, not, _||_}
 use lib.Dec.{leb, ltb}
 use lib.ListN.{length}
 use Rattle.lists.specs.Choice.{_⇒_else_, _==_, bit, within}
@@ -33,7 +33,7 @@ use Rattle.graph.specs.Changes.{changed, cost}
 use Rattle.graph.specs.Questions.{degree}
 use Rattle.history.specs.Machine.{Machine, changes, moves, sets, drops, commits, stands, placeOr, distance, standing, present}
 use Rattle.pricing.specs.Prices.{nothingHeard, twoWay, grade}
-use Rattle.machine.specs.Calls.{World, boundsIn}
+use Rattle.machine.specs.Calls.{Parameters, boundsIn}
 use Rattle.machine.specs.Codes.{free}
 use Rattle.machine.specs.Machine.{Answer}
 use Rattle.commands.specs.declared.HistoryCall.{HistoryCall}
@@ -214,7 +214,7 @@ abbrev pub orElse : ℕ → ℕ → ℕ
 orElse r s = (r == 0) ⇒ s else r
 
 -- of Unknown, 1 "kind not named above"
-abbrev pub commandCode : World → Machine → Command → ℕ
+abbrev pub commandCode : Parameters → Machine → Command → ℕ
 commandCode w m (Alter c) = orElse (changeCode (boundsIn w) (present m) c) (roomCode (free w m) (cost c (present m)))
 commandCode w m (Recall h) = historyCode m h
 commandCode w m (Ask q) = questionCode (length (w .rows)) (present m) q
@@ -222,7 +222,7 @@ commandCode w m (Quote p) = priceCode (present m) p
 commandCode w m Unknown = 1
 
 -- "The number answered: a change its cost"; the others as above
-abbrev pub commandNumber : World → Machine → Command → ℕ
+abbrev pub commandNumber : Parameters → Machine → Command → ℕ
 commandNumber w m (Alter c) = cost c (present m)
 commandNumber w m (Recall h) = historyNumber (free w m) m h
 commandNumber w m (Ask q) = questionNumber (w .rows) (present m) q
@@ -238,9 +238,9 @@ commandNext m (Quote p) = m
 commandNext m Unknown = m
 
 -- "A refused call answers its code and 0."
-unfoldable pub answerTo : World → Machine → Command → Answer
+unfoldable pub answerTo : Parameters → Machine → Command → Answer
 answerTo w m c = (commandCode w m c == 0) ⇒ record { code = 0; number = commandNumber w m c } else record { code = commandCode w m c; number = 0 }
 
 -- the machine after a command; a refused one changes nothing
-unfoldable pub stepTo : World → Machine → Command → Machine
+unfoldable pub stepTo : Parameters → Machine → Command → Machine
 stepTo w m c = (commandCode w m c == 0) ⇒ commandNext m c else m

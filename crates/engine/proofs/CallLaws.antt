@@ -10,7 +10,7 @@ use Rattle.lists.specs.Lists.{over}
 use Rattle.history.specs.Machine.{Machine}
 use Rattle.versions.specs.declared.Version.{Version}
 use Rattle.versions.specs.declared.Done.{Done}
-use Rattle.machine.specs.Calls.{Call, World, callsOf}
+use Rattle.machine.specs.Calls.{Call, Parameters, callsOf}
 use Rattle.machine.specs.Machine.{Answer, answer, answers, step, last}
 use Rattle.machine.specs.Run.{answerWords}
 use Rattle.machine.proofs.Whole.{answered}
@@ -19,7 +19,7 @@ use Rattle.commands.specs.Commands.{callAt, commandOf}
 use Rattle.commands.specs.Meaning.{answerTo, stepTo}
 use Rattle.commands.proofs.MeaningLaws.{answer-means, step-means}
 use Rattle.engine.specs.Running.{Running, Answered}
-use Rattle.engine.specs.Calls.{Went}
+use Rattle.engine.specs.Calls.{AfterCalls}
 
 -- ---- the words of the calls
 
@@ -50,7 +50,7 @@ words-append : (xs ys : List Answer) → answerWords (xs ++ ys) ≡ answerWords 
 words-append [] ys = refl
 words-append (x ∷ xs) ys = ap (λ (l : List ℕ). x .code ∷ x .number ∷ l) (words-append xs ys)
 
-words-length : (w : World) (m : Machine) (xs : List Call) → length (answerWords (answers w m xs)) ≡ 2 * length xs
+words-length : (w : Parameters) (m : Machine) (xs : List Call) → length (answerWords (answers w m xs)) ≡ 2 * length xs
 unfolding answers
 words-length w m [] = refl
 words-length w m (x ∷ xs) = omega (arith, words-length w (step w m x) xs)
@@ -76,29 +76,29 @@ over-more A slice n x y e h =
 
 -- ---- one call more
 
-last-more : (w : World) (m : Machine) (xs : List Call) (x : Call) → last w m (xs ++ (x ∷ [])) ≡ step w (last w m xs) x
+last-more : (w : Parameters) (m : Machine) (xs : List Call) (x : Call) → last w m (xs ++ (x ∷ [])) ≡ step w (last w m xs) x
 unfolding last
 last-more w m [] x = refl
 last-more w m (y ∷ xs) x = last-more w (step w m y) xs x
 
-answers-more : (w : World) (m : Machine) (xs : List Call) (x : Call) →
+answers-more : (w : Parameters) (m : Machine) (xs : List Call) (x : Call) →
     answerWords (answers w m (xs ++ (x ∷ []))) ≡ answerWords (answers w m xs) ++ (answer w (last w m xs) x .code ∷ answer w (last w m xs) x .number ∷ [])
 unfolding answers
 answers-more w m xs x = ap answerWords (answered w m xs [] x) ∙ words-append (answers w m xs) (answer w (last w m xs) x ∷ [])
 
-module _ (w : World) (m : Machine) (x : Version) (vt et t places closed : List ℕ) (types : ℕ) (slice slice′ : List ℕ) where
-  pub went-none : Running w x vt et t places closed types m → Went w m [] x vt et t places closed types slice slice
+module _ (w : Parameters) (m : Machine) (x : Version) (vt et t places closed : List ℕ) (types : ℕ) (slice slice′ : List ℕ) where
+  pub after-calls-none : Running w x vt et t places closed types m → AfterCalls w m [] x vt et t places closed types slice slice
   unfolding last answers
-  went-none h = record { stands = h; answered = refl }
+  after-calls-none h = record { stands = h; answered = refl }
 
-  went-one : (xs : List Call) (call : Call) (c : Command) (d : Done) (vt′ et′ t′ places′ : List ℕ) →
-      Went w m xs x vt et t places closed types slice slice′ → c ≡ commandOf call →
-      ((w : World) → (m : Machine) → Running w x vt et t places closed types m →
+  after-calls-one : (xs : List Call) (call : Call) (c : Command) (d : Done) (vt′ et′ t′ places′ : List ℕ) →
+      AfterCalls w m xs x vt et t places closed types slice slice′ → c ≡ commandOf call →
+      ((w : Parameters) → (m : Machine) → Running w x vt et t places closed types m →
       Answered w m c (d .version) (d .code) (d .number) vt′ et′ t′ places′ closed types) →
       2 * length xs + 1 < length slice →
-      Went w m (xs ++ (call ∷ [])) (d .version) vt′ et′ t′ places′ closed types slice
+      AfterCalls w m (xs ++ (call ∷ [])) (d .version) vt′ et′ t′ places′ closed types slice
       (set (set slice′ (2 * length xs) (d .code)) (2 * length xs + 1) (d .number))
-  went-one xs call c d vt′ et′ t′ places′ h e f long =
+  after-calls-one xs call c d vt′ et′ t′ places′ h e f long =
       let now = last w m xs in
       let g = f w now (h .stands) in
       let a : answerTo w now c ≡ answer w now call = ap (answerTo w now) e ∙ sym (answer-means w now call) in
@@ -117,15 +117,15 @@ module _ (w : World) (m : Machine) (x : Version) (vt et t places closed : List �
       }
 
   -- call k of the list
-  pub went-more : (calls : List ℕ) (k : ℕ) (c : Command) (d : Done) (vt′ et′ t′ places′ : List ℕ) →
-      Went w m (take k (callsOf calls)) x vt et t places closed types slice slice′ →
+  pub after-calls-more : (calls : List ℕ) (k : ℕ) (c : Command) (d : Done) (vt′ et′ t′ places′ : List ℕ) →
+      AfterCalls w m (take k (callsOf calls)) x vt et t places closed types slice slice′ →
       c ≡ commandOf (callAt (take (5 * k + 5 - 5 * k) (drop (5 * k) calls))) →
-      ((w : World) → (m : Machine) → Running w x vt et t places closed types m →
+      ((w : Parameters) → (m : Machine) → Running w x vt et t places closed types m →
       Answered w m c (d .version) (d .code) (d .number) vt′ et′ t′ places′ closed types) →
       5 * k + 5 ≤ length calls → 2 * k + 1 < length slice →
-      Went w m (take (k + 1) (callsOf calls)) (d .version) vt′ et′ t′ places′ closed types slice
+      AfterCalls w m (take (k + 1) (callsOf calls)) (d .version) vt′ et′ t′ places′ closed types slice
       (set (set slice′ (2 * k) (d .code)) (2 * k + 1) (d .number))
-  went-more calls k c d vt′ et′ t′ places′ h e f fits long =
+  after-calls-more calls k c d vt′ et′ t′ places′ h e f fits long =
       let cs = callsOf calls in
       let z = callAt [] in
       let q = length calls / 5 in
@@ -136,17 +136,17 @@ module _ (w : World) (m : Machine) (x : Version) (vt et t places closed : List �
       let call : c ≡ commandOf (getD cs k z) =
       e ∙ ap (λ (j : ℕ). commandOf (callAt (take j (drop (5 * k) calls)))) five ∙ ap commandOf (sym (call-at k calls z fits)) in
       let all : take (k + 1) cs ≡ take k cs ++ (getD cs k z ∷ []) = ap (λ (j : ℕ). take j cs) (add-one k) ∙ take-suc cs k z inside in
-      let r = went-one (take k cs) (getD cs k z) c d vt′ et′ t′ places′ h call f (rw size long) in
-      let r′ = subst (λ (j : ℕ). Went w m (take k cs ++ (getD cs k z ∷ [])) (d .version) vt′ et′ t′ places′ closed types slice
+      let r = after-calls-one (take k cs) (getD cs k z) c d vt′ et′ t′ places′ h call f (rw size long) in
+      let r′ = subst (λ (j : ℕ). AfterCalls w m (take k cs ++ (getD cs k z ∷ [])) (d .version) vt′ et′ t′ places′ closed types slice
       (set (set slice′ (2 * j) (d .code)) (2 * j + 1) (d .number))) size r in
-      subst (λ (xs : List Call). Went w m xs (d .version) vt′ et′ t′ places′ closed types slice
+      subst (λ (xs : List Call). AfterCalls w m xs (d .version) vt′ et′ t′ places′ closed types slice
       (set (set slice′ (2 * k) (d .code)) (2 * k + 1) (d .number))) (sym all) r′
 
   -- all of them
-  pub went-all : (calls : List ℕ) (k : ℕ) → length calls / 5 ≤ k →
-      Went w m (take k (callsOf calls)) x vt et t places closed types slice slice′ →
-      Went w m (callsOf calls) x vt et t places closed types slice slice′
-  went-all calls k i h =
+  pub after-calls-all : (calls : List ℕ) (k : ℕ) → length calls / 5 ≤ k →
+      AfterCalls w m (take k (callsOf calls)) x vt et t places closed types slice slice′ →
+      AfterCalls w m (callsOf calls) x vt et t places closed types slice slice′
+  after-calls-all calls k i h =
       let q = length calls / 5 in
       let many : length (callsOf calls) ≡ q = calls-length q calls (omega arith) (omega arith) in
-      subst (λ (xs : List Call). Went w m xs x vt et t places closed types slice slice′) (take-all k (callsOf calls) (omega arith)) h
+      subst (λ (xs : List Call). AfterCalls w m xs x vt et t places closed types slice slice′) (take-all k (callsOf calls) (omega arith)) h

@@ -1,20 +1,20 @@
 -- Demand 3 of what `run` leaves: from its contract, for every list that is not refused; and what a refused list leaves.
-use mathlib.Core.Path.{_≡_, sym, subst, _∙_}
+use mathlib.Core.Path.{_≡_, sym, subst}
 use mathlib.Core.List.{List}
 use Prim.Native.Nat.{ℕ}
 use borrow.Author.Tests.{ne-eqb}
-use Rattle.machine.specs.Run.{Lent, Ran, listRefusal, refused, run}
+use Rattle.machine.specs.Run.{Lent, RunResult, listRefusal, refused, run}
 use Rattle.machine.specs.Demand.{Demand3}
 use Rattle.machine.proofs.Whole.{demand-3}
 use Rattle.engine.specs.declared.run.Outcome.{Outcome}
-use Rattle.engine.specs.Outcomes.{ran}
+use Rattle.engine.specs.Outcomes.{runResult}
 
-module _ (l : Lent) (r : Outcome) (answers image : List ℕ) (h : ran r answers image ≡ run l) where
+module _ (l : Lent) (r : Outcome) (answers image : List ℕ) (h : runResult r answers image ≡ run l) where
   -- every answer and the end image are the plain machine's, and the sentence on marks holds at every point of the list
-  pub meets-demand-3 : listRefusal l ≡ 0 → Demand3 l (ran r answers image)
-  meets-demand-3 e = subst (λ (x : Ran). Demand3 l x) (sym h) (demand-3 l e)
+  pub meets-demand-3 : listRefusal l ≡ 0 → Demand3 l (runResult r answers image)
+  meets-demand-3 e = subst (λ (x : RunResult). Demand3 l x) (sym h) (demand-3 l e)
 
   -- "A refused list returns its code, 0, 0 and writes nowhere."
-  pub leaves-refused : (listRefusal l ≡ 0 → ⊥) → ran r answers image ≡ refused (listRefusal l) l
+  pub leaves-refused : (listRefusal l ≡ 0 → ⊥) → runResult r answers image ≡ refused (listRefusal l) l
   unfolding run
   leaves-refused n = rw (ne-eqb (listRefusal l) 0 n) at h

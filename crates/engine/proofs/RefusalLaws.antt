@@ -13,7 +13,7 @@ use Rattle.types.specs.Rows.{goodRows}
 use Rattle.image.specs.Image.{loadable}
 use Rattle.image.specs.Checks.{bounds}
 use Rattle.machine.specs.Calls.{boundsIn}
-use Rattle.machine.specs.Run.{Lent, worldOf, imageRoom, listRefusal}
+use Rattle.machine.specs.Run.{Lent, parametersOf, imageRoom, listRefusal}
 use Rattle.machine.proofs.Allowed.{in-range}
 use Rattle.engine.specs.Refusals.{inLimits, lengthsCode, Lends}
 
@@ -62,8 +62,8 @@ module _ (l : Lent) where
   others : lengthsOf ≡ 0 →
       listRefusal l ≡ (
       not (goodRows (l .rows)) ⇒ 104 else
-      not (loadable (boundsIn (worldOf l)) (l .start)) ⇒ 105 else
-      ltb (length (l .end)) (imageRoom (worldOf l)) ⇒ 106 else
+      not (loadable (boundsIn (parametersOf l)) (l .start)) ⇒ 105 else
+      ltb (length (l .end)) (imageRoom (parametersOf l)) ⇒ 106 else
       0
       )
   unfolding listRefusal lengthsOf x y z
@@ -75,7 +75,7 @@ module _ (l : Lent) (start rows : List ℕ) (calls vertices edges journal answer
   lengths-are =
       λ i. lengthsCode (sym (h .calls-are) i) (sym (h .answers-are) i) (sym (h .vertices-are) i) (sym (h .edges-are) i) (sym (h .journal-is) i)
 
-  loads-are : loadable (boundsIn (worldOf l)) (l .start) ≡ loadable (bounds (vertices / 8) (edges / 12) (length rows)) start
+  loads-are : loadable (boundsIn (parametersOf l)) (l .start) ≡ loadable (bounds (vertices / 8) (edges / 12) (length rows)) start
   loads-are = λ i. loadable (bounds (h .vertices-are i / 8) (h .edges-are i / 12) (length (h .rows-are i))) (h .start-is i)
 
   pub lengths-refused : (c : ℕ) → c ≡ lengthsCode calls answers vertices edges journal → (c ≡ 0 → ⊥) → c ≡ listRefusal l

@@ -20,14 +20,14 @@ use Rattle.versions.proofs.Present as versions
 use Rattle.store.specs.Words.{CanSave}
 use Rattle.store.specs.Filling.{CanLoad}
 use Rattle.store.proofs.Laws.{within-loaded, can-save, Saved}
-use Rattle.machine.specs.Calls.{World, boundsIn, callsOf}
+use Rattle.machine.specs.Calls.{Parameters, boundsIn, callsOf}
 use Rattle.machine.specs.Machine.{last}
-use Rattle.machine.specs.Run.{Lent, Ran, worldOf, listRefusal, accepted, refused, run}
+use Rattle.machine.specs.Run.{Lent, RunResult, parametersOf, listRefusal, accepted, refused, run}
 use Rattle.machine.proofs.ListRows.{Passed, passed}
 use Rattle.engine.specs.Refusals.{Lends}
 use Rattle.engine.specs.Running.{Running}
-use Rattle.engine.specs.Calls.{Went}
-use Rattle.engine.specs.Outcomes.{lent, ran}
+use Rattle.engine.specs.Calls.{AfterCalls}
+use Rattle.engine.specs.Outcomes.{lent, runResult}
 use Rattle.engine.proofs.CallLaws.{calls-length}
 
 -- what `versions::start` ensures of the version x
@@ -39,8 +39,8 @@ module _ (start rows calls vertices edges journal answers image : List ℕ) (e :
   abbrev l : Lent
   l = lent start rows calls vertices edges journal answers image
 
-  abbrev w : World
-  w = worldOf l
+  abbrev w : Parameters
+  w = parametersOf l
 
   pub past : Passed l
   past = passed l e
@@ -87,8 +87,8 @@ module _ (start rows calls vertices edges journal answers image : List ℕ) (e :
           (omega (arith, past .end-room))
 
     pub ends : (y : Version) (vt et t places answers′ image′ : List ℕ) (n : ℕ) →
-        Went w (fresh (load start)) (callsOf calls) y vt et t places closed types answers answers′ → Saved (st (y .current .head) vt et) image image′ n →
-        ran (record { code = 0; done = length calls / 5; words = n }) answers′ image′ ≡ accepted l
+        AfterCalls w (fresh (load start)) (callsOf calls) y vt et t places closed types answers answers′ → Saved (st (y .current .head) vt et) image image′ n →
+        runResult (record { code = 0; done = length calls / 5; words = n }) answers′ image′ ≡ accepted l
     unfolding accepted
     ends y vt et t places answers′ image′ n g s =
         let m = last w (fresh (load start)) (callsOf calls) in
@@ -111,7 +111,7 @@ lends start rows calls vertices edges journal answers image = record {
   image-is = refl;
 }
 
-pub run-accepted : (l : Lent) (r : Ran) → listRefusal l ≡ 0 → r ≡ accepted l → r ≡ run l
+pub run-accepted : (l : Lent) (r : RunResult) → listRefusal l ≡ 0 → r ≡ accepted l → r ≡ run l
 unfolding run
 run-accepted l r e h = rw e h
 

@@ -2,7 +2,7 @@
 use Prim.Native.Nat.{ℕ, _/_}
 use mathlib.Core.Path.{_≡_, refl, sym, ap, _∙_}
 use mathlib.Core.Bool.{Bool, true, false, not, _||_}
-use mathlib.Core.List.{List, [], _∷_}
+use mathlib.Core.List.{List}
 use lib.ListN.{length}
 use borrow.Author.Tests.{ne-eqb}
 use native.Mathlib.Omega.{arith}
@@ -22,10 +22,10 @@ use Rattle.versions.specs.declared.Version.{Version}
 use Rattle.versions.specs.Represents.{Follows}
 use Rattle.versions.proofs.Present.{holds-present, sound-present, sized-present}
 use Rattle.answers.specs.declared.Answer.{Answer as Reply}
-use Rattle.answers.specs.Told.{Told}
+use Rattle.answers.specs.AnswerIs.{AnswerIs}
 use Rattle.history.specs.Machine.{Machine, freeOf, present}
 use Rattle.history.specs.Rules.{stepOf, changing, setting, dropping, undoing, redoing, going, committing, measuring, counting, freeing}
-use Rattle.machine.specs.Calls.{World, boundsIn}
+use Rattle.machine.specs.Calls.{Parameters, boundsIn}
 use Rattle.machine.specs.Codes.{free}
 use Rattle.commands.specs.declared.Question.{Question}
 use Rattle.commands.specs.declared.PriceCall.the-variants.{Range, Grade}
@@ -35,14 +35,14 @@ use Rattle.commands.specs.Meaning.{noMark, lacksMark, lacksVertex, changeCode, 
 use Rattle.checks.specs.Held.{HoldsVE, ChangeFits}
 use Rattle.checks.proofs.Codes.{stops, passes}
 use Rattle.engine.specs.Running.{Setting, Running, Answered, Priced}
-use Rattle.engine.proofs.StepLaws.{Rules, follows-answers, told-answers, refused-answers}
+use Rattle.engine.proofs.StepLaws.{Rules, follows-answers, unchanged-answers, refused-answers}
 use Rattle.engine.proofs.Allows.{allows}
 
 or-false : (t : Bool) → (t || false) ≡ t
 or-false true = refl
 or-false false = refl
 
-module _ (w : World) (m : Machine) where
+module _ (w : Parameters) (m : Machine) where
   pub rules-set : (k : ℕ) → Rules w m (Recall (SetMark k)) (setting k)
   rules-set k = record { code = rw (or-false (noMark k)); number = refl; next = refl }
 
@@ -80,12 +80,12 @@ module _ (w : World) (m : Machine) where
   code-refused c k e d = rw (← e, ne-eqb k 0 d)
 
 -- the capacities of the tables are those of the run
-pub bounds-are : (w : World) (vt et t closed : List ℕ) (types : ℕ) → Setting w vt et t closed types → boundsOf vt et types ≡ boundsIn w
+pub bounds-are : (w : Parameters) (vt et t closed : List ℕ) (types : ℕ) → Setting w vt et t closed types → boundsOf vt et types ≡ boundsIn w
 bounds-are w vt et t closed types s = λ i. record { vertices = sym (s .vertices) i; edges = sym (s .edges) i; types = s .types-in i }
 
 -- ---- a change, from its code on
 
-module _ (w : World) (m : Machine) (x : Version) (vt et t places closed : List ℕ) (types : ℕ) (h : Running w x vt et t places closed types m) where
+module _ (w : Parameters) (m : Machine) (x : Version) (vt et t places closed : List ℕ) (types : ℕ) (h : Running w x vt et t places closed types m) where
   pub holds : Holds (st (x .current .head) vt et) (present m)
   holds = holds-present (boundsIn w) x vt et t places m (h .represents)
 
@@ -112,23 +112,23 @@ module _ (w : World) (m : Machine) (x : Version) (vt et t places closed : List �
 
   -- ---- a question
 
-  pub ask-told : (q : Question) (r : Reply) → Told r (questionCode types (present m) q) (questionNumber (w .rows) (present m) q) →
+  pub ask-answers : (q : Question) (r : Reply) → AnswerIs r (questionCode types (present m) q) (questionNumber (w .rows) (present m) q) →
       Answered w m (Ask q) x (r .code) (r .number) vt et t places closed types
-  ask-told q r d =
+  ask-answers q r d =
       let i = h .setting .types-in in
-      told-answers w m (Ask q) refl x (r .code) (r .number) vt et t places closed types h
+      unchanged-answers w m (Ask q) refl x (r .code) (r .number) vt et t places closed types h
       (d .coded ∙ ap (λ (n : ℕ). questionCode n (present m) q) i)
       (d .numbered ∙ ap (λ (n : ℕ). (questionCode n (present m) q == 0) ⇒ questionNumber (w .rows) (present m) q else 0) i)
 
   -- ---- the price list
 
-  pub range-told : (a b : ℕ) (r : Price) → Priced (present m) a b r → Answered w m (Quote (Range a b)) x (r .code) (r .range) vt et t places closed types
-  range-told a b r d = told-answers w m (Quote (Range a b)) refl x (r .code) (r .range) vt et t places closed types h (d .coded) (d .ranged)
+  pub range-answers : (a b : ℕ) (r : Price) → Priced (present m) a b r → Answered w m (Quote (Range a b)) x (r .code) (r .range) vt et t places closed types
+  range-answers a b r d = unchanged-answers w m (Quote (Range a b)) refl x (r .code) (r .range) vt et t places closed types h (d .coded) (d .ranged)
 
-  pub grade-told : (a b n : ℕ) (r : Price) → Priced (present m) a b r → n ≡ gradeOf (r .range) → Answered w m (Quote (Grade a b)) x (r .code) n vt et t places closed types
+  pub grade-answers : (a b n : ℕ) (r : Price) → Priced (present m) a b r → n ≡ gradeOf (r .range) → Answered w m (Quote (Grade a b)) x (r .code) n vt et t places closed types
   unfolding grade
-  grade-told a b n r d e =
-      told-answers w m (Quote (Grade a b)) refl x (r .code) n vt et t places closed types h (d .coded)
+  grade-answers a b n r d e =
+      unchanged-answers w m (Quote (Grade a b)) refl x (r .code) n vt et t places closed types h (d .coded)
       (e ∙ ap gradeOf (d .ranged) ∙ pick (priceCode (present m) (Range a b) == 0))
     where
       pick : (t : Bool) → gradeOf (t ⇒ twoWay (present m) a b else 0) ≡ (t ⇒ gradeOf (twoWay (present m) a b) else 0)

@@ -5,12 +5,12 @@ use mathlib.Core.List.{List}
 use Rattle.lists.specs.Lists.{over}
 use Rattle.history.specs.Machine.{Machine}
 use Rattle.versions.specs.declared.Version.{Version}
-use Rattle.machine.specs.Calls.{Call, World}
+use Rattle.machine.specs.Calls.{Call, Parameters}
 use Rattle.machine.specs.Machine.{answers, last}
 use Rattle.machine.specs.Run.{answerWords}
 use Rattle.engine.specs.Running.{Running}
 
 -- after the calls xs: what stands is the machine's, and so are the words written over the slice of answers
-pub record Went (w : World) (m : Machine) (xs : List Call) (x : Version) (vt et t places closed : List ℕ) (types : ℕ) (slice slice′ : List ℕ) : Type 0 where
+pub record AfterCalls (w : Parameters) (m : Machine) (xs : List Call) (x : Version) (vt et t places closed : List ℕ) (types : ℕ) (slice slice′ : List ℕ) : Type 0 where
   pub stands : Running w x vt et t places closed types (last w m xs)
   pub answered : slice′ ≡ over (answerWords (answers w m xs)) slice

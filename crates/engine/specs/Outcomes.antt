@@ -2,7 +2,7 @@
 use Prim.Native.Nat.{ℕ}
 use mathlib.Core.List.{List}
 use lib.ListN.{length}
-use Rattle.machine.specs.Run.{Lent, Ran}
+use Rattle.machine.specs.Run.{Lent, RunResult}
 use Rattle.engine.specs.declared.run.Outcome.{Outcome}
 
 -- "Lent: start chart, type rows, calls, tables .., answers, end chart."
@@ -19,5 +19,5 @@ lent start rows calls vertices edges journal answers image = record {
 }
 
 -- "The result has a code, the calls done and the words of end chart", with the two slices that a run writes
-abbrev pub ran : Outcome → List ℕ → List ℕ → Ran
-ran r answers image = record { code = r .code; done = r .done; words = r .words; answers = answers; end = image }
+abbrev pub runResult : Outcome → List ℕ → List ℕ → RunResult
+runResult r answers image = record { code = r .code; done = r .done; words = r .words; answers = answers; end = image }

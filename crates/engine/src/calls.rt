@@ -5,9 +5,9 @@ use versions::Version;
 ghost use Prim.Native.Nat.{_*_, _/_, _≤_};
 ghost use lib.ListN.{length};
 ghost use Rattle.history.specs.Machine.{Machine};
-ghost use Rattle.machine.specs.Calls.{World, callsOf};
+ghost use Rattle.machine.specs.Calls.{Parameters, callsOf};
 ghost use Rattle.engine.specs.Running.{Running};
-ghost use Rattle.engine.specs.Calls.{Went};
+ghost use Rattle.engine.specs.Calls.{AfterCalls};
 
 // Answers each call by two words, code and number.
 pub fn each(
@@ -21,10 +21,10 @@ pub fn each(
     calls: &[u32],
     answers: &mut [u32],
 ) -> Version
-    requires { ⌜ ((w : World) × (m : Machine) × Running w x (now vt) (now et) (now t) (now places) (now closed) types m) ⌝ }
+    requires { ⌜ ((w : Parameters) × (m : Machine) × Running w x (now vt) (now et) (now t) (now places) (now closed) types m) ⌝ }
     requires { ⌜ 2 * (length (now calls) / 5) ≤ length (now answers) ⌝ }
-    ensures { λ r. ⌜ ((w : World) → (m : Machine) → Running w x (now (vt .entry)) (now (et .entry)) (now (t .entry)) (now (places .entry)) (now (closed .entry)) types m
-        → Went w m (callsOf (now (calls .entry))) r (now (vt .exit)) (now (et .exit)) (now (t .exit)) (now (places .exit)) (now (closed .entry)) types (now (answers .entry)) (now (answers .exit))) ⌝ }
+    ensures { λ r. ⌜ ((w : Parameters) → (m : Machine) → Running w x (now (vt .entry)) (now (et .entry)) (now (t .entry)) (now (places .entry)) (now (closed .entry)) types m
+        → AfterCalls w m (callsOf (now (calls .entry))) r (now (vt .exit)) (now (et .exit)) (now (t .exit)) (now (places .exit)) (now (closed .entry)) types (now (answers .entry)) (now (answers .exit))) ⌝ }
 {
     let n = calls.len() / 5;
     let mut y = x;

@@ -8,7 +8,7 @@ use versions::start as begin;
 ghost use mathlib.Core.Path.{_≡_};
 ghost use Rattle.machine.specs.Demand.{Demand3};
 ghost use Rattle.machine.specs.Run.{listRefusal, accepted as acceptedOf, run as runOf};
-ghost use Rattle.engine.specs.Outcomes.{lent, ran};
+ghost use Rattle.engine.specs.Outcomes.{lent, runResult};
 
 // The code of the list, the calls done, the words of the end image. Its layout is that of include/futtockfig.h.
 #[repr(C)]
@@ -30,7 +30,7 @@ fn accepted(
     image: &mut [u32],
 ) -> Outcome
     requires { ⌜ listRefusal (lent (now start) (now rows) (now calls) (now vertices) (now edges) (now journal) (now answers) (now image)) ≡ 0 ⌝ }
-    ensures { λ r. ⌜ ran r (now (answers .exit)) (now (image .exit))
+    ensures { λ r. ⌜ runResult r (now (answers .exit)) (now (image .exit))
         ≡ acceptedOf (lent (now (start .entry)) (now (rows .entry)) (now (calls .entry)) (now (vertices .entry)) (now (edges .entry)) (now (journal .entry)) (now (answers .entry)) (now (image .entry))) ⌝ }
 {
     let closed = closure(rows);
@@ -70,12 +70,12 @@ pub fn run(
     answers: &mut [u32],
     image: &mut [u32],
 ) -> Outcome
-    ensures { λ r. ⌜ ran r (now (answers .exit)) (now (image .exit))
+    ensures { λ r. ⌜ runResult r (now (answers .exit)) (now (image .exit))
         ≡ runOf (lent (now (start .entry)) (now (rows .entry)) (now (calls .entry)) (now (vertices .entry)) (now (edges .entry)) (now (journal .entry)) (now (answers .entry)) (now (image .entry))) ⌝ }
     ensures { λ r. ⌜ ((listRefusal (lent (now (start .entry)) (now (rows .entry)) (now (calls .entry)) (now (vertices .entry)) (now (edges .entry)) (now (journal .entry)) (now (answers .entry)) (now (image .entry))) ≡ 0 → ⊥)
         → (now (vertices .exit) ≡ now (vertices .entry)) × (now (edges .exit) ≡ now (edges .entry)) × (now (journal .exit) ≡ now (journal .entry))) ⌝ }
     ensures { λ r. ⌜ (listRefusal (lent (now (start .entry)) (now (rows .entry)) (now (calls .entry)) (now (vertices .entry)) (now (edges .entry)) (now (journal .entry)) (now (answers .entry)) (now (image .entry))) ≡ 0
-        → Demand3 (lent (now (start .entry)) (now (rows .entry)) (now (calls .entry)) (now (vertices .entry)) (now (edges .entry)) (now (journal .entry)) (now (answers .entry)) (now (image .entry))) (ran r (now (answers .exit)) (now (image .exit)))) ⌝ }
+        → Demand3 (lent (now (start .entry)) (now (rows .entry)) (now (calls .entry)) (now (vertices .entry)) (now (edges .entry)) (now (journal .entry)) (now (answers .entry)) (now (image .entry))) (runResult r (now (answers .exit)) (now (image .exit)))) ⌝ }
 {
     let code = refusal(
         start,

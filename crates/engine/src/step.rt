@@ -12,11 +12,10 @@ use prices::grade_of;
 use prices::price_of;
 use versions::Done;
 use versions::Version;
-ghost use mathlib.Core.Path.{_≡_};
 ghost use mathlib.Core.List.{List};
 ghost use Prim.Native.Nat.{ℕ};
 ghost use Rattle.history.specs.Machine.{Machine, present};
-ghost use Rattle.machine.specs.Calls.{World};
+ghost use Rattle.machine.specs.Calls.{Parameters};
 ghost use Rattle.commands.specs.declared.Command.the-variants as the;
 ghost use Rattle.commands.specs.declared.HistoryCall.the-variants as history;
 ghost use Rattle.commands.specs.declared.PriceCall.the-variants as price;
@@ -32,8 +31,8 @@ fn alter(
     types: u32,
     change: Change,
 ) -> Done
-    requires { ⌜ ((w : World) × (m : Machine) × (closed : List ℕ) × Running w x (now vt) (now et) (now t) (now places) closed types m) ⌝ }
-    ensures { λ r. ⌜ ((w : World) → (m : Machine) → (closed : List ℕ) → Running w x (now (vt .entry)) (now (et .entry)) (now (t .entry)) (now (places .entry)) closed types m
+    requires { ⌜ ((w : Parameters) × (m : Machine) × (closed : List ℕ) × Running w x (now vt) (now et) (now t) (now places) closed types m) ⌝ }
+    ensures { λ r. ⌜ ((w : Parameters) → (m : Machine) → (closed : List ℕ) → Running w x (now (vt .entry)) (now (et .entry)) (now (t .entry)) (now (places .entry)) closed types m
         → Answered w m (the.Alter change) (r .version) (r .code) (r .number) (now (vt .exit)) (now (et .exit)) (now (t .exit)) (now (places .entry)) closed types) ⌝ }
 {
     let code = change_code(vt, et, types, change);
@@ -49,7 +48,7 @@ fn alter(
 
 // Kind 49: the steps between marks a and b.
 fn between(x: Version, places: &[u32; 64], a: u32, b: u32) -> Done
-    ensures { λ r. ⌜ ((w : World) → (m : Machine) → (vt et t closed : List ℕ) → (types : ℕ) → Running w x vt et t (now (places .entry)) closed types m → Stays w m (the.Recall (history.Between a b)) x r vt et t (now (places .entry)) closed types) ⌝ }
+    ensures { λ r. ⌜ ((w : Parameters) → (m : Machine) → (vt et t closed : List ℕ) → (types : ℕ) → Running w x vt et t (now (places .entry)) closed types m → Stays w m (the.Recall (history.Between a b)) x r vt et t (now (places .entry)) closed types) ⌝ }
 {
     let r = versions::between(x, places, a, b);
     Done {
@@ -61,7 +60,7 @@ fn between(x: Version, places: &[u32; 64], a: u32, b: u32) -> Done
 
 // Kind 50: how many marks stand.
 fn standing(x: Version) -> Done
-    ensures { λ r. ⌜ ((w : World) → (m : Machine) → (vt et t places closed : List ℕ) → (types : ℕ) → Running w x vt et t places closed types m → Stays w m (the.Recall history.Standing) x r vt et t places closed types) ⌝ }
+    ensures { λ r. ⌜ ((w : Parameters) → (m : Machine) → (vt et t places closed : List ℕ) → (types : ℕ) → Running w x vt et t places closed types m → Stays w m (the.Recall history.Standing) x r vt et t places closed types) ⌝ }
 {
     let r = versions::standing(x);
     Done {
@@ -73,8 +72,8 @@ fn standing(x: Version) -> Done
 
 // Kind 51: free changes.
 fn free_changes(x: Version, t: &[u32]) -> Done
-    requires { ⌜ ((w : World) × (m : Machine) × (vt : List ℕ) × (et : List ℕ) × (places : List ℕ) × (closed : List ℕ) × (types : ℕ) × Running w x vt et (now t) places closed types m) ⌝ }
-    ensures { λ r. ⌜ ((w : World) → (m : Machine) → (vt et places closed : List ℕ) → (types : ℕ) → Running w x vt et (now (t .entry)) places closed types m → Stays w m (the.Recall history.Free) x r vt et (now (t .entry)) places closed types) ⌝ }
+    requires { ⌜ ((w : Parameters) × (m : Machine) × (vt : List ℕ) × (et : List ℕ) × (places : List ℕ) × (closed : List ℕ) × (types : ℕ) × Running w x vt et (now t) places closed types m) ⌝ }
+    ensures { λ r. ⌜ ((w : Parameters) → (m : Machine) → (vt et places closed : List ℕ) → (types : ℕ) → Running w x vt et (now (t .entry)) places closed types m → Stays w m (the.Recall history.Free) x r vt et (now (t .entry)) places closed types) ⌝ }
 {
     let r = versions::free_changes(x, t);
     Done {
@@ -93,8 +92,8 @@ fn recall(
     places: &mut [u32; 64],
     call: HistoryCall,
 ) -> Done
-    requires { ⌜ ((w : World) × (m : Machine) × (closed : List ℕ) × (types : ℕ) × Running w x (now vt) (now et) (now t) (now places) closed types m) ⌝ }
-    ensures { λ r. ⌜ ((w : World) → (m : Machine) → (closed : List ℕ) → (types : ℕ) → Running w x (now (vt .entry)) (now (et .entry)) (now (t .entry)) (now (places .entry)) closed types m
+    requires { ⌜ ((w : Parameters) × (m : Machine) × (closed : List ℕ) × (types : ℕ) × Running w x (now vt) (now et) (now t) (now places) closed types m) ⌝ }
+    ensures { λ r. ⌜ ((w : Parameters) → (m : Machine) → (closed : List ℕ) → (types : ℕ) → Running w x (now (vt .entry)) (now (et .entry)) (now (t .entry)) (now (places .entry)) closed types m
         → Answered w m (the.Recall call) (r .version) (r .code) (r .number) (now (vt .exit)) (now (et .exit)) (now (t .entry)) (now (places .exit)) closed types) ⌝ }
 {
     match call {
@@ -119,8 +118,8 @@ fn ask(
     types: u32,
     question: Question,
 ) -> Done
-    requires { ⌜ ((w : World) × (m : Machine) × (t : List ℕ) × (places : List ℕ) × Running w x (now vt) (now et) t places (now closed) types m) ⌝ }
-    ensures { λ r. ⌜ ((w : World) → (m : Machine) → (t places : List ℕ) → Running w x (now (vt .entry)) (now (et .entry)) t places (now (closed .entry)) types m
+    requires { ⌜ ((w : Parameters) × (m : Machine) × (t : List ℕ) × (places : List ℕ) × Running w x (now vt) (now et) t places (now closed) types m) ⌝ }
+    ensures { λ r. ⌜ ((w : Parameters) → (m : Machine) → (t places : List ℕ) → Running w x (now (vt .entry)) (now (et .entry)) t places (now (closed .entry)) types m
         → Stays w m (the.Ask question) x r (now (vt .entry)) (now (et .entry)) t places (now (closed .entry)) types) ⌝ }
 {
     let head = x.current.head;
@@ -134,8 +133,8 @@ fn ask(
 
 // Codes 4 and 16, and the range of an accepted pair.
 fn priced(x: Version, vt: &[u32], et: &[u32], a: u32, b: u32) -> Price
-    requires { ⌜ ((w : World) × (m : Machine) × (t : List ℕ) × (places : List ℕ) × (closed : List ℕ) × (types : ℕ) × Running w x (now vt) (now et) t places closed types m) ⌝ }
-    ensures { λ r. ⌜ ((w : World) → (m : Machine) → (t places closed : List ℕ) → (types : ℕ) → Running w x (now (vt .entry)) (now (et .entry)) t places closed types m → Priced (present m) a b r) ⌝ }
+    requires { ⌜ ((w : Parameters) × (m : Machine) × (t : List ℕ) × (places : List ℕ) × (closed : List ℕ) × (types : ℕ) × Running w x (now vt) (now et) t places closed types m) ⌝ }
+    ensures { λ r. ⌜ ((w : Parameters) → (m : Machine) → (t places closed : List ℕ) → (types : ℕ) → Running w x (now (vt .entry)) (now (et .entry)) t places closed types m → Priced (present m) a b r) ⌝ }
 {
     let code = vertices_code(vt, a, b);
     if code != 0 {
@@ -146,8 +145,8 @@ fn priced(x: Version, vt: &[u32], et: &[u32], a: u32, b: u32) -> Price
 
 // Kind 53: the two-way range of a and b.
 fn range(x: Version, vt: &[u32], et: &[u32], a: u32, b: u32) -> Done
-    requires { ⌜ ((w : World) × (m : Machine) × (t : List ℕ) × (places : List ℕ) × (closed : List ℕ) × (types : ℕ) × Running w x (now vt) (now et) t places closed types m) ⌝ }
-    ensures { λ r. ⌜ ((w : World) → (m : Machine) → (t places closed : List ℕ) → (types : ℕ) → Running w x (now (vt .entry)) (now (et .entry)) t places closed types m
+    requires { ⌜ ((w : Parameters) × (m : Machine) × (t : List ℕ) × (places : List ℕ) × (closed : List ℕ) × (types : ℕ) × Running w x (now vt) (now et) t places closed types m) ⌝ }
+    ensures { λ r. ⌜ ((w : Parameters) → (m : Machine) → (t places closed : List ℕ) → (types : ℕ) → Running w x (now (vt .entry)) (now (et .entry)) t places closed types m
         → Stays w m (the.Quote (price.Range a b)) x r (now (vt .entry)) (now (et .entry)) t places closed types) ⌝ }
 {
     let p = priced(x, vt, et, a, b);
@@ -160,8 +159,8 @@ fn range(x: Version, vt: &[u32], et: &[u32], a: u32, b: u32) -> Done
 
 // Kind 54: the grade of a and b.
 fn grade(x: Version, vt: &[u32], et: &[u32], a: u32, b: u32) -> Done
-    requires { ⌜ ((w : World) × (m : Machine) × (t : List ℕ) × (places : List ℕ) × (closed : List ℕ) × (types : ℕ) × Running w x (now vt) (now et) t places closed types m) ⌝ }
-    ensures { λ r. ⌜ ((w : World) → (m : Machine) → (t places closed : List ℕ) → (types : ℕ) → Running w x (now (vt .entry)) (now (et .entry)) t places closed types m
+    requires { ⌜ ((w : Parameters) × (m : Machine) × (t : List ℕ) × (places : List ℕ) × (closed : List ℕ) × (types : ℕ) × Running w x (now vt) (now et) t places closed types m) ⌝ }
+    ensures { λ r. ⌜ ((w : Parameters) → (m : Machine) → (t places closed : List ℕ) → (types : ℕ) → Running w x (now (vt .entry)) (now (et .entry)) t places closed types m
         → Stays w m (the.Quote (price.Grade a b)) x r (now (vt .entry)) (now (et .entry)) t places closed types) ⌝ }
 {
     let p = priced(x, vt, et, a, b);
@@ -175,8 +174,8 @@ fn grade(x: Version, vt: &[u32], et: &[u32], a: u32, b: u32) -> Done
 
 // A call of the price list.
 fn quote(x: Version, vt: &[u32], et: &[u32], call: PriceCall) -> Done
-    requires { ⌜ ((w : World) × (m : Machine) × (t : List ℕ) × (places : List ℕ) × (closed : List ℕ) × (types : ℕ) × Running w x (now vt) (now et) t places closed types m) ⌝ }
-    ensures { λ r. ⌜ ((w : World) → (m : Machine) → (t places closed : List ℕ) → (types : ℕ) → Running w x (now (vt .entry)) (now (et .entry)) t places closed types m
+    requires { ⌜ ((w : Parameters) × (m : Machine) × (t : List ℕ) × (places : List ℕ) × (closed : List ℕ) × (types : ℕ) × Running w x (now vt) (now et) t places closed types m) ⌝ }
+    ensures { λ r. ⌜ ((w : Parameters) → (m : Machine) → (t places closed : List ℕ) → (types : ℕ) → Running w x (now (vt .entry)) (now (et .entry)) t places closed types m
         → Stays w m (the.Quote call) x r (now (vt .entry)) (now (et .entry)) t places closed types) ⌝ }
 {
     match call {
@@ -187,7 +186,7 @@ fn quote(x: Version, vt: &[u32], et: &[u32], call: PriceCall) -> Done
 
 // Code 1: a kind that is not named.
 fn unknown(x: Version) -> Done
-    ensures { λ r. ⌜ ((w : World) → (m : Machine) → (vt et t places closed : List ℕ) → (types : ℕ) → Running w x vt et t places closed types m → Stays w m the.Unknown x r vt et t places closed types) ⌝ }
+    ensures { λ r. ⌜ ((w : Parameters) → (m : Machine) → (vt et t places closed : List ℕ) → (types : ℕ) → Running w x vt et t places closed types m → Stays w m the.Unknown x r vt et t places closed types) ⌝ }
 {
     Done {
         version: x,
@@ -207,8 +206,8 @@ pub fn step(
     types: u32,
     command: Command,
 ) -> Done
-    requires { ⌜ ((w : World) × (m : Machine) × Running w x (now vt) (now et) (now t) (now places) (now closed) types m) ⌝ }
-    ensures { λ r. ⌜ ((w : World) → (m : Machine) → Running w x (now (vt .entry)) (now (et .entry)) (now (t .entry)) (now (places .entry)) (now (closed .entry)) types m
+    requires { ⌜ ((w : Parameters) × (m : Machine) × Running w x (now vt) (now et) (now t) (now places) (now closed) types m) ⌝ }
+    ensures { λ r. ⌜ ((w : Parameters) → (m : Machine) → Running w x (now (vt .entry)) (now (et .entry)) (now (t .entry)) (now (places .entry)) (now (closed .entry)) types m
         → Answered w m command (r .version) (r .code) (r .number) (now (vt .exit)) (now (et .exit)) (now (t .exit)) (now (places .exit)) (now (closed .entry)) types) ⌝ }
 {
     match command {

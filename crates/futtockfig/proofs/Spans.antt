@@ -6,7 +6,6 @@ use mathlib.Core.List.{List, [], _∷_}
 use native.Mathlib.Omega.{arith}
 use lib.ListN.{length, take, drop, length-take, length-drop}
 use borrow.Author.Tests.{eq-eqb, ne-eqb}
-use Rattle.lists.specs.Choice.{_⇒_else_, _==_}
 use Rattle.lists.proofs.Picks.{same, differ, same?}
 use Rattle.image.specs.Image.{edgeOffset, incidenceOffset, imageLength, soundHeader, vertexCount, edgeCount, part}
 use Rattle.image.proofs.Headers.{part-bad, part-1, part-2, part-3, part-none, part-ends}

@@ -6,7 +6,7 @@ ghost use lib.ListN.{length};
 ghost use Rattle.machine.specs.Demand.{Demand3};
 ghost use Rattle.machine.specs.Run.{listRefusal, run as runOf};
 ghost use Rattle.image.specs.Image.{part as partOf};
-ghost use Rattle.engine.specs.Outcomes.{lent, ran};
+ghost use Rattle.engine.specs.Outcomes.{lent, runResult};
 ghost use Rattle.futtockfig.specs.Span.{partOffset};
 
 // A slice is a pointer and a length.
@@ -21,12 +21,12 @@ pub extern "C" fn futtockfig_run(
     answers: &mut [u32],
     image: &mut [u32],
 ) -> Outcome
-    ensures { λ r. ⌜ ran r (now (answers .exit)) (now (image .exit))
+    ensures { λ r. ⌜ runResult r (now (answers .exit)) (now (image .exit))
         ≡ runOf (lent (now (start .entry)) (now (rows .entry)) (now (calls .entry)) (now (vertices .entry)) (now (edges .entry)) (now (journal .entry)) (now (answers .entry)) (now (image .entry))) ⌝ }
     ensures { λ r. ⌜ ((listRefusal (lent (now (start .entry)) (now (rows .entry)) (now (calls .entry)) (now (vertices .entry)) (now (edges .entry)) (now (journal .entry)) (now (answers .entry)) (now (image .entry))) ≡ 0 → ⊥)
         → (now (vertices .exit) ≡ now (vertices .entry)) × (now (edges .exit) ≡ now (edges .entry)) × (now (journal .exit) ≡ now (journal .entry))) ⌝ }
     ensures { λ r. ⌜ (listRefusal (lent (now (start .entry)) (now (rows .entry)) (now (calls .entry)) (now (vertices .entry)) (now (edges .entry)) (now (journal .entry)) (now (answers .entry)) (now (image .entry))) ≡ 0
-        → Demand3 (lent (now (start .entry)) (now (rows .entry)) (now (calls .entry)) (now (vertices .entry)) (now (edges .entry)) (now (journal .entry)) (now (answers .entry)) (now (image .entry))) (ran r (now (answers .exit)) (now (image .exit)))) ⌝ }
+        → Demand3 (lent (now (start .entry)) (now (rows .entry)) (now (calls .entry)) (now (vertices .entry)) (now (edges .entry)) (now (journal .entry)) (now (answers .entry)) (now (image .entry))) (runResult r (now (answers .exit)) (now (image .exit)))) ⌝ }
 {
     run(start, rows, calls, vertices, edges, journal, answers, image)
 }

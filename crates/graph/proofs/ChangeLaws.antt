@@ -74,21 +74,21 @@ removals-in b a (n ∷ ns) g w i h =
 
 -- ---- kind 2: once its edges are out
 
-abbrev bare : Graph → ℕ → Graph
-bare g a = applyAll (removals (edgesAt g a) g) g
+abbrev withoutEdges : Graph → ℕ → Graph
+withoutEdges g a = applyAll (removals (edgesAt g a) g) g
 
 module _ (g : Graph) (w : WellFormed g) (a : ℕ) where
-  bare-applies : AppliesAll (removals (edgesAt g a) g) g
-  bare-applies = removals-apply a (edgesAt g a) g w refl
+  without-edges-applies : AppliesAll (removals (edgesAt g a) g) g
+  without-edges-applies = removals-apply a (edgesAt g a) g w refl
 
-  bare-formed : WellFormed (bare g a)
-  bare-formed = all-formed (removals (edgesAt g a) g) g bare-applies w
+  without-edges-formed : WellFormed (withoutEdges g a)
+  without-edges-formed = all-formed (removals (edgesAt g a) g) g without-edges-applies w
 
-  bare-there : VertexThere g a → VertexThere (bare g a) a
-  bare-there h = removals-vertices (edgesAt g a) a g ∙ h
+  without-edges-there : VertexThere g a → VertexThere (withoutEdges g a) a
+  without-edges-there h = removals-vertices (edgesAt g a) a g ∙ h
 
-  bare-none : firstEdits (DeleteVertex a) (bare g a) ≡ []
-  bare-none = ap (λ (ns : List ℕ). removals ns (bare g a)) (removals-empty a (edgesAt g a) g w refl)
+  without-edges-none : firstEdits (DeleteVertex a) (withoutEdges g a) ≡ []
+  without-edges-none = ap (λ (ns : List ℕ). removals ns (withoutEdges g a)) (removals-empty a (edgesAt g a) g w refl)
 
 -- ---- every change
 
@@ -99,7 +99,7 @@ module _ (g : Graph) where
     where
       go : {d : Change} → Kind d → length (firstEdits d g ++ (plan d (applyAll (firstEdits d g) g) ∷ [])) ≡ cost d g
       go (deletion a) =
-          omega (arith, length-append (removals (edgesAt g a) g) (plan (DeleteVertex a) (bare g a) ∷ []), removals-length (edgesAt g a) g)
+          omega (arith, length-append (removals (edgesAt g a) g) (plan (DeleteVertex a) (withoutEdges g a) ∷ []), removals-length (edgesAt g a) g)
       go (single e k) = rw (e g, k g)
 
 module _ (b : Bounds) (g : Graph) (w : WellFormed g) where
@@ -109,8 +109,8 @@ module _ (b : Bounds) (g : Graph) (w : WellFormed g) where
     where
       go : {d : Change} → Kind d → Allowed b g d → AppliesAll (firstEdits d g ++ (plan d (applyAll (firstEdits d g) g) ∷ [])) g
       go (deletion a) h =
-          applies-append (removals (edgesAt g a) g) (plan (DeleteVertex a) (bare g a) ∷ []) g (bare-applies g w a)
-          (plan-applies b (bare g a) (bare-formed g w a) (DeleteVertex a) (bare-there g w a h) (bare-none g w a), tt)
+          applies-append (removals (edgesAt g a) g) (plan (DeleteVertex a) (withoutEdges g a) ∷ []) g (without-edges-applies g w a)
+          (plan-applies b (withoutEdges g a) (without-edges-formed g w a) (DeleteVertex a) (without-edges-there g w a h) (without-edges-none g w a), tt)
       go (single {c = d} e k) h = rw (e g) (plan-applies b g w d h (e g), tt)
 
   pub change-is : (c : Change) → Allowed b g c → applyAll (editsOf c g) g ≡ changed c g
@@ -119,7 +119,7 @@ module _ (b : Bounds) (g : Graph) (w : WellFormed g) where
     where
       go : {d : Change} → Kind d → Allowed b g d → applyAll (firstEdits d g ++ (plan d (applyAll (firstEdits d g) g) ∷ [])) g ≡ changed d g
       go (deletion a) h =
-          apply-append (removals (edgesAt g a) g) (plan (DeleteVertex a) (bare g a) ∷ []) g
+          apply-append (removals (edgesAt g a) g) (plan (DeleteVertex a) (withoutEdges g a) ∷ []) g
           ∙ ap (onVseq (rem vn a)) (removals-are (edgesAt g a) g)
       go (single {c = d} e k) h = rw (e g) (plan-is b g w d h (e g))
 
@@ -130,8 +130,8 @@ module _ (b : Bounds) (g : Graph) (w : WellFormed g) where
       go : {d : Change} → Kind d → Allowed b g d → All (EditIn b) (firstEdits d g ++ (plan d (applyAll (firstEdits d g) g) ∷ []))
       go (deletion a) h =
           let r = removals-in b a (edgesAt g a) g w i refl in
-          all-append r (more (plan-in b (bare g a) (all-within b (removals (edgesAt g a) g) g (bare-applies g w a) r i)
-          (DeleteVertex a) (bare-there g w a h)) done)
+          all-append r (more (plan-in b (withoutEdges g a) (all-within b (removals (edgesAt g a) g) g (without-edges-applies g w a) r i)
+          (DeleteVertex a) (without-edges-there g w a h)) done)
       go (single {c = d} e k) h = rw (e g) (more (plan-in b g i d h) done)
 
 -- each of the sixteen changes keeps the graph well formed

@@ -1,39 +1,18 @@
 -- Incidence lists: words attached and detached, and the ends of edges.
 use mathlib.Core.Path.{_≡_, refl, sym, ap, _∙_}
 use mathlib.Core.Logic.{_≢_}
-use mathlib.Core.List.{List, [], _∷_}
-use Prim.Native.Nat.{ℕ, _+_, _-_, _*_, _/_, _%_, _≤_}
+use mathlib.Core.List.{List, []}
+use Prim.Native.Nat.{ℕ, _+_, _-_, _/_, _%_, _≤_}
 use native.Mathlib.Omega.{arith}
-use native.Mathlib.Nat.{zero-add, sub-zero}
 use Rattle.lists.specs.Choice.{pick, is}
 use Rattle.lists.specs.Keyed.{countBy, ins, rem, prev, find, upd}
-use Rattle.lists.proofs.Picks.{pick-yes, pick-no, pick-self, pick-both, Same, same, differ, same?, is-yes, is-no, is-le, is-pos, is-zero}
-use Rattle.lists.proofs.KeyedLaws.{
-  count-ins,
-  count-rem,
-  rem-ins,
-  ins-rem,
-  prev-ins,
-  prev-in,
-  find-ins,
-  find-ins-other,
-  find-rem-other,
-  find-none,
-  count-upd,
-  prev-upd,
-  find-upd,
-  find-upd-other,
-  upd-back,
-  key-upd,
-}
-use Rattle.graph.specs.declared.Reading.{Reading}
-use Rattle.graph.specs.declared.Edit.{Edit}
-use Rattle.graph.specs.declared.Edit.the-variants.{InsertVertex, RemoveVertex, InsertEdge, RemoveEdge, SetVertex, SetEdge, MoveVertex, MoveEdge, MoveWord}
-use Rattle.graph.specs.Graph.{Vertex, Edge, Graph, vn, en, wd, noVertex, noEdge, outWord, inWord, vertexIn, edgeIn, listIn, thisIn}
-use Rattle.graph.specs.WellFormed.{Ordered, WellFormed}
-use Rattle.graph.specs.Changes.{onList, withVertex, withEdge, withEnd, detach}
-use Rattle.graph.specs.Edits.{inverse, attach, apply, Placed, Fits, Applies}
-use Rattle.graph.proofs.Orders.{placed-back, placed-fits, fits-placed, ordered-ins, ordered-rem, key-find, rem-at, find-at, move-back, fits-at, move-placed, find-kept, find-move, count-move, ordered-upd}
+use Rattle.lists.proofs.Picks.{pick-yes, pick-no, pick-self, pick-both, same, differ, same?, is-yes, is-no}
+use Rattle.lists.proofs.KeyedLaws.{count-ins, count-rem, rem-ins, prev-ins, prev-in, find-ins, find-ins-other, find-rem-other, find-none, count-upd, find-upd, find-upd-other, upd-back}
+use Rattle.graph.specs.Graph.{Vertex, Edge, vn, en, wd, noVertex, noEdge, outWord, inWord, vertexIn, edgeIn, listIn, thisIn}
+use Rattle.graph.specs.WellFormed.{Ordered}
+use Rattle.graph.specs.Changes.{onList, withEnd, detach}
+use Rattle.graph.specs.Edits.{attach, Placed}
+use Rattle.graph.proofs.Orders.{placed-back, key-find}
 
 pub list-upd : (l : List Vertex) (v u : ℕ) (h : List ℕ → List ℕ) → countBy vn v l ≡ 1 → listIn (upd vn v (onList h) l) u ≡ pick v u (h (listIn l u)) (listIn l u)
 list-upd l v u h c = elim (same? v u) [

@@ -1,41 +1,24 @@
 -- An edit keeps the graph well formed.
 use mathlib.Core.Path.{_≡_, refl, sym, ap, _∙_}
 use mathlib.Core.Logic.{_≢_}
-use mathlib.Core.List.{List, [], _∷_}
-use Prim.Native.Nat.{ℕ, _+_, _-_, _*_, _/_, _%_, _≤_}
+use mathlib.Core.List.{[]}
+use Prim.Native.Nat.{ℕ, _/_, _%_}
 use native.Mathlib.Omega.{arith}
 use native.Mathlib.Nat.{zero-add, sub-zero}
-use Rattle.lists.specs.Choice.{pick, is}
-use Rattle.lists.specs.Keyed.{countBy, ins, rem, prev, find, upd}
-use Rattle.lists.proofs.Picks.{pick-yes, pick-no, pick-self, pick-both, Same, same, differ, same?, is-yes, is-no, is-le, is-pos, is-zero}
-use Rattle.lists.proofs.KeyedLaws.{
-  count-ins,
-  count-rem,
-  rem-ins,
-  ins-rem,
-  prev-ins,
-  prev-in,
-  find-ins,
-  find-ins-other,
-  find-rem-other,
-  find-none,
-  count-upd,
-  prev-upd,
-  find-upd,
-  find-upd-other,
-  upd-back,
-  key-upd,
-}
+use Rattle.lists.specs.Choice.{pick}
+use Rattle.lists.specs.Keyed.{countBy, ins, rem, upd}
+use Rattle.lists.proofs.Picks.{pick-both, Same, same, differ, same?, is-yes, is-no}
+use Rattle.lists.proofs.KeyedLaws.{count-ins, count-rem, find-ins, find-ins-other, find-rem-other, count-upd}
 use Rattle.graph.specs.declared.Reading.{Reading}
 use Rattle.graph.specs.declared.Edit.{Edit}
 use Rattle.graph.specs.declared.Edit.the-variants.{InsertVertex, RemoveVertex, InsertEdge, RemoveEdge, SetVertex, SetEdge, MoveVertex, MoveEdge, MoveWord}
 use Rattle.graph.specs.Graph.{Vertex, Edge, Graph, vn, en, wd, noVertex, noEdge, outWord, inWord, vertexIn, edgeIn, listIn, thisIn}
-use Rattle.graph.specs.WellFormed.{Ordered, WellFormed}
+use Rattle.graph.specs.WellFormed.{WellFormed}
 use Rattle.graph.specs.Changes.{onList, withVertex, withEdge, withEnd, detach}
-use Rattle.graph.specs.Edits.{inverse, attach, apply, Placed, Fits, Applies}
-use Rattle.graph.proofs.Orders.{placed-back, placed-fits, fits-placed, ordered-ins, ordered-rem, key-find, rem-at, find-at, move-back, fits-at, move-placed, find-kept, find-move, count-move, ordered-upd}
-use Rattle.graph.proofs.Incidence.{list-upd, count-attach, count-detach, list-back, attach-back, detach-back, count-attach-other, count-detach-other, ordered-detach, pick-le, apart, apart′, out-half, into-half, this-out, this-into, attach-prev, detach-prev, this-set, this-other, count-list, list-ins, list-rem, Word, out-word, in-word, other-word, word?}
-use Rattle.graph.proofs.Lists.{held, unheld, ends-at, gone, ordered-list, free-out, free-into, out-at, into-at, a-there, z-there, placed-into, placed-out, back-out}
+use Rattle.graph.specs.Edits.{attach, apply, Applies}
+use Rattle.graph.proofs.Orders.{ordered-ins, ordered-rem, find-kept, find-move, count-move, ordered-upd}
+use Rattle.graph.proofs.Incidence.{count-attach, count-detach, count-attach-other, count-detach-other, apart, apart′, out-half, into-half, this-out, this-into, this-set, this-other, count-list, list-ins, list-rem, Word, out-word, in-word, other-word, word?}
+use Rattle.graph.proofs.Lists.{held, ends-at, gone, free-out, free-into, out-at, into-at, a-there, z-there}
 
 module _ (n a z t : ℕ) (r : Reading) (p o i : ℕ) (g : Graph) (h : Applies (InsertEdge n a z t r p o i) g) (w : WellFormed g) where
   abbrev new : Edge

@@ -1,38 +1,14 @@
 -- Keyed lists in which each key stands once: what is put in, taken out or moved, and who stands before it.
 use mathlib.Core.Path.{_≡_, refl, sym, ap, _∙_}
-use mathlib.Core.Logic.{_≢_}
 use mathlib.Core.List.{List, [], _∷_}
-use Prim.Native.Nat.{ℕ, _+_, _-_, _*_, _/_, _%_, _≤_}
+use Prim.Native.Nat.{ℕ, _+_, _≤_}
 use native.Mathlib.Omega.{arith}
-use native.Mathlib.Nat.{zero-add, sub-zero}
-use Rattle.lists.specs.Choice.{pick, is}
-use Rattle.lists.specs.Keyed.{countBy, ins, rem, prev, find, upd}
-use Rattle.lists.proofs.Picks.{pick-yes, pick-no, pick-self, pick-both, Same, same, differ, same?, is-yes, is-no, is-le, is-pos, is-zero}
-use Rattle.lists.proofs.KeyedLaws.{
-  count-ins,
-  count-rem,
-  rem-ins,
-  ins-rem,
-  prev-ins,
-  prev-in,
-  find-ins,
-  find-ins-other,
-  find-rem-other,
-  find-none,
-  count-upd,
-  prev-upd,
-  find-upd,
-  find-upd-other,
-  upd-back,
-  key-upd,
-}
-use Rattle.graph.specs.declared.Reading.{Reading}
-use Rattle.graph.specs.declared.Edit.{Edit}
-use Rattle.graph.specs.declared.Edit.the-variants.{InsertVertex, RemoveVertex, InsertEdge, RemoveEdge, SetVertex, SetEdge, MoveVertex, MoveEdge, MoveWord}
-use Rattle.graph.specs.Graph.{Vertex, Edge, Graph, vn, en, wd, noVertex, noEdge, outWord, inWord, vertexIn, edgeIn, listIn, thisIn}
-use Rattle.graph.specs.WellFormed.{Ordered, WellFormed}
-use Rattle.graph.specs.Changes.{onList, withVertex, withEdge, withEnd, detach}
-use Rattle.graph.specs.Edits.{inverse, attach, apply, Placed, Fits, Applies}
+use Rattle.lists.specs.Choice.{is}
+use Rattle.lists.specs.Keyed.{countBy, ins, rem, find, upd}
+use Rattle.lists.proofs.Picks.{pick-yes, pick-no, same, differ, same?, is-yes, is-no, is-zero}
+use Rattle.lists.proofs.KeyedLaws.{count-ins, count-rem, rem-ins, ins-rem, prev-ins, prev-in, find-ins, find-ins-other, find-rem-other, count-upd, key-upd}
+use Rattle.graph.specs.WellFormed.{Ordered}
+use Rattle.graph.specs.Edits.{Placed, Fits}
 
 module _ {A : Type 0} (key : A → ℕ) where
   pub placed-back : (d : A) (l : List A) (n p : ℕ) → Ordered key l → Placed key l n p → ins key 0 p (find key d n l) (rem key n l) ≡ l

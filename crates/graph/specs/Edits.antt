@@ -1,13 +1,12 @@
 -- The nine reversible edits: each with the old and the new, so that one function makes, undoes and makes again.
 use mathlib.Core.Path.{_≡_}
-use mathlib.Core.List.{List, [], _∷_}
+use mathlib.Core.List.{List, []}
 use Prim.Native.Nat.{ℕ, _+_, _≤_}
 use Rattle.lists.specs.Choice.{is}
 use Rattle.lists.specs.Keyed.{countBy, ins, rem, prev, upd}
-use Rattle.graph.specs.declared.Reading.{Reading}
 use Rattle.graph.specs.declared.Edit.{Edit}
 use Rattle.graph.specs.declared.Edit.the-variants.{InsertVertex, RemoveVertex, InsertEdge, RemoveEdge, SetVertex, SetEdge, MoveVertex, MoveEdge, MoveWord}
-use Rattle.graph.specs.Graph.{Vertex, Edge, Graph, vn, en, wd, vertexIn, edgeIn, listIn, thisIn, outWord, inWord, edgeOf}
+use Rattle.graph.specs.Graph.{Vertex, Graph, vn, en, wd, vertexIn, edgeIn, listIn, thisIn, outWord, inWord, edgeOf}
 use Rattle.graph.specs.WellFormed.{Bounds, VertexFits, EdgeFits}
 use Rattle.graph.specs.Changes.{withVertex, onList, withEdge, withEnd, detach}
 

@@ -1,7 +1,7 @@
 -- The graph (document 01: the chart): vertices (units) and edges (readings), each in an order.
 use Prim.Native.Nat.{ℕ, _+_, _*_, _/_, _%_}
-use mathlib.Core.Bool.{Bool, true, false, not, _&&_, _||_}
-use mathlib.Core.List.{List, [], _∷_, _++_, map}
+use mathlib.Core.Bool.{Bool, _&&_, _||_}
+use mathlib.Core.List.{List, [], map}
 use lib.Dec.{leb}
 use Rattle.lists.specs.Choice.{_⇒_else_, _==_, pick}
 use Rattle.lists.specs.Lists.{any}

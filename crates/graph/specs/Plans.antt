@@ -24,7 +24,7 @@ use Rattle.graph.specs.declared.Change.the-variants.{
   WordBefore,
   WordAfter,
 }
-use Rattle.graph.specs.Graph.{Vertex, Edge, Graph, vn, en, wd, vertex, edge, listIn, listOf, this, outWord, inWord, readingOf}
+use Rattle.graph.specs.Graph.{Graph, vn, en, wd, vertex, edge, listIn, listOf, this, outWord, inWord, readingOf}
 use Rattle.graph.specs.Changes.{append, detach, edgesAt}
 use Rattle.graph.specs.Edits.{apply, Applies}
 

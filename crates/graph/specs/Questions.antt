@@ -1,6 +1,6 @@
 -- The question that counts: degree in a class. The others read Graph and the list operations first, after and before.
-use Prim.Native.Nat.{ℕ, _%_}
-use mathlib.Core.Bool.{Bool, true, false, not, _&&_, _||_}
+use Prim.Native.Nat.{ℕ}
+use mathlib.Core.Bool.{Bool, not, _&&_, _||_}
 use lib.ListN.{length}
 use Rattle.lists.specs.Choice.{_==_}
 use Rattle.lists.specs.Lists.{keep}

@@ -12,9 +12,9 @@ pub mod Readings
 pub mod Headers
 pub mod Turns
 pub mod Verdicts
-pub mod VertexTies
-pub mod EdgeTies
-pub mod ListTies
-pub mod ScratchTies
+pub mod VertexPass
+pub mod EdgePass
+pub mod ListPass
+pub mod ScratchPass
 pub mod SoundLoads
 pub mod SavedSound

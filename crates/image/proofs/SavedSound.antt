@@ -28,7 +28,7 @@ use Rattle.image.proofs.Loads.{vertex-words, edge-words, incidence-word
 use Rattle.image.proofs.Counts.{self-one, rem-count, rem-length}
 use Rattle.image.proofs.Room.{few-vertices, few-edges}
 use Rattle.image.proofs.Verdicts.{code-by}
-use Rattle.image.proofs.VertexTies.{has-self}
+use Rattle.image.proofs.VertexPass.{has-self}
 use Rattle.image.proofs.SoundLoads.{Small, sound-loads}
 
 -- later numbers are not seen, once n is

@@ -25,8 +25,8 @@ use Rattle.image.proofs.Ends.{has-number}
 use Rattle.image.proofs.Counts.{rem-count, rem-length}
 use Rattle.image.proofs.Headers.{sound-length}
 use Rattle.image.proofs.Verdicts.{header-not, list-sound, ended-nil, then-sound}
-use Rattle.image.proofs.VertexTies.{has-self, vertex-step, walk-distinct}
-use Rattle.image.proofs.EdgeTies.{edge-step}
+use Rattle.image.proofs.VertexPass.{has-self, vertex-step, walk-distinct}
+use Rattle.image.proofs.EdgePass.{edge-step}
 
 -- each word is one of 32 bits
 abbrev pub Small : List ℕ → Type 0

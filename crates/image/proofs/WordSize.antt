@@ -1,22 +1,21 @@
 -- Every saved word is below 2^32.
-use Prim.Native.Nat.{ℕ, zero, suc, _+_, _*_, _/_, _^_, _≤_, _<_}
-use mathlib.Core.Path.{_≡_, refl, sym, ap, _∙_}
-use mathlib.Core.Bool.{Bool, true, false, _&&_, _||_}
-use mathlib.Core.List.{List, [], _∷_, _++_, map}
+use Prim.Native.Nat.{ℕ, zero, suc, _^_, _≤_, _<_}
+use mathlib.Core.Path.{_≡_, refl}
+use mathlib.Core.Bool.{Bool, true, false, _||_}
+use mathlib.Core.List.{List, [], _∷_, _++_}
 use native.Mathlib.Omega.{arith}
-use lib.Dec.{ltb}
 use lib.ListN.{length, getD}
 use borrow.Author.Tests.{ltb-true, eqb-true}
 use Rattle.lists.specs.Choice.{_⇒_else_, _==_}
-use Rattle.lists.specs.Lists.{any, all, has, each, All, done, more}
-use Rattle.lists.proofs.Bools.{ft, or-true, and-true}
+use Rattle.lists.specs.Lists.{any, all, each, All, done, more}
+use Rattle.lists.proofs.Bools.{ft, and-true}
 use Rattle.lists.proofs.Sums.{all-append, all-bool}
 use Rattle.lists.proofs.Members.{all-counted, counted-all}
 use Rattle.graph.specs.Graph.{Vertex, Edge, Graph, isVertex, hasVertex, readingKind, decimetres, outWord, inWord}
 use Rattle.graph.specs.WellFormed.{Bounds, wordsOf, wordsAt, soundVertex, soundEdge, wellFormed}
 use Rattle.graph.proofs.Readings.{reading-range}
 use Rattle.image.specs.Image.{vertexRecord, edgeRecord, incidencesOf, vertexOffset, edgeOffset, incidenceOffset, imageLength, save}
-use Rattle.image.proofs.Formed.{Formed, formed, within-le, vertex-facts, edge-facts}
+use Rattle.image.proofs.Formed.{formed, within-le, vertex-facts, edge-facts}
 use Rattle.image.proofs.Room.{few-vertices, few-edges}
 
 -- "A word is unsigned, 32 bits."

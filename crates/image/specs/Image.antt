@@ -1,6 +1,6 @@
 -- The image of a graph (document 01: the saved chart): the words that it saves as, and the graph that words say.
 use Prim.Native.Nat.{ℕ, zero, suc, _+_, _*_}
-use mathlib.Core.Bool.{Bool, true, false, not, _&&_}
+use mathlib.Core.Bool.{Bool, not, _&&_}
 use mathlib.Core.List.{List, [], _∷_, _++_}
 use lib.ListN.{length, getD, take, drop}
 use Rattle.lists.specs.Choice.{_⇒_else_, _==_}

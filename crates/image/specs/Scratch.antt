@@ -1,9 +1,8 @@
 -- The same walks over scratch tables in place of lists: one lookup a word, so that a check is linear.
 -- deg has, for a vertex's number, 1 + its ends so far; own has, for an oriented word, its vertex until the word is used.
-use Prim.Native.Nat.{ℕ, zero, suc, _+_, _*_, _-_, _≤_}
-use mathlib.Core.Bool.{Bool, true, false}
+use Prim.Native.Nat.{ℕ, zero, suc, _+_, _-_, _≤_}
 use mathlib.Core.List.{List, [], _∷_}
-use lib.ListN.{length, getD, drop, set}
+use lib.ListN.{getD, drop, set}
 use lib.Dec.{ltb}
 use Rattle.lists.specs.Choice.{_⇒_else_, _==_}
 use Rattle.graph.specs.Graph.{outWord, inWord}
@@ -11,7 +10,7 @@ use Rattle.graph.specs.WellFormed.{Bounds}
 use Rattle.image.specs.Image.{vertexSize, edgeSize, vertexOffset, edgeOffset, incidenceOffset}
 use Rattle.image.specs.Checks.{goodVertex, goodEdge, recordAt, ended, listAt, andThen}
 use Rattle.image.specs.declared.Verdict.{Verdict}
-use Rattle.image.specs.declared.Verdict.the-variants.{Sound, BadHeader, BadRecord, BadIncidence}
+use Rattle.image.specs.declared.Verdict.the-variants.{Sound}
 
 -- no word is above k
 abbrev pub Below : ℕ → List ℕ → Type 0

@@ -1,6 +1,5 @@
 // The header: counts, offsets, total and length. Its words may be any, so the sums are those of 64 bits.
 ghost use mathlib.Core.Path.{_≡_};
-ghost use Prim.Native.Nat.{ℕ};
 ghost use Rattle.image.specs.Image.{soundHeader};
 ghost use Rattle.image.specs.Checks.{soundCounts};
 use crate::words::word;

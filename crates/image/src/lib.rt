@@ -5,7 +5,7 @@ mod records; // records.rt: one vertex record, one edge record
 mod passes; // passes.rt: each part in turn, over scratch
 
 ghost use mathlib.Core.Path.{_≡_};
-ghost use Prim.Native.Nat.{ℕ, _≤_};
+ghost use Prim.Native.Nat.{_≤_};
 ghost use Rattle.image.specs.Image.{part as partOf};
 ghost use Rattle.image.specs.Checks.{bounds, verdict, codeOf, loadCode};
 

@@ -1,6 +1,6 @@
 // Each part in turn, over scratch of their own: deg has 1 + its ends so far for a vertex, own the vertex of an oriented word.
 ghost use mathlib.Core.Path.{_≡_};
-ghost use Prim.Native.Nat.{ℕ, _+_, _*_, _-_, _≤_};
+ghost use Prim.Native.Nat.{_≤_};
 ghost use lib.ListN.{length, getD, drop, replicate};
 ghost use Rattle.image.specs.Checks.{bounds};
 ghost use Rattle.image.specs.Scratch.{Below, ends, owned, edgeGood, edgeEnds, edgeOwned, vertexRun, vertexMarks, edgeRun, edgeDegrees, edgeOwners, listRun, listOwners, incidenceRun, scratchRun};

@@ -1,6 +1,5 @@
 // One record: how many of its words are sound.
 ghost use mathlib.Core.Path.{_≡_};
-ghost use Prim.Native.Nat.{ℕ};
 ghost use Rattle.lists.specs.Choice.{within};
 ghost use Rattle.graph.specs.Graph.{isReading};
 ghost use Rattle.image.specs.Checks.{goodVertex, goodEdge};

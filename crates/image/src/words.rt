@@ -1,6 +1,6 @@
 // Words of slices: a read past the end is 0, a write past the end is nothing.
 ghost use mathlib.Core.Path.{_≡_};
-ghost use Prim.Native.Nat.{ℕ, _-_, _<_, _^_};
+ghost use Prim.Native.Nat.{_-_, _<_, _^_};
 ghost use lib.ListN.{getD, set};
 ghost use Rattle.image.specs.Scratch.{bumped};
 

@@ -1,12 +1,12 @@
 -- Laws of keyed lists: what is put in, taken out, found, updated and counted.
-use mathlib.Core.Path.{_≡_, refl, sym, ap, _∙_}
+use mathlib.Core.Path.{_≡_, refl, ap, _∙_}
 use mathlib.Core.Logic.{_≢_}
-use mathlib.Core.List.{List, [], _∷_, _++_}
-use Prim.Native.Nat.{ℕ, zero, suc, _+_, _-_, _≤_, _<_}
+use mathlib.Core.List.{List, [], _∷_}
+use Prim.Native.Nat.{ℕ, _+_, _-_, _≤_}
 use native.Mathlib.Omega.{arith}
 use Rattle.lists.specs.Choice.{pick, is}
-use Rattle.lists.specs.Keyed.{countBy, ins, insBefore, rem, prev, lastBy, find, upd}
-use Rattle.lists.proofs.Picks.{pick-yes, pick-no, pick-self, Same, same, differ, same?, is-yes, is-no, is-le, is-pos, is-zero, is-apart}
+use Rattle.lists.specs.Keyed.{countBy, ins, rem, prev, find, upd}
+use Rattle.lists.proofs.Picks.{pick-yes, pick-no, pick-self, same, differ, same?, is-yes, is-no, is-pos, is-zero, is-apart}
 
 module _ {A : Type 0} (key : A → ℕ) where
   ins-same : (q : ℕ) (x : A) (l : List A) → ins key q q x l ≡ x ∷ l

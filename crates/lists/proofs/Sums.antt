@@ -1,13 +1,13 @@
 -- Sums, facts about every element, and counting.
-use Prim.Native.Nat.{ℕ, zero, suc, _+_, _≤_, _<_}
-use mathlib.Core.Path.{_≡_, refl, sym, ap, ap₂, _∙_, subst}
-use mathlib.Core.Bool.{Bool, true, false, not, _&&_, _||_}
+use Prim.Native.Nat.{ℕ, suc, _+_, _≤_}
+use mathlib.Core.Path.{_≡_, refl, sym, ap, _∙_, subst}
+use mathlib.Core.Bool.{Bool, true, false, not}
 use mathlib.Core.List.{List, [], _∷_, _++_, map}
 use native.Mathlib.Omega.{arith}
 use lib.ListN.{length}
-use borrow.Author.Tests.{eqb-true, eqb-false, eq-eqb, ne-eqb, not-true, not-false}
+use borrow.Author.Tests.{eqb-true, eq-eqb, not-true}
 use Rattle.lists.specs.Choice.{_⇒_else_, _==_, bit}
-use Rattle.lists.specs.Lists.{any, all, has, distinct, sumOf, count, All, done, more}
+use Rattle.lists.specs.Lists.{all, has, distinct, sumOf, count, All, done, more}
 use Rattle.lists.proofs.Bools.{tf, ft, and-true, and-both}
 
 module _ {A : Type 0} (f : A → ℕ) where

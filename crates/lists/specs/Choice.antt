@@ -1,6 +1,6 @@
 -- Choices by a test, and by equality of two numbers.
 use Prim.Native.Nat.{ℕ}
-use mathlib.Core.Bool.{Bool, true, false, not, _&&_, _||_}
+use mathlib.Core.Bool.{Bool, true, false, _&&_}
 use lib.Dec.{eqb, leb}
 
 infixr 5 _⇒_else_

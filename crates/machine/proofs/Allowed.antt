@@ -1,8 +1,7 @@
 -- A change that no code refuses asks nothing that the graph does not have.
 use Prim.Native.Nat.{ℕ, suc, _^_, _≤_, _<_}
-use mathlib.Core.Path.{_≡_, refl, sym, ap, _∙_, subst}
-use mathlib.Core.Bool.{Bool, true, false, not, _&&_, _||_}
-use mathlib.Core.List.{List, [], _∷_}
+use mathlib.Core.Path.{_≡_, refl, subst}
+use mathlib.Core.Bool.{Bool, true, false, not, _||_}
 use native.Mathlib.Omega.{arith}
 use lib.Dec.{leb}
 use lib.ListN.{length}
@@ -11,12 +10,12 @@ use Rattle.lists.specs.Choice.{_⇒_else_, _==_, within}
 use Rattle.lists.proofs.Bools.{tf, and-true}
 use Rattle.graph.specs.declared.Change.{Change}
 use Rattle.graph.specs.declared.Change.the-variants.{CreateVertex, DeleteVertex, CreateEdge, DeleteEdge, RetypeVertex, RetypeEdge, SetValue, SetReading, SetAlpha, SetOmega, VertexBefore, VertexAfter, EdgeBefore, EdgeAfter, WordBefore, WordAfter}
-use Rattle.graph.specs.Graph.{Graph, hasVertex, hasEdge, edgeOf, this, isReading}
+use Rattle.graph.specs.Graph.{hasVertex, hasEdge, edgeOf, this, isReading}
 use Rattle.graph.specs.WellFormed.{WellFormed}
 use Rattle.graph.specs.Changes.{VertexThere, EdgeThere, Allowed}
 use Rattle.graph.proofs.Numbers.{vertex-none, edge-none, vertex-once, edge-once}
 use Rattle.history.specs.Machine.{Machine, present}
-use Rattle.machine.specs.Calls.{Call, World, boundsIn, isChange, changeOf}
+use Rattle.machine.specs.Calls.{Call, Parameters, boundsIn, isChange, changeOf}
 use Rattle.machine.specs.Codes.{refusal}
 use Rattle.machine.proofs.CodeRows.{Rows, rows}
 use Rattle.machine.proofs.Sorts.{ofKind, call-is}
@@ -57,7 +56,7 @@ choose : (P : Change → Type 0) (t : Bool) (c d : Change) → (t ≡ true → P
 choose P true c d f g = f refl
 choose P false c d f g = g refl
 
-module _ (w : World) (m : Machine) (x : Call) (fits : Words x) (ok : WellFormed (present m)) where
+module _ (w : Parameters) (m : Machine) (x : Call) (fits : Words x) (ok : WellFormed (present m)) where
   -- both named, and not the same twice
   two-vertices : (not (hasVertex (present m) (x .a)) || (not (hasVertex (present m) (x .b)) || false)) ≡ false → VertexThere (present m) (x .a) × VertexThere (present m) (x .b)
   two-vertices r =

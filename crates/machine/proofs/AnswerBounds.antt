@@ -16,7 +16,7 @@ use Rattle.pricing.proofs.Ranges.{two-way-range, grade-range}
 use Rattle.image.specs.Image.{load}
 use Rattle.image.proofs.WordSize.{Word}
 use Rattle.history.specs.Machine.{Machine, present}
-use Rattle.machine.specs.Calls.{Call, World, boundsIn, callsOf, known, changeOf}
+use Rattle.machine.specs.Calls.{Call, Parameters, boundsIn, callsOf, known, changeOf}
 use Rattle.machine.specs.Codes.{
   numberOutside,
   numberInUse,
@@ -36,7 +36,7 @@ use Rattle.machine.specs.Codes.{
   refusal,
 }
 use Rattle.machine.specs.Machine.{Sort, changes, sets, drops, undoes, redoes, goes, commits, asks, sortOf, asked, numberBy, answer, answers, step}
-use Rattle.machine.specs.Run.{Lent, worldOf, Limits, listRefusal, answerWords}
+use Rattle.machine.specs.Run.{Lent, parametersOf, Limits, listRefusal, answerWords}
 use Rattle.machine.specs.Demand.{begins}
 use Rattle.machine.proofs.Allowed.{Words}
 use Rattle.machine.proofs.Graphs.{Formed, present-formed}
@@ -50,7 +50,7 @@ either : (n : ℕ) (t : Bool) (a b : ℕ) → a ≤ n → b ≤ n → (t ⇒ a e
 either n true a b h i = h
 either n false a b h i = i
 
-pub code-le : (w : World) (m : Machine) (x : Call) → refusal w m x ≤ 16
+pub code-le : (w : Parameters) (m : Machine) (x : Call) → refusal w m x ≤ 16
 unfolding refusal
 code-le w m x =
     either 16 (not (known (x .kind))) 1 _ (omega arith)
@@ -76,7 +76,7 @@ or-else : (t : Bool) (a b : ℕ) → a < 2 ^ 32 → b < 2 ^ 32 → (t ⇒ a else
 or-else true a b h i = h
 or-else false a b h i = i
 
-module _ (w : World) (m : Machine) (k : Limits w) (i : Invariant w m) where
+module _ (w : Parameters) (m : Machine) (k : Limits w) (i : Invariant w m) where
   here : Formed w (present m)
   here = present-formed w m (i .formed)
 
@@ -148,7 +148,7 @@ module _ (w : World) (m : Machine) (k : Limits w) (i : Invariant w m) where
 
 -- ---- a list of calls
 
-pub answers-fit : (w : World) (m : Machine) (xs : List Call) → Limits w → Invariant w m → All Words xs → All Word (answerWords (answers w m xs))
+pub answers-fit : (w : Parameters) (m : Machine) (xs : List Call) → Limits w → Invariant w m → All Words xs → All Word (answerWords (answers w m xs))
 unfolding answers
 answers-fit w m [] k i done = done
 answers-fit w m (x ∷ xs) k i (more f fs) =
@@ -165,10 +165,10 @@ calls-fit (more a (more b (more c done))) = done
 calls-fit (more a (more b (more c (more d done)))) = done
 
 -- what a list that is not refused begins with
-pub begins-invariant : (l : Lent) → listRefusal l ≡ 0 → Invariant (worldOf l) (begins l)
-begins-invariant l e = fresh-invariant (worldOf l) (load (l .start)) (start-formed l e)
+pub begins-invariant : (l : Lent) → listRefusal l ≡ 0 → Invariant (parametersOf l) (begins l)
+begins-invariant l e = fresh-invariant (parametersOf l) (load (l .start)) (start-formed l e)
 
 -- every answer word of it
 pub run-answers-fit : (l : Lent) → listRefusal l ≡ 0 → All Word (l .calls) →
-    All Word (answerWords (answers (worldOf l) (begins l) (callsOf (l .calls))))
-run-answers-fit l e f = answers-fit (worldOf l) (begins l) (callsOf (l .calls)) (passed l e .limits) (begins-invariant l e) (calls-fit f)
+    All Word (answerWords (answers (parametersOf l) (begins l) (callsOf (l .calls))))
+run-answers-fit l e f = answers-fit (parametersOf l) (begins l) (callsOf (l .calls)) (passed l e .limits) (begins-invariant l e) (calls-fit f)

@@ -1,8 +1,7 @@
 -- The twelve cases of Seven, together: one test that is computed over the table.
-use Prim.Native.Nat.{ℕ}
 use mathlib.Core.Path.{_≡_, refl}
-use mathlib.Core.Bool.{Bool, true, false}
-use mathlib.Core.List.{List, [], _∷_}
+use mathlib.Core.Bool.{true}
+use mathlib.Core.List.{[], _∷_}
 use lib.ListN.{replicate}
 use Rattle.lists.specs.Choice.{pick}
 use Rattle.lists.specs.Lists.{all, All, same}
@@ -16,7 +15,7 @@ use Rattle.history.specs.Machine.{fresh, present}
 use Rattle.machine.specs.Calls.{boundsIn}
 use Rattle.machine.specs.Machine.{last}
 use Rattle.machine.specs.Run.{listRefusal}
-use Rattle.machine.specs.Seven.{world, seven, making, then, delete, undo, Case, twelve}
+use Rattle.machine.specs.Seven.{parameters, seven, making, then, delete, undo, Case, twelve}
 
 computed : all (λ (c : Case). same (c .found) (c .said)) twelve ≡ true
 unfolding twelve pick
@@ -25,16 +24,16 @@ computed = refl
 pub cases-hold : All (λ (c : Case). c .found ≡ c .said) twelve
 cases-hold = all-bool (λ (c : Case). same (c .found) (c .said)) (λ c e. same-eq (c .found) (c .said) e) twelve computed
 
-formed : wellFormed (boundsIn world) seven ≡ true
+formed : wellFormed (boundsIn parameters) seven ≡ true
 unfolding wellFormed pick
 formed = refl
 
 -- graphs that save as the same words are the same
-same-graph : (g : Graph) → wellFormed (boundsIn world) g ≡ true → same (save g) (save seven) ≡ true → g ≡ seven
-same-graph g f e = one-graph (boundsIn world) (boundsIn world) g seven f formed (same-eq (save g) (save seven) e)
+same-graph : (g : Graph) → wellFormed (boundsIn parameters) g ≡ true → same (save g) (save seven) ≡ true → g ≡ seven
+same-graph g f e = one-graph (boundsIn parameters) (boundsIn parameters) g seven f formed (same-eq (save g) (save seven) e)
 
 -- the calls that make Seven
-pub made : present (last world (fresh empty) making) ≡ seven
+pub made : present (last parameters (fresh empty) making) ≡ seven
 unfolding last save wellFormed pick
 made = same-graph _ refl refl
 
@@ -46,7 +45,7 @@ case-g = same-graph _ refl refl
 -- lists are accepted: Seven with no calls
 pub accepted-one : listRefusal (record {
   start = save seven;
-  rows = world .rows;
+  rows = parameters .rows;
   calls = [];
   vertexTable = 80;
   edgeTable = 120;

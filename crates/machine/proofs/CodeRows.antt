@@ -1,12 +1,12 @@
 -- What a call that is not refused has passed: no row of the table applies.
-use Prim.Native.Nat.{ℕ, zero, suc}
+use Prim.Native.Nat.{ℕ, suc}
 use mathlib.Core.Path.{_≡_, refl}
 use mathlib.Core.Bool.{Bool, true, false, not}
 use native.Mathlib.Omega.{arith}
 use borrow.Author.Tests.{eqb-true}
 use Rattle.lists.specs.Choice.{_⇒_else_, _==_}
 use Rattle.history.specs.Machine.{Machine, present}
-use Rattle.machine.specs.Calls.{Call, World, known}
+use Rattle.machine.specs.Calls.{Call, Parameters, known}
 use Rattle.machine.specs.Codes.{
   numberOutside,
   numberInUse,
@@ -30,7 +30,7 @@ pub chain-zero : (t : Bool) (n r : ℕ) → ((t ⇒ suc n else r) == 0) ≡ true
 chain-zero true n r h = absurd (omega (arith, eqb-true (suc n) 0 h))
 chain-zero false n r h = (refl, h)
 
-pub record Rows (w : World) (m : Machine) (x : Call) : Type 0 where
+pub record Rows (w : Parameters) (m : Machine) (x : Call) : Type 0 where
   pub row1 : not (known (x .kind)) ≡ false
   pub row2 : numberOutside w x ≡ false
   pub row3 : numberInUse (present m) x ≡ false
@@ -48,7 +48,7 @@ pub record Rows (w : World) (m : Machine) (x : Call) : Type 0 where
   pub row15 : sideOutside x ≡ false
   pub row16 : nothingToRange (present m) x ≡ false
 
-pub rows : (w : World) (m : Machine) (x : Call) → (refusal w m x == 0) ≡ true → Rows w m x
+pub rows : (w : Parameters) (m : Machine) (x : Call) → (refusal w m x == 0) ≡ true → Rows w m x
 unfolding refusal
 rows w m x h =
     let r1 = chain-zero (not (known (x .kind))) 0 _ h in

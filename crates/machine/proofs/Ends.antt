@@ -10,16 +10,16 @@ use Rattle.history.specs.Machine.{fresh, present}
 use Rattle.image.specs.Image.{save, load}
 use Rattle.image.proofs.Room.{image-fits}
 use Rattle.image.proofs.WordSize.{Word, image-small}
-use Rattle.machine.specs.Calls.{Call, World, boundsIn, callsOf}
+use Rattle.machine.specs.Calls.{Call, Parameters, boundsIn, callsOf}
 use Rattle.machine.specs.Machine.{last}
-use Rattle.machine.specs.Run.{Lent, worldOf, Limits, imageRoom, listRefusal}
+use Rattle.machine.specs.Run.{Lent, parametersOf, Limits, imageRoom, listRefusal}
 use Rattle.machine.specs.Demand.{after}
 use Rattle.machine.proofs.Allowed.{Words}
 use Rattle.machine.proofs.AnswerBounds.{calls-fit}
 use Rattle.machine.proofs.Graphs.{Formed, end-formed}
 use Rattle.machine.proofs.ListRows.{limits-in, passed, start-formed}
 
-module _ (w : World) (g : Graph) (xs : List Call) (h : Formed w g) (f : All Words xs) where
+module _ (w : Parameters) (g : Graph) (xs : List Call) (h : Formed w g) (f : All Words xs) where
   -- after any list of calls
   pub end-words-fit : Limits w → All Word (save (present (last w (fresh g) xs)))
   end-words-fit k = image-small (boundsIn w) (limits-in w k) (present (last w (fresh g) xs)) (end-formed w g xs h f)
@@ -30,7 +30,7 @@ module _ (w : World) (g : Graph) (xs : List Call) (h : Formed w g) (f : All Word
 -- after a list that is not refused
 module _ (l : Lent) (e : listRefusal l ≡ 0) (f : All Word (l .calls)) where
   pub run-end-words-fit : All Word (save (present (after l (callsOf (l .calls)))))
-  run-end-words-fit = end-words-fit (worldOf l) (load (l .start)) (callsOf (l .calls)) (start-formed l e) (calls-fit f) (passed l e .limits)
+  run-end-words-fit = end-words-fit (parametersOf l) (load (l .start)) (callsOf (l .calls)) (start-formed l e) (calls-fit f) (passed l e .limits)
 
   pub run-end-fits : length (save (present (after l (callsOf (l .calls))))) ≤ length (l .end)
-  run-end-fits = omega (arith, end-fits (worldOf l) (load (l .start)) (callsOf (l .calls)) (start-formed l e) (calls-fit f), passed l e .end-room)
+  run-end-fits = omega (arith, end-fits (parametersOf l) (load (l .start)) (callsOf (l .calls)) (start-formed l e) (calls-fit f), passed l e .end-room)

@@ -10,14 +10,14 @@ use Rattle.lists.specs.Lists.{All, done, more, upto}
 use Rattle.lists.proofs.Members.{keep-length}
 use Rattle.graph.specs.Graph.{Graph}
 use Rattle.history.specs.Machine.{Step, Machine, Standing, gone, at, stands, placeOr, costs, distance, standing, fresh, present}
-use Rattle.machine.specs.Calls.{Call, World, changeOf}
+use Rattle.machine.specs.Calls.{Call, Parameters, changeOf}
 use Rattle.machine.specs.Codes.{free, refusal}
 use Rattle.machine.specs.Machine.{Sort, changes, sets, drops, undoes, redoes, goes, commits, asks, sortOf, stepBy, nextBy, step, last}
 use Rattle.machine.proofs.Allowed.{Words}
 use Rattle.machine.proofs.GraphBounds.{cost-real}
 use Rattle.machine.proofs.Graphs.{Formed, AllFormed, step-formed, fresh-formed}
-use Rattle.machine.proofs.MarkLaws.{Sane, fresh-sane, sane-step}
-use Rattle.machine.proofs.Paid.{Paid, paid-fresh, paid-step}
+use Rattle.machine.proofs.MarkLaws.{PlacesInRange, fresh-places, places-step}
+use Rattle.machine.proofs.CostsFit.{CostsFit, costs-fit-fresh, costs-fit-step}
 use Rattle.machine.proofs.Sorts.{accepted-step, refused-step}
 
 -- ---- each step costs at least 1
@@ -41,7 +41,7 @@ costed-next goes m x a = a
 costed-next commits m x a = done
 costed-next asks m x a = a
 
-costed-step : (w : World) (m : Machine) (x : Call) → Costed (m .line .steps) → Costed (step w m x .line .steps)
+costed-step : (w : Parameters) (m : Machine) (x : Call) → Costed (m .line .steps) → Costed (step w m x .line .steps)
 costed-step w m x a = go (refusal w m x == 0) refl
   where
     go : (t : Bool) → (refusal w m x == 0) ≡ t → Costed (step w m x .line .steps)
@@ -54,37 +54,37 @@ costed-length (more h a) = omega (arith, costed-length a)
 
 -- ---- the invariant
 
-pub record Invariant (w : World) (m : Machine) : Type 0 where
+pub record Invariant (w : Parameters) (m : Machine) : Type 0 where
   -- G0 to Gm are well formed
   pub formed : AllFormed w m
   -- p and the places of the marks are at most m
-  pub places : Sane m
+  pub places : PlacesInRange m
   -- steps 1 to m cost at most the capacity
-  pub paid : Paid w m
+  pub costs-fit : CostsFit w m
   pub costed : Costed (m .line .steps)
 
-pub fresh-invariant : (w : World) (g : Graph) → Formed w g → Invariant w (fresh g)
-fresh-invariant w g h = record { formed = fresh-formed w g h; places = fresh-sane g; paid = paid-fresh w g; costed = done }
+pub fresh-invariant : (w : Parameters) (g : Graph) → Formed w g → Invariant w (fresh g)
+fresh-invariant w g h = record { formed = fresh-formed w g h; places = fresh-places g; costs-fit = costs-fit-fresh w g; costed = done }
 
-pub step-invariant : (w : World) (m : Machine) (x : Call) → Words x → Invariant w m → Invariant w (step w m x)
+pub step-invariant : (w : Parameters) (m : Machine) (x : Call) → Words x → Invariant w m → Invariant w (step w m x)
 step-invariant w m x f i = record {
   formed = step-formed w m x f (i .formed);
-  places = sane-step w m x (i .places);
-  paid = paid-step w m x (i .paid);
+  places = places-step w m x (i .places);
+  costs-fit = costs-fit-step w m x (i .costs-fit);
   costed = costed-step w m x (i .costed);
 }
 
-pub last-invariant : (w : World) (m : Machine) (xs : List Call) → All Words xs → Invariant w m → Invariant w (last w m xs)
+pub last-invariant : (w : Parameters) (m : Machine) (xs : List Call) → All Words xs → Invariant w m → Invariant w (last w m xs)
 unfolding last
 last-invariant w m [] done i = i
 last-invariant w m (x ∷ xs) (more f fs) i = last-invariant w (step w m x) xs fs (step-invariant w m x f i)
 
 -- ---- steps, places and distances are at most the capacity of changes
 
-module _ (w : World) (m : Machine) (i : Invariant w m) where
+module _ (w : Parameters) (m : Machine) (i : Invariant w m) where
   pub steps-le : length (m .line .steps) ≤ w .changes
-  unfolding Paid
-  steps-le = omega (arith, costed-length (i .costed), i .paid)
+  unfolding CostsFit
+  steps-le = omega (arith, costed-length (i .costed), i .costs-fit)
 
   pub place-le : m .line .place ≤ w .changes
   place-le = omega (arith, i .places .place-in, steps-le)
@@ -109,7 +109,7 @@ module _ (w : World) (m : Machine) (i : Invariant w m) where
   between-le j k = omega (arith, mark-place-le 0 j (omega arith), mark-place-le 0 k (omega arith))
 
 -- kind 51
-pub free-le : (w : World) (m : Machine) → free w m ≤ w .changes
+pub free-le : (w : Parameters) (m : Machine) → free w m ≤ w .changes
 unfolding free
 free-le w m = omega arith
 

@@ -1,43 +1,21 @@
 -- Short laws of the machine: undo, redo and commit.
-use Prim.Native.Nat.{ℕ, zero, suc, _+_, _-_, _<_}
-use mathlib.Core.Path.{_≡_, refl, sym, ap, _∙_}
+use Prim.Native.Nat.{ℕ, suc, _-_}
+use mathlib.Core.Path.{_≡_, refl}
 use mathlib.Core.Logic.{_↔_}
-use mathlib.Core.Bool.{Bool, true, false, not, _&&_, _||_}
-use mathlib.Core.List.{List, [], _∷_}
+use mathlib.Core.Bool.{Bool, true, false, _||_}
 use native.Mathlib.Omega.{arith}
-use lib.Dec.{ltb}
 use lib.ListN.{length}
-use borrow.Author.Tests.{eqb-true, eq-eqb, ne-eqb, ltb-true, lt-ltb}
+use borrow.Author.Tests.{eqb-true, eq-eqb, ne-eqb}
 use Rattle.lists.specs.Choice.{_⇒_else_, _==_}
-use Rattle.lists.proofs.Bools.{tf, ft}
-use Rattle.graph.specs.Changes.{cost}
 use Rattle.history.specs.Machine.{Machine, moves, fresh, present}
-use Rattle.machine.specs.Calls.{Call, World, known, isChange, changeOf}
-use Rattle.machine.specs.Codes.{
-  numberOutside,
-  numberInUse,
-  vertexMissing,
-  edgeMissing,
-  typeOutside,
-  notReading,
-  thisDiffers,
-  sameTwice,
-  noRoom,
-  markOutside,
-  markStands,
-  markMissing,
-  atAnEnd,
-  sideOutside,
-  nothingToRange,
-  free,
-  refusal,
-}
+use Rattle.machine.specs.Calls.{Call, Parameters}
+use Rattle.machine.specs.Codes.{free, refusal}
 use Rattle.machine.specs.Machine.{Answer, sortOf, numberBy, nextBy, answer, step}
 
 abbrev accepts : ℕ → Answer
 accepts n = record { code = 0; number = n }
 
-module _ (w : World) (m : Machine) (a b c d : ℕ) where
+module _ (w : Parameters) (m : Machine) (a b c d : ℕ) where
   abbrev undo : Call
   undo = record { kind = 19; a = a; b = b; c = c; d = d }
 

@@ -2,7 +2,7 @@ pub mod Sorts
 pub mod Stands
 pub mod MarkLaws
 pub mod CodeRows
-pub mod Paid
+pub mod CostsFit
 pub mod Cases
 pub mod Whole
 pub mod Allowed

@@ -12,27 +12,27 @@ use Rattle.types.specs.Rows.{rowFits, goodRows}
 use Rattle.image.specs.Image.{load, loadable}
 use Rattle.image.proofs.Loads.{loaded}
 use Rattle.image.proofs.WordSize.{InRange}
-use Rattle.machine.specs.Calls.{World, boundsIn}
-use Rattle.machine.specs.Run.{Lent, worldOf, Limits, imageRoom, listRefusal}
+use Rattle.machine.specs.Calls.{Parameters, boundsIn}
+use Rattle.machine.specs.Run.{Lent, parametersOf, Limits, imageRoom, listRefusal}
 use Rattle.machine.proofs.Allowed.{in-range}
 use Rattle.machine.proofs.CodeRows.{chain-zero}
 use Rattle.machine.proofs.Graphs.{Formed}
 
-pub limits-in : (w : World) → Limits w → InRange (boundsIn w)
+pub limits-in : (w : Parameters) → Limits w → InRange (boundsIn w)
 limits-in w k = record { vertices = k .few-vertices; edges = k .few-edges; types = k .few-types }
 
 pub record Passed (l : Lent) : Type 0 where
   pub calls-whole : length (l .calls) % 5 ≡ 0
   pub answers-room : 2 * (length (l .calls) / 5) ≤ length (l .answers)
-  pub limits : Limits (worldOf l)
+  pub limits : Limits (parametersOf l)
   pub rows-good : goodRows (l .rows) ≡ true
-  pub start-loads : loadable (boundsIn (worldOf l)) (l .start) ≡ true
-  pub end-room : imageRoom (worldOf l) ≤ length (l .end)
+  pub start-loads : loadable (boundsIn (parametersOf l)) (l .start) ≡ true
+  pub end-room : imageRoom (parametersOf l) ≤ length (l .end)
 
 pub passed : (l : Lent) → listRefusal l ≡ 0 → Passed l
 unfolding listRefusal goodRows
 passed l e =
-    let w = worldOf l in
+    let w = parametersOf l in
     let r1 = chain-zero (not (length (l .calls) % 5 == 0)) 100 _ (eq-eqb _ 0 e) in
     let r2 = chain-zero (ltb (length (l .answers)) (2 * (length (l .calls) / 5))) 101 _ (r1 .1) in
     let r3 = chain-zero (not (within 1 1000 (w .vertices) && within 1 4000 (w .edges) && within 1 20000 (w .changes))) 102 _ (r2 .1) in
@@ -64,5 +64,5 @@ passed l e =
       end-room = ltb-false _ _ (r6 .0);
     }
 
-pub start-formed : (l : Lent) → listRefusal l ≡ 0 → Formed (worldOf l) (load (l .start))
-start-formed l e = loaded (boundsIn (worldOf l)) (l .start) (passed l e .start-loads) .formed
+pub start-formed : (l : Lent) → listRefusal l ≡ 0 → Formed (parametersOf l) (load (l .start))
+start-formed l e = loaded (boundsIn (parametersOf l)) (l .start) (passed l e .start-loads) .formed

@@ -1,12 +1,11 @@
 -- The code given is that of the lowest row that applies; 10 is given for want of room.
 use Prim.Native.Nat.{ℕ, suc, _≤_, _<_}
-use mathlib.Core.Path.{_≡_, refl, sym, ap, _∙_}
+use mathlib.Core.Path.{_≡_, refl}
 use mathlib.Core.Logic.{_↔_}
 use mathlib.Core.Bool.{Bool, true, false, _&&_}
 use mathlib.Core.List.{List, [], _∷_, map}
 use native.Mathlib.Omega.{arith}
 use lib.Dec.{leb, ltb}
-use lib.ListN.{length}
 use borrow.Author.Tests.{leb-true, ltb-true, lt-ltb}
 use Rattle.lists.specs.Choice.{_⇒_else_}
 use Rattle.lists.specs.Lists.{All, done, more, upto}
@@ -14,12 +13,12 @@ use Rattle.lists.proofs.Bools.{ft}
 use Rattle.lists.proofs.Sums.{all-bool}
 use Rattle.graph.specs.Changes.{cost}
 use Rattle.history.specs.Machine.{Machine, present}
-use Rattle.machine.specs.Calls.{Call, World, isChange, changeOf}
+use Rattle.machine.specs.Calls.{Call, Parameters, isChange, changeOf}
 use Rattle.machine.specs.Codes.{free, noRoom, Row, lowest, codeTable, refusal, Lowest, found, later, NoneApplies, none, passed}
 use Rattle.machine.specs.Run.{Lent, listTable, listRefusal}
 
 -- the codes of the tables, in their order
-pub codes : (w : World) (m : Machine) (x : Call) → map (λ (r : Row). r .code) (codeTable w m x) ≡ map suc (upto 16)
+pub codes : (w : Parameters) (m : Machine) (x : Call) → map (λ (r : Row). r .code) (codeTable w m x) ≡ map suc (upto 16)
 unfolding codeTable
 codes w m x = refl
 
@@ -59,7 +58,7 @@ none-from (passed f h) = rw f (none-from h)
 
 -- ---- the table of a call
 
-module _ (w : World) (m : Machine) (x : Call) where
+module _ (w : Parameters) (m : Machine) (x : Call) where
   coded : Coded (codeTable w m x)
   unfolding codeTable
   coded = all-bool (λ (r : Row). leb 1 (r .code)) (λ r e. leb-true 1 (r .code) e) (codeTable w m x) refl

@@ -1,40 +1,31 @@
 -- Accepted and refused calls, and which kinds each sort has.
-use Prim.Native.Nat.{ℕ, zero, suc, _≤_, _<_}
-use mathlib.Core.Path.{_≡_, refl, sym, ap, _∙_, subst}
-use mathlib.Core.Logic.{_↔_, _⊎_, inl, inr}
-use mathlib.Core.Bool.{Bool, true, false, _&&_, _||_}
-use mathlib.Core.List.{List, [], _∷_, _++_}
-use lib.Seq.{length-take-le}
-use native.Mathlib.Omega.{arith}
-use lib.Dec.{ltb}
-use lib.ListN.{length, take, length-append}
-use borrow.Author.Tests.{ltb-true, ltb-false, eqb-true, eqb-false}
-use Rattle.lists.specs.Choice.{_⇒_else_, _==_, within}
-use Rattle.lists.specs.Lists.{any}
-use Rattle.lists.proofs.Bools.{tf, ft, and-true}
+use Prim.Native.Nat.{ℕ}
+use mathlib.Core.Path.{_≡_, refl, sym, _∙_}
+use mathlib.Core.Bool.{Bool, true, false}
+use borrow.Author.Tests.{eqb-true}
+use Rattle.lists.specs.Choice.{_⇒_else_, _==_}
 use Rattle.graph.specs.Graph.{Graph}
-use Rattle.history.specs.Machine.{Step, Machine, Standing, gone, at, cut, placeOr, graphAt, distance, fresh, present}
-use Rattle.machine.specs.Calls.{Call, World, isChange}
+use Rattle.history.specs.Machine.{Machine, present}
+use Rattle.machine.specs.Calls.{Call, Parameters, isChange}
 use Rattle.machine.specs.Codes.{refusal}
-use Rattle.machine.specs.Machine.{Answer, Sort, changes, sets, drops, undoes, redoes, goes, commits, asks, sortOf, answer, step, last, nextBy, numberBy}
-use Rattle.machine.specs.Marks.{Event, eventOf, events, setsBy, setsMark, endsBy, endsMark, Kept, set-here, set-later, goTo, MarkSentence}
+use Rattle.machine.specs.Machine.{Sort, changes, sets, drops, undoes, redoes, goes, commits, asks, sortOf, answer, step, nextBy}
 
 -- the code answered is 0 exactly where nothing refuses the call
-pub code-is : (w : World) (m : Machine) (x : Call) (t : Bool) → (refusal w m x == 0) ≡ t → (answer w m x .code == 0) ≡ t
+pub code-is : (w : Parameters) (m : Machine) (x : Call) (t : Bool) → (refusal w m x == 0) ≡ t → (answer w m x .code == 0) ≡ t
 unfolding answer
 code-is w m x true f = rw f
 code-is w m x false f = rw (f, f)
 
-pub accepted-step : (w : World) (m : Machine) (x : Call) → (refusal w m x == 0) ≡ true → step w m x ≡ nextBy (sortOf (present m) x) m x
+pub accepted-step : (w : Parameters) (m : Machine) (x : Call) → (refusal w m x == 0) ≡ true → step w m x ≡ nextBy (sortOf (present m) x) m x
 unfolding step
 accepted-step w m x f = rw f
 
-pub refused-step : (w : World) (m : Machine) (x : Call) → (refusal w m x == 0) ≡ false → step w m x ≡ m
+pub refused-step : (w : Parameters) (m : Machine) (x : Call) → (refusal w m x == 0) ≡ false → step w m x ≡ m
 unfolding step
 refused-step w m x f = rw f
 
 -- an accepted call was not refused
-pub not-refused : (w : World) (m : Machine) (x : Call) → (answer w m x .code == 0) ≡ true → (refusal w m x == 0) ≡ true
+pub not-refused : (w : Parameters) (m : Machine) (x : Call) → (answer w m x .code == 0) ≡ true → (refusal w m x == 0) ≡ true
 not-refused w m x e = go (refusal w m x == 0) refl
   where
     go : (t : Bool) → (refusal w m x == 0) ≡ t → t ≡ true

@@ -1,24 +1,21 @@
 -- A mark stands exactly where it was set and kept since.
-use Prim.Native.Nat.{ℕ, zero, suc, _≤_, _<_}
-use mathlib.Core.Path.{_≡_, refl, sym, ap, _∙_, subst}
-use mathlib.Core.Logic.{_↔_, _⊎_, inl, inr}
-use mathlib.Core.Bool.{Bool, true, false, _&&_, _||_}
-use mathlib.Core.List.{List, [], _∷_, _++_}
-use lib.Seq.{length-take-le}
+use Prim.Native.Nat.{ℕ}
+use mathlib.Core.Path.{_≡_, refl, sym, ap, _∙_}
+use mathlib.Core.Logic.{_⊎_, inl, inr}
+use mathlib.Core.Bool.{Bool, true, false, _||_}
+use mathlib.Core.List.{List, [], _∷_}
 use native.Mathlib.Omega.{arith}
 use lib.Dec.{ltb}
-use lib.ListN.{length, take, length-append}
-use borrow.Author.Tests.{ltb-true, ltb-false, eqb-true, eqb-false}
-use Rattle.lists.specs.Choice.{_⇒_else_, _==_, within}
+use Rattle.lists.specs.Choice.{_⇒_else_, _==_}
 use Rattle.lists.specs.Lists.{any}
-use Rattle.lists.proofs.Bools.{tf, ft, and-true}
+use Rattle.lists.proofs.Bools.{tf, ft}
 use Rattle.graph.specs.Graph.{Graph}
-use Rattle.history.specs.Machine.{Step, Machine, Standing, gone, at, cut, placeOr, graphAt, distance, fresh, present}
-use Rattle.machine.specs.Calls.{Call, World, isChange}
+use Rattle.history.specs.Machine.{Machine, Standing, gone, at, cut, present}
+use Rattle.machine.specs.Calls.{Call, Parameters}
 use Rattle.machine.specs.Codes.{refusal}
-use Rattle.machine.specs.Machine.{Answer, Sort, changes, sets, drops, undoes, redoes, goes, commits, asks, sortOf, answer, step, last, nextBy, numberBy}
-use Rattle.machine.specs.Marks.{Event, eventOf, events, setsBy, setsMark, endsBy, endsMark, Kept, set-here, set-later, goTo, MarkSentence}
-use Rattle.machine.proofs.Sorts.{code-is, accepted-step, refused-step, not-refused, Kind, kind-of, ofKind, call-is}
+use Rattle.machine.specs.Machine.{Sort, changes, sets, drops, undoes, redoes, goes, commits, asks, sortOf, step, last, nextBy}
+use Rattle.machine.specs.Marks.{eventOf, events, setsBy, setsMark, endsBy, endsMark, Kept, set-here, set-later}
+use Rattle.machine.proofs.Sorts.{code-is, accepted-step, refused-step}
 
 -- mark k stands at q after a call of sort s at place p: the call set it there, or it stood there before and the call did not end it
 After : Sort → Machine → Call → ℕ → ℕ → Type 0
@@ -85,11 +82,11 @@ next-from asks m x k q (inl h) = ft (h .0)
 next-from asks m x k q (inr h) = h .0
 
 -- the same after one call, accepted or refused
-AfterCall : World → Machine → Call → ℕ → ℕ → Type 0
+AfterCall : Parameters → Machine → Call → ℕ → ℕ → Type 0
 AfterCall w m x k q =
     ((setsMark k (eventOf w m x) ≡ true) × (m .line .place ≡ q)) ⊎ ((m .marks k ≡ at q) × (endsMark k q (eventOf w m x) ≡ false))
 
-step-to : (w : World) (m : Machine) (x : Call) (k q : ℕ) → step w m x .marks k ≡ at q → AfterCall w m x k q
+step-to : (w : Parameters) (m : Machine) (x : Call) (k q : ℕ) → step w m x .marks k ≡ at q → AfterCall w m x k q
 unfolding AfterCall After
 step-to w m x k q e = go (refusal w m x == 0) refl
   where
@@ -101,7 +98,7 @@ refused-from : {P Q : Type 0} → ((false ≡ true) × P) ⊎ (Q × (false ≡ f
 refused-from (inl h) = ft (h .0)
 refused-from (inr h) = h .0
 
-step-from : (w : World) (m : Machine) (x : Call) (k q : ℕ) → AfterCall w m x k q → step w m x .marks k ≡ at q
+step-from : (w : Parameters) (m : Machine) (x : Call) (k q : ℕ) → AfterCall w m x k q → step w m x .marks k ≡ at q
 unfolding AfterCall After
 step-from w m x k q e = go (refusal w m x == 0) refl
   where
@@ -112,8 +109,8 @@ step-from w m x k q e = go (refusal w m x == 0) refl
 -- ---- the first sentence, from any machine
 
 -- set among the events and kept, or standing before them and not ended
-unfoldable pub Stood : World → Machine → List Call → ℕ → ℕ → Type 0
-Stood w m xs k q =
+unfoldable pub KeptOrStanding : Parameters → Machine → List Call → ℕ → ℕ → Type 0
+KeptOrStanding w m xs k q =
     ((h : Graph) × Kept k q h (events w m xs)) ⊎ ((m .marks k ≡ at q) × (any (endsMark k q) (events w m xs) ≡ false))
 
 no-more : {a b : Bool} → a ≡ false → b ≡ false → (a || b) ≡ false
@@ -127,20 +124,20 @@ pub no-tail : (a b : Bool) → (a || b) ≡ false → b ≡ false
 no-tail true b e = tf e
 no-tail false b e = e
 
-pub last-to : (w : World) (m : Machine) (xs : List Call) (k q : ℕ) → last w m xs .marks k ≡ at q → Stood w m xs k q
-unfolding last events Stood AfterCall
+pub last-to : (w : Parameters) (m : Machine) (xs : List Call) (k q : ℕ) → last w m xs .marks k ≡ at q → KeptOrStanding w m xs k q
+unfolding last events KeptOrStanding AfterCall
 last-to w m [] k q e = inr (e, refl)
 last-to w m (x ∷ xs) k q e = go (last-to w (step w m x) xs k q e)
   where
-    one : any (endsMark k q) (events w (step w m x) xs) ≡ false → AfterCall w m x k q → Stood w m (x ∷ xs) k q
+    one : any (endsMark k q) (events w (step w m x) xs) ≡ false → AfterCall w m x k q → KeptOrStanding w m (x ∷ xs) k q
     one nz (inl h) = inl (present m, set-here (h .0) (h .1) refl nz)
     one nz (inr h) = inr (h .0, no-more (h .1) nz)
 
-    go : Stood w (step w m x) xs k q → Stood w m (x ∷ xs) k q
+    go : KeptOrStanding w (step w m x) xs k q → KeptOrStanding w m (x ∷ xs) k q
     go (inl h) = inl (h .0, set-later (h .1))
     go (inr h) = one (h .1) (step-to w m x k q (h .0))
 
-stay-from : (w : World) (m : Machine) (xs : List Call) (k q : ℕ) → m .marks k ≡ at q → any (endsMark k q) (events w m xs) ≡ false →
+stay-from : (w : Parameters) (m : Machine) (xs : List Call) (k q : ℕ) → m .marks k ≡ at q → any (endsMark k q) (events w m xs) ≡ false →
     last w m xs .marks k ≡ at q
 unfolding last events AfterCall
 stay-from w m [] k q e nz = e
@@ -149,7 +146,7 @@ stay-from w m (x ∷ xs) k q e nz =
     (step-from w m x k q (inr (e, no-head (endsMark k q (eventOf w m x)) _ nz)))
     (no-tail (endsMark k q (eventOf w m x)) _ nz)
 
-pub kept-from : (w : World) (m : Machine) (xs : List Call) (k q : ℕ) (h : Graph) → Kept k q h (events w m xs) → last w m xs .marks k ≡ at q
+pub kept-from : (w : Parameters) (m : Machine) (xs : List Call) (k q : ℕ) (h : Graph) → Kept k q h (events w m xs) → last w m xs .marks k ≡ at q
 unfolding last events AfterCall
 kept-from w m (x ∷ xs) k q h (set-here s p c nz) = stay-from w (step w m x) xs k q (step-from w m x k q (inl (s, p))) nz
 kept-from w m (x ∷ xs) k q h (set-later r) = kept-from w (step w m x) xs k q h r

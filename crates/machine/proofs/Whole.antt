@@ -1,33 +1,31 @@
 -- Every list that is not refused meets demand 3.
-use Prim.Native.Nat.{ℕ, zero, suc, _+_, _*_, _/_, _≤_}
-use mathlib.Core.Path.{_≡_, refl, sym, ap, _∙_}
-use mathlib.Core.Bool.{Bool, true, false}
+use Prim.Native.Nat.{ℕ, zero, suc, _*_, _/_, _≤_}
+use mathlib.Core.Path.{_≡_, refl, ap, _∙_}
 use mathlib.Core.List.{List, [], _∷_, _++_, map}
 use native.Mathlib.Omega.{arith}
 use lib.ListN.{length, length-append, length-drop}
-use Rattle.lists.specs.Choice.{_⇒_else_, _==_}
 use Rattle.lists.specs.Lists.{All, over}
 use Rattle.history.specs.Machine.{Machine, present}
 use Rattle.image.specs.Image.{save, load}
 use Rattle.image.proofs.WordSize.{Word}
-use Rattle.machine.specs.Calls.{Call, World, callsOf}
+use Rattle.machine.specs.Calls.{Call, Parameters, callsOf}
 use Rattle.machine.specs.Machine.{Answer, answer, answers, step, last}
-use Rattle.machine.specs.Marks.{Event, events, MarkSentence}
-use Rattle.machine.specs.Run.{Lent, Ran, worldOf, listRefusal, answerWords, accepted, run}
+use Rattle.machine.specs.Marks.{Event, events}
+use Rattle.machine.specs.Run.{Lent, RunResult, parametersOf, listRefusal, answerWords, accepted, run}
 use Rattle.machine.specs.Demand.{begins, after, Demand3}
 use Rattle.machine.proofs.MarkLaws.{mark-sentence}
 use Rattle.machine.proofs.ListRows.{passed}
 use Rattle.machine.proofs.Ends.{run-end-fits}
 
 -- the answer to each call of a list is the one on what the calls before it left
-pub answered : (w : World) (m : Machine) (xs ys : List Call) (x : Call) →
+pub answered : (w : Parameters) (m : Machine) (xs ys : List Call) (x : Call) →
     answers w m (xs ++ (x ∷ ys)) ≡ answers w m xs ++ (answer w (last w m xs) x ∷ answers w (step w (last w m xs) x) ys)
 unfolding answers last
 answered w m [] ys x = refl
 answered w m (y ∷ xs) ys x = ap (λ (r : List Answer). answer w m y ∷ r) (answered w (step w m y) xs ys x)
 
 -- the codes of the events are those answered
-pub codes-answered : (w : World) (m : Machine) (xs : List Call) →
+pub codes-answered : (w : Parameters) (m : Machine) (xs : List Call) →
     map (λ (e : Event). e .code) (events w m xs) ≡ map (λ (r : Answer). r .code) (answers w m xs)
 unfolding answers events
 codes-answered w m [] = refl
@@ -40,14 +38,14 @@ runs l e = rw e
 pub demand-3 : (l : Lent) → listRefusal l ≡ 0 → Demand3 l (run l)
 unfolding accepted
 demand-3 l e = record {
-  code = ap (λ (r : Ran). r .code) (runs l e);
-  done = ap (λ (r : Ran). r .done) (runs l e);
-  answered = ap (λ (r : Ran). r .answers) (runs l e);
-  saved = ap (λ (r : Ran). r .end) (runs l e);
-  words = ap (λ (r : Ran). r .words) (runs l e);
-  each-call = λ xs ys x c. rw (← c) (answered (worldOf l) (begins l) xs ys x);
-  told = λ xs. codes-answered (worldOf l) (begins l) xs;
-  every-point = λ xs ys c. mark-sentence (worldOf l) (load (l .start)) xs;
+  code = ap (λ (r : RunResult). r .code) (runs l e);
+  done = ap (λ (r : RunResult). r .done) (runs l e);
+  answered = ap (λ (r : RunResult). r .answers) (runs l e);
+  saved = ap (λ (r : RunResult). r .end) (runs l e);
+  words = ap (λ (r : RunResult). r .words) (runs l e);
+  each-call = λ xs ys x c. rw (← c) (answered (parametersOf l) (begins l) xs ys x);
+  event-codes = λ xs. codes-answered (parametersOf l) (begins l) xs;
+  every-point = λ xs ys c. mark-sentence (parametersOf l) (load (l .start)) xs;
 }
 
 -- ---- the slices keep their lengths
@@ -70,7 +68,7 @@ done-is l e =
     let p = passed l e .calls-whole in
     demand-3 l e .done ∙ calls-length (length (l .calls) / 5) (l .calls) (omega arith)
 
-answers-length : (w : World) (m : Machine) (xs : List Call) → length (answerWords (answers w m xs)) ≡ 2 * length xs
+answers-length : (w : Parameters) (m : Machine) (xs : List Call) → length (answerWords (answers w m xs)) ≡ 2 * length xs
 unfolding answers
 answers-length w m [] = refl
 answers-length w m (x ∷ xs) = omega (arith, answers-length w (step w m x) xs)
@@ -78,10 +76,10 @@ answers-length w m (x ∷ xs) = omega (arith, answers-length w (step w m x) xs)
 pub answers-keep : (l : Lent) → listRefusal l ≡ 0 → length (run l .answers) ≡ length (l .answers)
 answers-keep l e =
     ap length (demand-3 l e .answered)
-    ∙ over-length (answerWords (answers (worldOf l) (begins l) (callsOf (l .calls)))) (l .answers)
+    ∙ over-length (answerWords (answers (parametersOf l) (begins l) (callsOf (l .calls)))) (l .answers)
     (omega (
       arith,
-      answers-length (worldOf l) (begins l) (callsOf (l .calls)),
+      answers-length (parametersOf l) (begins l) (callsOf (l .calls)),
       passed l e .answers-room,
       done-is l e,
       demand-3 l e .done,

@@ -1,6 +1,6 @@
 -- A call, what it names, and which change it is.
 use Prim.Native.Nat.{ℕ}
-use mathlib.Core.Bool.{Bool, true, false, _&&_, _||_}
+use mathlib.Core.Bool.{Bool, _||_}
 use mathlib.Core.List.{List, [], _∷_}
 use lib.ListN.{length}
 use Rattle.lists.specs.Choice.{_⇒_else_, _==_, within}
@@ -36,13 +36,13 @@ pub record Call : Type 0 where
   pub d : ℕ
 
 -- "It is fed the start chart, the type rows, the capacities and the calls' words": what stays the same over a list
-pub record World : Type 0 where
+pub record Parameters : Type 0 where
   pub rows : List ℕ
   pub vertices : ℕ
   pub edges : ℕ
   pub changes : ℕ
 
-abbrev pub boundsIn : World → Bounds
+abbrev pub boundsIn : Parameters → Bounds
 boundsIn w = record { vertices = w .vertices; edges = w .edges; types = length (w .rows) }
 
 -- five words a call; a rest of fewer is none

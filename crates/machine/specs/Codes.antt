@@ -11,16 +11,16 @@ use Rattle.graph.specs.Graph.{Graph, hasVertex, hasEdge, this, isReading}
 use Rattle.graph.specs.Changes.{cost}
 use Rattle.history.specs.Machine.{Machine, stands, freeOf, present}
 use Rattle.pricing.specs.Prices.{nothingHeard}
-use Rattle.machine.specs.Calls.{Call, World, known, isChange, changeOf, verticesNamed, edgesNamed, typesNamed, marksNamed}
+use Rattle.machine.specs.Calls.{Call, Parameters, known, isChange, changeOf, verticesNamed, edgesNamed, typesNamed, marksNamed}
 
 -- "51 free changes"
-unfoldable pub free : World → Machine → ℕ
+unfoldable pub free : Parameters → Machine → ℕ
 free w m = freeOf (w .changes) (m .line)
 
 -- ---- when each code applies, read on the graph and the machine as the call begins
 
 -- 2 "create: number 0 or above capacity"
-abbrev pub numberOutside : World → Call → Bool
+abbrev pub numberOutside : Parameters → Call → Bool
 numberOutside w x = ((x .kind == 1) && not (within 1 (w .vertices) (x .a))) || ((x .kind == 3) && not (within 1 (w .edges) (x .a)))
 
 -- 3 "create: number in use"
@@ -36,7 +36,7 @@ abbrev pub edgeMissing : Graph → Call → Bool
 edgeMissing g x = any (λ e. not (hasEdge g e)) (edgesNamed x)
 
 -- 6 "a type or class named is n or above"
-abbrev pub typeOutside : World → Call → Bool
+abbrev pub typeOutside : Parameters → Call → Bool
 typeOutside w x = any (λ t. leb (length (w .rows)) t) (typesNamed x)
 
 -- 7 "not a reading"
@@ -52,7 +52,7 @@ abbrev pub sameTwice : Call → Bool
 sameTwice x = within 11 16 (x .kind) && (x .a == x .b)
 
 -- 10 "cost above free changes"
-unfoldable pub noRoom : World → Machine → Call → Bool
+unfoldable pub noRoom : Parameters → Machine → Call → Bool
 unfolding free changeOf
 noRoom w m x = isChange (x .kind) && ltb (free w m) (cost (changeOf x) (present m))
 
@@ -96,7 +96,7 @@ lowest (r ∷ rs) = r .applies ⇒ r .code else lowest rs
 abbrev pub row : ℕ → Bool → Row
 row k t = record { code = k; applies = t }
 
-unfoldable pub codeTable : World → Machine → Call → List Row
+unfoldable pub codeTable : Parameters → Machine → Call → List Row
 unfolding noRoom nothingToRange
 codeTable w m x =
     row 1 (not (known (x .kind))) ∷
@@ -117,7 +117,7 @@ codeTable w m x =
     row 16 (nothingToRange (present m) x) ∷
     []
 
-unfoldable pub refusal : World → Machine → Call → ℕ
+unfoldable pub refusal : Parameters → Machine → Call → ℕ
 unfolding codeTable
 refusal w m x = lowest (codeTable w m x)
 

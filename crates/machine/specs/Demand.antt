@@ -1,16 +1,14 @@
 -- Demand 3 as one claim about a whole list that is not refused.
-use Prim.Native.Nat.{ℕ}
 use mathlib.Core.Path.{_≡_}
-use mathlib.Core.List.{List, [], _∷_, _++_, map}
+use mathlib.Core.List.{List, _∷_, _++_, map}
 use lib.ListN.{length}
 use Rattle.lists.specs.Lists.{over}
-use Rattle.graph.specs.Graph.{Graph}
 use Rattle.image.specs.Image.{save, load}
 use Rattle.history.specs.Machine.{Machine, fresh, present}
-use Rattle.machine.specs.Calls.{Call, World, callsOf}
+use Rattle.machine.specs.Calls.{Call, callsOf}
 use Rattle.machine.specs.Machine.{Answer, answer, answers, step, last}
 use Rattle.machine.specs.Marks.{Event, events, MarkSentence}
-use Rattle.machine.specs.Run.{Lent, Ran, worldOf, answerWords}
+use Rattle.machine.specs.Run.{Lent, RunResult, parametersOf, answerWords}
 
 -- the plain machine as the list begins: "The list starts from a fresh store"
 abbrev pub begins : Lent → Machine
@@ -18,22 +16,22 @@ begins l = fresh (load (l .start))
 
 -- the machine after some of the calls
 abbrev pub after : Lent → List Call → Machine
-after l xs = last (worldOf l) (begins l) xs
+after l xs = last (parametersOf l) (begins l) xs
 
 -- what the result r of the list l has to be
-pub record Demand3 (l : Lent) (r : Ran) : Type 0 where
+pub record Demand3 (l : Lent) (r : RunResult) : Type 0 where
   -- "An accepted list has code 0 and all its calls done, refused ones counted"
   pub code : r .code ≡ 0
   pub done : r .done ≡ length (callsOf (l .calls))
   -- "Every answer, code and number .. are those of document 01's plain machine"; "words beyond those .. stay"
-  pub answered : r .answers ≡ over (answerWords (answers (worldOf l) (begins l) (callsOf (l .calls)))) (l .answers)
+  pub answered : r .answers ≡ over (answerWords (answers (parametersOf l) (begins l) (callsOf (l .calls)))) (l .answers)
   -- "end chart begins with exactly the words that this Gp saves as, and the result tells how many"
   pub saved : r .end ≡ over (save (present (after l (callsOf (l .calls))))) (l .end)
   pub words : r .words ≡ length (save (present (after l (callsOf (l .calls)))))
   -- "each call finds what the one before left there"
   pub each-call : (xs ys : List Call) (x : Call) → xs ++ (x ∷ ys) ≡ callsOf (l .calls) →
-      answers (worldOf l) (begins l) (callsOf (l .calls)) ≡
-      answers (worldOf l) (begins l) xs ++ (answer (worldOf l) (after l xs) x ∷ answers (worldOf l) (step (worldOf l) (after l xs) x) ys)
+      answers (parametersOf l) (begins l) (callsOf (l .calls)) ≡
+      answers (parametersOf l) (begins l) xs ++ (answer (parametersOf l) (after l xs) x ∷ answers (parametersOf l) (step (parametersOf l) (after l xs) x) ys)
   -- "At every point of the list, its end included": the events are the calls with the codes answered
-  pub told : (xs : List Call) → map (λ (e : Event). e .code) (events (worldOf l) (begins l) xs) ≡ map (λ (a : Answer). a .code) (answers (worldOf l) (begins l) xs)
-  pub every-point : (xs ys : List Call) → xs ++ ys ≡ callsOf (l .calls) → MarkSentence (worldOf l) (load (l .start)) xs
+  pub event-codes : (xs : List Call) → map (λ (e : Event). e .code) (events (parametersOf l) (begins l) xs) ≡ map (λ (a : Answer). a .code) (answers (parametersOf l) (begins l) xs)
+  pub every-point : (xs ys : List Call) → xs ++ ys ≡ callsOf (l .calls) → MarkSentence (parametersOf l) (load (l .start)) xs

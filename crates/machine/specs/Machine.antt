@@ -1,6 +1,5 @@
 -- The plain machine: the answer to a call, the state after it, and a list of calls.
-use Prim.Native.Nat.{ℕ, zero, suc, _+_, _-_}
-use mathlib.Core.Bool.{Bool, true, false}
+use Prim.Native.Nat.{ℕ, suc, _-_}
 use mathlib.Core.List.{List, [], _∷_}
 use Rattle.lists.specs.Choice.{_⇒_else_, _==_, bit}
 use Rattle.lists.specs.Lists.{first, after, before}
@@ -9,14 +8,14 @@ use Rattle.graph.specs.Graph.{Graph, vertex, edge, vertexNumbers, edgeNumbers, 
 use Rattle.graph.specs.Changes.{changed, cost}
 use Rattle.graph.specs.Questions.{degree}
 use Rattle.history.specs.Machine as history
-use Rattle.history.specs.Machine.{Step, Machine, distance, placeOr, standing, fresh, present}
+use Rattle.history.specs.Machine.{Step, Machine, distance, placeOr, standing, present}
 use Rattle.pricing.specs.Prices.{twoWay, grade}
-use Rattle.machine.specs.Calls.{Call, World, isChange, changeOf}
+use Rattle.machine.specs.Calls.{Call, Parameters, isChange, changeOf}
 use Rattle.machine.specs.Codes.{free, refusal}
 
 -- ---- what an accepted question answers: "Questions (0 means none)"
 
-unfoldable pub asked : World → Machine → Call → ℕ
+unfoldable pub asked : Parameters → Machine → Call → ℕ
 unfolding free below degree twoWay grade
 asked w m x =
     (k == 30) ⇒ first (vertexNumbers g) else
@@ -77,7 +76,7 @@ sortOf g x =
 
 -- "The number answered: a change its cost; undo, redo 1; go to mark the number of steps moved; .. commit the old p; set and
 -- drop 0."
-unfoldable pub numberBy : Sort → World → Machine → Call → ℕ
+unfoldable pub numberBy : Sort → Parameters → Machine → Call → ℕ
 unfolding changeOf asked
 numberBy changes w m x = cost (changeOf x) (present m)
 numberBy sets w m x = 0
@@ -112,24 +111,24 @@ pub record Answer : Type 0 where
   pub number : ℕ
 
 -- "an accepted call has code 0"; "A refused call answers its code and 0."
-unfoldable pub answer : World → Machine → Call → Answer
+unfoldable pub answer : Parameters → Machine → Call → Answer
 unfolding refusal sortOf numberBy
 answer w m x =
     let r = refusal w m x in
     (r == 0) ⇒ record { code = 0; number = numberBy (sortOf (present m) x) w m x } else record { code = r; number = 0 }
 
 -- a refused call changes nothing
-unfoldable pub step : World → Machine → Call → Machine
+unfoldable pub step : Parameters → Machine → Call → Machine
 unfolding refusal sortOf nextBy
 step w m x = (refusal w m x == 0) ⇒ nextBy (sortOf (present m) x) m x else m
 
 -- "each call finds what the one before left there"
-unfoldable pub answers : World → Machine → List Call → List Answer
+unfoldable pub answers : Parameters → Machine → List Call → List Answer
 unfolding answer step
 answers w m [] = []
 answers w m (x ∷ xs) = answer w m x ∷ answers w (step w m x) xs
 
-unfoldable pub last : World → Machine → List Call → Machine
+unfoldable pub last : Parameters → Machine → List Call → Machine
 unfolding step
 last w m [] = m
 last w m (x ∷ xs) = last w (step w m x) xs

@@ -9,7 +9,7 @@ use Rattle.lists.specs.Choice.{_==_}
 use Rattle.lists.specs.Lists.{any}
 use Rattle.graph.specs.Graph.{Graph}
 use Rattle.history.specs.Machine.{Machine, at, distance, fresh, present}
-use Rattle.machine.specs.Calls.{Call, World}
+use Rattle.machine.specs.Calls.{Call, Parameters}
 use Rattle.machine.specs.Machine.{Sort, changes, sets, drops, undoes, redoes, goes, commits, asks, sortOf, answer, step, last}
 
 -- a call, its answer's code, and p and Gp as it begins
@@ -19,11 +19,11 @@ pub record Event : Type 0 where
   pub place : ℕ
   pub graph : Graph
 
-abbrev pub eventOf : World → Machine → Call → Event
+abbrev pub eventOf : Parameters → Machine → Call → Event
 eventOf w m x = record { call = x; code = answer w m x .code; place = m .line .place; graph = present m }
 
 -- what happened, in the order of the calls
-unfoldable pub events : World → Machine → List Call → List Event
+unfoldable pub events : Parameters → Machine → List Call → List Event
 events w m [] = []
 events w m (x ∷ xs) = eventOf w m x ∷ events w (step w m x) xs
 
@@ -66,7 +66,7 @@ abbrev pub goTo : ℕ → ℕ → ℕ → ℕ → Call
 goTo k b c d = record { kind = 21; a = k; b = b; c = c; d = d }
 
 -- at the point after the calls xs
-pub record MarkSentence (w : World) (g : Graph) (xs : List Call) : Type 0 where
+pub record MarkSentence (w : Parameters) (g : Graph) (xs : List Call) : Type 0 where
   -- a mark stands, with place q, exactly when a call set it there and it was kept since
   pub stands-iff : (k q : ℕ) → (last w (fresh g) xs .marks k ≡ at q) ↔ ((h : Graph) × Kept k q h (events w (fresh g) xs))
   -- going to it is accepted, gives the graph held when it was last set, and moves as many steps as lie between the places

@@ -1,6 +1,6 @@
 -- A run: what is lent, the refusals of a list, the result and the lent words after it.
 use Prim.Native.Nat.{ℕ, _+_, _*_, _/_, _%_, _≤_}
-use mathlib.Core.Bool.{Bool, true, false, not, _&&_}
+use mathlib.Core.Bool.{not, _&&_}
 use mathlib.Core.List.{List, [], _∷_}
 use lib.ListN.{length}
 use lib.Dec.{ltb}
@@ -9,7 +9,7 @@ use Rattle.lists.specs.Lists.{over}
 use Rattle.types.specs.Rows.{goodRows}
 use Rattle.image.specs.Image.{save, load, loadable}
 use Rattle.history.specs.Machine.{fresh, present}
-use Rattle.machine.specs.Calls.{Call, World, boundsIn, callsOf}
+use Rattle.machine.specs.Calls.{Parameters, boundsIn, callsOf}
 use Rattle.machine.specs.Codes.{Row, row, lowest}
 use Rattle.machine.specs.Machine.{Answer, answers, last}
 
@@ -25,7 +25,7 @@ pub record Lent : Type 0 where
   pub end : List ℕ
 
 -- "The result has a code, the calls done and the words of end chart", and the two lent slices that a run writes, as it ends
-pub record Ran : Type 0 where
+pub record RunResult : Type 0 where
   pub code : ℕ
   pub done : ℕ
   pub words : ℕ
@@ -33,11 +33,11 @@ pub record Ran : Type 0 where
   pub end : List ℕ
 
 -- "Capacities are lengths ÷ 8, 12, 12, rounded down"
-abbrev pub worldOf : Lent → World
-worldOf l = record { rows = l .rows; vertices = l .vertexTable / 8; edges = l .edgeTable / 12; changes = l .changeTable / 12 }
+abbrev pub parametersOf : Lent → Parameters
+parametersOf l = record { rows = l .rows; vertices = l .vertexTable / 8; edges = l .edgeTable / 12; changes = l .changeTable / 12 }
 
 -- "1 to 1,000 vertices, 1 to 4,000 edges, 1 to 20,000 changes", and 1 to 64 types
-pub record Limits (w : World) : Type 0 where
+pub record Limits (w : Parameters) : Type 0 where
   pub some-vertices : 1 ≤ w .vertices
   pub few-vertices : w .vertices ≤ 1000
   pub some-edges : 1 ≤ w .edges
@@ -48,7 +48,7 @@ pub record Limits (w : World) : Type 0 where
   pub few-types : length (w .rows) ≤ 64
 
 -- 106 asks for "6 + 3 × vertices + 8 × edges of capacity"
-abbrev pub imageRoom : World → ℕ
+abbrev pub imageRoom : Parameters → ℕ
 imageRoom w = 6 + 3 * w .vertices + 8 * w .edges
 
 -- 101 to 106
@@ -63,8 +63,8 @@ listTable l =
     row 106 (ltb (length (l .end)) (imageRoom w)) ∷
     []
   where
-    w : World
-    w = worldOf l
+    w : Parameters
+    w = parametersOf l
 
 -- the lowest that applies, 0 where none does
 unfoldable pub listRefusal : Lent → ℕ
@@ -78,24 +78,24 @@ answerWords (x ∷ xs) = x .code ∷ x .number ∷ answerWords xs
 
 -- "An accepted list has code 0 and all its calls done, refused ones counted"; "words beyond those, and beyond the end
 -- chart, stay"
-unfoldable pub accepted : Lent → Ran
+unfoldable pub accepted : Lent → RunResult
 unfolding load save answers last
 accepted l =
     let m = fresh (load (l .start)) in
     let calls = callsOf (l .calls) in
-    let image = save (present (last (worldOf l) m calls)) in
+    let image = save (present (last (parametersOf l) m calls)) in
     record {
       code = 0;
       done = length calls;
       words = length image;
-      answers = over (answerWords (answers (worldOf l) m calls)) (l .answers);
+      answers = over (answerWords (answers (parametersOf l) m calls)) (l .answers);
       end = over image (l .end);
     }
 
 -- "A refused list returns its code, 0, 0 and writes nowhere."
-unfoldable pub refused : ℕ → Lent → Ran
+unfoldable pub refused : ℕ → Lent → RunResult
 refused code l = record { code = code; done = 0; words = 0; answers = l .answers; end = l .end }
 
-unfoldable pub run : Lent → Ran
+unfoldable pub run : Lent → RunResult
 unfolding listRefusal accepted refused
 run l = let r = listRefusal l in (r == 0) ⇒ accepted l else refused r l

@@ -6,19 +6,19 @@ use Rattle.graph.specs.declared.Reading.the-variants.{Untested}
 use Rattle.graph.specs.Graph.{Vertex, Edge, Graph, empty, listOf}
 use Rattle.image.specs.Image.{save}
 use Rattle.history.specs.Machine.{Machine, stands, fresh, present}
-use Rattle.machine.specs.Calls.{Call, World}
+use Rattle.machine.specs.Calls.{Call, Parameters}
 use Rattle.machine.specs.Machine.{answers, last}
 use Rattle.machine.specs.Run.{answerWords}
 
 -- "capacities 10, 10, 20, one type row 0"
-abbrev pub world : World
-world = record { rows = 0 ∷ []; vertices = 10; edges = 10; changes = 20 }
+abbrev pub parameters : Parameters
+parameters = record { rows = 0 ∷ []; vertices = 10; edges = 10; changes = 20 }
 
 abbrev pub call : ℕ → ℕ → ℕ → ℕ → ℕ → Call
 call k a b c d = record { kind = k; a = a; b = b; c = c; d = d }
 
-abbrev pub bare : ℕ → List ℕ → Vertex
-bare n ws = record { number = n; type = 0; value = 0; incidences = ws }
+abbrev pub plainVertex : ℕ → List ℕ → Vertex
+plainVertex n ws = record { number = n; type = 0; value = 0; incidences = ws }
 
 abbrev pub untested : ℕ → ℕ → ℕ → Edge
 untested n a o = record { number = n; alpha = a; omega = o; type = 0; reading = Untested }
@@ -26,7 +26,7 @@ untested n a o = record { number = n; alpha = a; omega = o; type = 0; reading = 
 -- "vertices 1 to 4, edges 1 to 7 as 1→1, 1→2, 1→2, 2→1, 4→1, 4→2, 4→4, .. all untested, types and values 0"
 abbrev pub seven : Graph
 seven = record {
-  vseq = bare 1 (2 ∷ 3 ∷ 4 ∷ 6 ∷ 9 ∷ 11 ∷ []) ∷ bare 2 (5 ∷ 7 ∷ 8 ∷ 13 ∷ []) ∷ bare 3 [] ∷ bare 4 (10 ∷ 12 ∷ 14 ∷ 15 ∷ []) ∷ [];
+  vseq = plainVertex 1 (2 ∷ 3 ∷ 4 ∷ 6 ∷ 9 ∷ 11 ∷ []) ∷ plainVertex 2 (5 ∷ 7 ∷ 8 ∷ 13 ∷ []) ∷ plainVertex 3 [] ∷ plainVertex 4 (10 ∷ 12 ∷ 14 ∷ 15 ∷ []) ∷ [];
   eseq = untested 1 1 1 ∷ untested 2 1 2 ∷ untested 3 1 2 ∷ untested 4 2 1 ∷ untested 5 4 1 ∷ untested 6 4 2 ∷ untested 7 4 4 ∷ [];
 }
 
@@ -39,16 +39,16 @@ making =
 -- the list of v as the calls build it from the empty graph
 unfoldable pub builtList : ℕ → List ℕ
 unfolding last
-builtList v = listOf (present (last world (fresh empty) making)) v
+builtList v = listOf (present (last parameters (fresh empty) making)) v
 
 -- "On fresh Seven each time": the machine after the calls, and the words of their answers
 unfoldable pub then : List Call → Machine
 unfolding last
-then xs = last world (fresh seven) xs
+then xs = last parameters (fresh seven) xs
 
-unfoldable pub told : List Call → List ℕ
+unfoldable pub answersAfter : List Call → List ℕ
 unfolding answers
-told xs = answerWords (answers world (fresh seven) xs)
+answersAfter xs = answerWords (answers parameters (fresh seven) xs)
 
 abbrev pub listAfter : List Call → ℕ → List ℕ
 listAfter xs v = listOf (present (then xs)) v
@@ -90,22 +90,22 @@ row l f s = record { letter = l; found = f; said = s }
 
 -- "A to L"; an answer is a code and a number
 unfoldable pub twelve : List Case
-unfolding builtList then told save
+unfolding builtList then answersAfter save
 twelve =
     row A (builtList 1) (2 ∷ 3 ∷ 4 ∷ 6 ∷ 9 ∷ 11 ∷ []) ∷
     row B (builtList 2) (5 ∷ 7 ∷ 8 ∷ 13 ∷ []) ∷
     row C (builtList 4) (10 ∷ 12 ∷ 14 ∷ 15 ∷ []) ∷
-    row D (told (degree 3 0 ∷ [])) (0 ∷ 0 ∷ []) ∷
-    row E (told (degree 1 0 ∷ degree 1 1 ∷ degree 1 2 ∷ [])) (0 ∷ 6 ∷ 0 ∷ 3 ∷ 0 ∷ 3 ∷ []) ∷
-    row F (told (delete 1 ∷ [])) (0 ∷ 6 ∷ []) ∷
+    row D (answersAfter (degree 3 0 ∷ [])) (0 ∷ 0 ∷ []) ∷
+    row E (answersAfter (degree 1 0 ∷ degree 1 1 ∷ degree 1 2 ∷ [])) (0 ∷ 6 ∷ 0 ∷ 3 ∷ 0 ∷ 3 ∷ []) ∷
+    row F (answersAfter (delete 1 ∷ [])) (0 ∷ 6 ∷ []) ∷
     row F (listAfter (delete 1 ∷ []) 4) (12 ∷ 14 ∷ 15 ∷ []) ∷
     row G (listAfter (delete 1 ∷ undo ∷ []) 4) (10 ∷ 12 ∷ 14 ∷ 15 ∷ []) ∷
     row G (save (present (then (delete 1 ∷ undo ∷ [])))) (save seven) ∷
     row H (listAfter (call 15 3 2 0 0 ∷ []) 1) (3 ∷ 2 ∷ 4 ∷ 6 ∷ 9 ∷ 11 ∷ []) ∷
     row I (listAfter (call 10 2 2 0 0 ∷ []) 2) (7 ∷ 8 ∷ 13 ∷ 5 ∷ []) ∷
-    row J (told (mark 5 ∷ undo ∷ [])) (0 ∷ 0 ∷ 14 ∷ 0 ∷ []) ∷
+    row J (answersAfter (mark 5 ∷ undo ∷ [])) (0 ∷ 0 ∷ 14 ∷ 0 ∷ []) ∷
     row J (standsAfter (mark 5 ∷ undo ∷ []) 5) (1 ∷ []) ∷
-    row K (told (delete 3 ∷ mark 5 ∷ undo ∷ delete 4 ∷ [])) (0 ∷ 1 ∷ 0 ∷ 0 ∷ 0 ∷ 1 ∷ 0 ∷ 4 ∷ []) ∷
+    row K (answersAfter (delete 3 ∷ mark 5 ∷ undo ∷ delete 4 ∷ [])) (0 ∷ 1 ∷ 0 ∷ 0 ∷ 0 ∷ 1 ∷ 0 ∷ 4 ∷ []) ∷
     row K (standsAfter (delete 3 ∷ mark 5 ∷ undo ∷ delete 4 ∷ []) 5) (0 ∷ []) ∷
-    row L (told (mark 5 ∷ delete 3 ∷ undo ∷ redo ∷ goto 5 ∷ [])) (0 ∷ 0 ∷ 0 ∷ 1 ∷ 0 ∷ 1 ∷ 0 ∷ 1 ∷ 0 ∷ 1 ∷ []) ∷
+    row L (answersAfter (mark 5 ∷ delete 3 ∷ undo ∷ redo ∷ goto 5 ∷ [])) (0 ∷ 0 ∷ 0 ∷ 1 ∷ 0 ∷ 1 ∷ 0 ∷ 1 ∷ 0 ∷ 1 ∷ []) ∷
     []

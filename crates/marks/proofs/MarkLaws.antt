@@ -5,18 +5,17 @@ use mathlib.Core.Path.{_≡_, refl, sym, ap, subst, _∙_}
 use mathlib.Core.Logic.{_≢_}
 use mathlib.Core.List.{List}
 use native.Mathlib.Omega.{arith}
-use borrow.Author.Tests.{eq-eqb, ne-eqb, eqb-true, eqb-false, lt-ltb, le-ltb}
+use borrow.Author.Tests.{eq-eqb, ne-eqb, lt-ltb, le-ltb}
 use lib.Bits.{bitOr, bitXor}
-use lib.Dec.{ltb}
 use lib.Count.{ones}
 use lib.ListN.{length, getD, set, length-set}
 use lib.Seq.{getD-set-same, getD-set-other}
-use Rattle.lists.specs.Choice.{_⇒_else_, _==_, bit}
+use Rattle.lists.specs.Choice.{_==_, bit}
 use Rattle.lists.proofs.Bools.{tf, ft}
 use Rattle.lists.proofs.Picks.{Same, same, differ, same?}
 use Rattle.history.specs.Machine.{Standing, gone, at, noMarks, stands, placeOr, marked, cut, cutMarks, standing}
 use Rattle.marks.specs.Marked.{digits, inSet, Marked}
-use Rattle.marks.proofs.Digits.{digits-at, digits-agree, digits-more, ones-count, one-shl, or-bit, xor-bit}
+use Rattle.marks.proofs.Digits.{digits-at, digits-more, ones-count, one-shl, or-bit, xor-bit}
 
 -- ---- one mark is another
 

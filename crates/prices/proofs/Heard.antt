@@ -21,7 +21,7 @@ use Rattle.graph.specs.Changes.{VertexThere, EdgeThere}
 use Rattle.graph.proofs.Incidence.{out-half, this-out, pick-le}
 use Rattle.tables.specs.Tables.{State, ilane, endsAt, wthis, readingAt}
 use Rattle.tables.specs.Holds.{Holds}
-use Rattle.tables.proofs.Frames.{fair-i}
+use Rattle.tables.proofs.Frames.{valid-i}
 use Rattle.queries.proofs.Answers.{vertex-row, omega-is, reading-at}
 use Rattle.pricing.specs.Prices.{heardIn, heard}
 use Rattle.prices.specs.declared.Way.the-variants.{Nothing}
@@ -123,4 +123,4 @@ module _ (s : State) (g : Graph) (h : Holds s g) (a b : ℕ) where
 
   pub way-is : VertexThere g a → along (readingTo (s .et) b) Nothing (nodes ilane (s .et) (endsAt (s .vt) a)) ≡ wayOf (heard g a b)
   way-is c =
-      ap (along (readingTo (s .et) b) Nothing) (held-nodes ilane (s .et) (endsAt (s .vt) a) fair-i (listOf g a) (h .core .lists a (vertex-row s g h a c .0))) ∙ way-along
+      ap (along (readingTo (s .et) b) Nothing) (held-nodes ilane (s .et) (endsAt (s .vt) a) valid-i (listOf g a) (h .core .lists a (vertex-row s g h a c .0))) ∙ way-along

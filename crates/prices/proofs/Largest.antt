@@ -6,7 +6,7 @@ use native.Mathlib.Omega.{arith}
 use Rattle.lists.specs.Lists.{All, done, more, each}
 use Rattle.graph.specs.declared.Reading.{Reading}
 use Rattle.graph.specs.declared.Reading.the-variants as reading
-use Rattle.pricing.specs.Prices.{heardIn, largest}
+use Rattle.pricing.specs.Prices.{heardIn}
 use Rattle.prices.specs.declared.Way.{Way}
 use Rattle.prices.specs.declared.Way.the-variants.{Nothing, Heard}
 use Rattle.prices.specs.Ways.{wayOf, largerOf, withReading, along}

@@ -1,7 +1,7 @@
 -- The price list: range and grade of a pair.
 use Prim.Native.Nat.{ℕ, _/_, min, max}
 use mathlib.Core.Bool.{Bool, true, false, _&&_, _||_}
-use mathlib.Core.List.{List, [], _∷_, _++_}
+use mathlib.Core.List.{List, [], _∷_}
 use Rattle.lists.specs.Choice.{_⇒_else_, _==_}
 use Rattle.lists.specs.Lists.{each}
 use Rattle.graph.specs.declared.Reading.{Reading}

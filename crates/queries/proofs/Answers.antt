@@ -10,7 +10,7 @@ use Rattle.lists.specs.Keyed.{countBy, prev, lastBy}
 use Rattle.lists.proofs.Picks.{pick-yes, pick-no, same, differ, same?, is-yes, is-zero}
 use Rattle.ring.specs.declared.Lane.{Lane}
 use Rattle.ring.specs.declared.Ends.{Ends}
-use Rattle.ring.specs.Links.{Fair, Side, prv, nxt, word, linkOf, Held, HeldAt, nodes}
+use Rattle.ring.specs.Links.{ValidLane, Side, prv, nxt, word, linkOf, Held, HeldAt, nodes}
 use Rattle.ring.specs.Lists.{All}
 use Rattle.ring.proofs.ListLaws.{lastOr}
 use Rattle.ring.proofs.Model.{held-last, held-nodes}
@@ -28,7 +28,7 @@ use Rattle.queries.specs.Walks.{CanWalk}
 use Rattle.queries.proofs.ListWalks.{link-word}
 use Rattle.tables.specs.Capacities.{Sized}
 use Rattle.tables.proofs.Keys.{keys-count, keys-prev, keys-last}
-use Rattle.tables.proofs.Frames.{fair-v, fair-e, fair-i, row-v, row-e}
+use Rattle.tables.proofs.Frames.{valid-v, valid-e, valid-i, row-v, row-e}
 use Rattle.tables.proofs.Refines.{word-in}
 
 -- ---- a held list
@@ -37,7 +37,7 @@ last-or : (a : ℕ) (l : List ℕ) → lastOr a l ≡ lastBy wd a l
 last-or a [] = refl
 last-or a (x ∷ l) = last-or x l
 
-module _ (lane : Lane) (t : List ℕ) (e : Ends) (l : List ℕ) (fair : Fair lane) (h : Held lane t e l) where
+module _ (lane : Lane) (t : List ℕ) (e : Ends) (l : List ℕ) (valid : ValidLane lane) (h : Held lane t e l) where
   pub first-is : e .first ≡ first l
   unfolding linkOf
   first-is = next-first lane t e l h
@@ -47,19 +47,19 @@ module _ (lane : Lane) (t : List ℕ) (e : Ends) (l : List ℕ) (fair : Fair lan
 
   module _ (x : ℕ) (c : 1 ≤ countBy wd x l) where
     real : 0 ≢ x
-    real = is-zero 0 x (omega (arith, ordered lane t e l fair h x))
+    real = is-zero 0 x (omega (arith, ordered lane t e l valid h x))
 
     real′ : x ≡ 0 → ⊥
     real′ q = real (sym q)
 
     read : (s : Side) → linkOf s lane t e x ≡ getD t (word s lane x) 0
-    read s = link-word lane t e s x real′ (inside-is lane t e l fair h x c real′ .0)
+    read s = link-word lane t e s x real′ (inside-is lane t e l valid h x c real′ .0)
 
     pub before-is : getD t (word prv lane x) 0 ≡ prev wd 0 x l
-    before-is = sym (read prv) ∙ prev-is lane t e l fair h x c
+    before-is = sym (read prv) ∙ prev-is lane t e l valid h x c
 
     pub after-is : getD t (word nxt lane x) 0 ≡ after x l
-    after-is = sym (read nxt) ∙ next-is lane t e l fair h x c
+    after-is = sym (read nxt) ∙ next-is lane t e l valid h x c
 
     pub at-is : HeldAt lane t e x
     at-is = (l, h, has-is x l c)
@@ -69,16 +69,16 @@ module _ (lane : Lane) (t : List ℕ) (e : Ends) (l : List ℕ) (fair : Fair lan
 module _ (s : State) (g : Graph) (h : Holds s g) where
   -- questions 30, 32
   pub first-vertex : s .head .vfirst ≡ first (vertexNumbers g)
-  first-vertex = first-is vlane (s .vt) (vends (s .head)) (vertexNumbers g) fair-v (h .core .vseq)
+  first-vertex = first-is vlane (s .vt) (vends (s .head)) (vertexNumbers g) valid-v (h .core .vseq)
 
   pub first-edge : s .head .efirst ≡ first (edgeNumbers g)
-  first-edge = first-is elane (s .et) (eends (s .head)) (edgeNumbers g) fair-e (h .core .eseq)
+  first-edge = first-is elane (s .et) (eends (s .head)) (edgeNumbers g) valid-e (h .core .eseq)
 
   pub last-vertex : s .head .vlast ≡ lastBy vn 0 (g .vseq)
-  last-vertex = last-is vlane (s .vt) (vends (s .head)) (vertexNumbers g) fair-v (h .core .vseq) ∙ keys-last vn 0 (g .vseq)
+  last-vertex = last-is vlane (s .vt) (vends (s .head)) (vertexNumbers g) valid-v (h .core .vseq) ∙ keys-last vn 0 (g .vseq)
 
   pub last-edge : s .head .elast ≡ lastBy en 0 (g .eseq)
-  last-edge = last-is elane (s .et) (eends (s .head)) (edgeNumbers g) fair-e (h .core .eseq) ∙ keys-last en 0 (g .eseq)
+  last-edge = last-is elane (s .et) (eends (s .head)) (edgeNumbers g) valid-e (h .core .eseq) ∙ keys-last en 0 (g .eseq)
 
   module _ (v : ℕ) (c : VertexThere g v) where
     pub vertex-row : VIn (s .vt) v
@@ -92,10 +92,10 @@ module _ (s : State) (g : Graph) (h : Holds s g) where
     vertex-value = h .core .vrows v (vertex-row .0) .value
 
     pub first-word : vfirst (s .vt) v ≡ first (listOf g v)
-    first-word = first-is ilane (s .et) (endsAt (s .vt) v) (listOf g v) fair-i (h .core .lists v (vertex-row .0))
+    first-word = first-is ilane (s .et) (endsAt (s .vt) v) (listOf g v) valid-i (h .core .lists v (vertex-row .0))
 
     pub last-word : vlast (s .vt) v ≡ lastBy wd 0 (listOf g v)
-    last-word = last-is ilane (s .et) (endsAt (s .vt) v) (listOf g v) fair-i (h .core .lists v (vertex-row .0))
+    last-word = last-is ilane (s .et) (endsAt (s .vt) v) (listOf g v) valid-i (h .core .lists v (vertex-row .0))
 
     listed-v : 1 ≤ countBy wd v (vertexNumbers g)
     listed-v = omega (arith, keys-count vn v (g .vseq))
@@ -103,16 +103,16 @@ module _ (s : State) (g : Graph) (h : Holds s g) where
     pub vertex-prev : vprev (s .vt) v ≡ prev vn 0 v (g .vseq)
     vertex-prev =
         let q : vat 6 v ≡ word prv vlane v = omega (arith, vertex-row .0) in
-        ap (λ (i : ℕ). getD (s .vt) i 0) q ∙ before-is vlane (s .vt) (vends (s .head)) (vertexNumbers g) fair-v (h .core .vseq) v listed-v ∙ keys-prev vn 0 v (g .vseq)
+        ap (λ (i : ℕ). getD (s .vt) i 0) q ∙ before-is vlane (s .vt) (vends (s .head)) (vertexNumbers g) valid-v (h .core .vseq) v listed-v ∙ keys-prev vn 0 v (g .vseq)
 
     -- question 31
     pub vertex-next : vnext (s .vt) v ≡ after v (vertexNumbers g)
     vertex-next =
         let q : vat 7 v ≡ word nxt vlane v = omega (arith, vertex-row .0) in
-        ap (λ (i : ℕ). getD (s .vt) i 0) q ∙ after-is vlane (s .vt) (vends (s .head)) (vertexNumbers g) fair-v (h .core .vseq) v listed-v
+        ap (λ (i : ℕ). getD (s .vt) i 0) q ∙ after-is vlane (s .vt) (vends (s .head)) (vertexNumbers g) valid-v (h .core .vseq) v listed-v
 
     pub vertex-at : HeldAt vlane (s .vt) (vends (s .head)) v
-    vertex-at = at-is vlane (s .vt) (vends (s .head)) (vertexNumbers g) fair-v (h .core .vseq) v listed-v
+    vertex-at = at-is vlane (s .vt) (vends (s .head)) (vertexNumbers g) valid-v (h .core .vseq) v listed-v
 
   module _ (e : ℕ) (c : EdgeThere g e) where
     pub edge-row : EIn (s .et) e
@@ -144,16 +144,16 @@ module _ (s : State) (g : Graph) (h : Holds s g) where
     pub edge-prev : eprev (s .et) e ≡ prev en 0 e (g .eseq)
     edge-prev =
         let q : eat 10 e ≡ word prv elane e = omega (arith, edge-row .0) in
-        ap (λ (i : ℕ). getD (s .et) i 0) q ∙ before-is elane (s .et) (eends (s .head)) (edgeNumbers g) fair-e (h .core .eseq) e listed-e ∙ keys-prev en 0 e (g .eseq)
+        ap (λ (i : ℕ). getD (s .et) i 0) q ∙ before-is elane (s .et) (eends (s .head)) (edgeNumbers g) valid-e (h .core .eseq) e listed-e ∙ keys-prev en 0 e (g .eseq)
 
     -- question 33
     pub edge-next : enext (s .et) e ≡ after e (edgeNumbers g)
     edge-next =
         let q : eat 11 e ≡ word nxt elane e = omega (arith, edge-row .0) in
-        ap (λ (i : ℕ). getD (s .et) i 0) q ∙ after-is elane (s .et) (eends (s .head)) (edgeNumbers g) fair-e (h .core .eseq) e listed-e
+        ap (λ (i : ℕ). getD (s .et) i 0) q ∙ after-is elane (s .et) (eends (s .head)) (edgeNumbers g) valid-e (h .core .eseq) e listed-e
 
     pub edge-at : HeldAt elane (s .et) (eends (s .head)) e
-    edge-at = at-is elane (s .et) (eends (s .head)) (edgeNumbers g) fair-e (h .core .eseq) e listed-e
+    edge-at = at-is elane (s .et) (eends (s .head)) (edgeNumbers g) valid-e (h .core .eseq) e listed-e
 
   -- a word whose edge is there
   module _ (w : ℕ) (c : EdgeThere g (edgeOf w)) where
@@ -175,17 +175,17 @@ module _ (s : State) (g : Graph) (h : Holds s g) where
     word-prev =
         let q : wat 0 w ≡ word prv ilane w = omega (arith, word-row .0) in
         ap (λ (i : ℕ). getD (s .et) i 0) q
-        ∙ before-is ilane (s .et) (endsAt (s .vt) (this g w)) (listOf g (this g w)) fair-i (h .core .lists (this g w) (vertex-row (this g w) word-vertex .0)) w (omega (arith, word-listed))
+        ∙ before-is ilane (s .et) (endsAt (s .vt) (this g w)) (listOf g (this g w)) valid-i (h .core .lists (this g w) (vertex-row (this g w) word-vertex .0)) w (omega (arith, word-listed))
 
     -- question 35
     pub word-next : wnext (s .et) w ≡ after w (listOf g (this g w))
     word-next =
         let q : wat 1 w ≡ word nxt ilane w = omega (arith, word-row .0) in
         ap (λ (i : ℕ). getD (s .et) i 0) q
-        ∙ after-is ilane (s .et) (endsAt (s .vt) (this g w)) (listOf g (this g w)) fair-i (h .core .lists (this g w) (vertex-row (this g w) word-vertex .0)) w (omega (arith, word-listed))
+        ∙ after-is ilane (s .et) (endsAt (s .vt) (this g w)) (listOf g (this g w)) valid-i (h .core .lists (this g w) (vertex-row (this g w) word-vertex .0)) w (omega (arith, word-listed))
 
     pub word-at : HeldAt ilane (s .et) (endsAt (s .vt) (this g w)) w
-    word-at = at-is ilane (s .et) (endsAt (s .vt) (this g w)) (listOf g (this g w)) fair-i (h .core .lists (this g w) (vertex-row (this g w) word-vertex .0)) w (omega (arith, word-listed))
+    word-at = at-is ilane (s .et) (endsAt (s .vt) (this g w)) (listOf g (this g w)) valid-i (h .core .lists (this g w) (vertex-row (this g w) word-vertex .0)) w (omega (arith, word-listed))
 
     -- question 39: the other end is seen from the edge's other word
     pub word-that : bySide w (wthis (s .et) (w + 1)) (wthis (s .et) (w - 1)) ≡ that g w
@@ -207,18 +207,18 @@ module _ (s : State) (g : Graph) (h : Holds s g) where
 module _ (s : State) (g : Graph) (h : Holds s g) (a b : ℕ) where
   -- question 46
   pub vertex-before : before a b (nodes vlane (s .vt) (vends (s .head))) ≡ before a b (vertexNumbers g)
-  vertex-before = ap (before a b) (held-nodes vlane (s .vt) (vends (s .head)) fair-v (vertexNumbers g) (h .core .vseq))
+  vertex-before = ap (before a b) (held-nodes vlane (s .vt) (vends (s .head)) valid-v (vertexNumbers g) (h .core .vseq))
 
   -- question 47
   pub edge-before : before a b (nodes elane (s .et) (eends (s .head))) ≡ before a b (edgeNumbers g)
-  edge-before = ap (before a b) (held-nodes elane (s .et) (eends (s .head)) fair-e (edgeNumbers g) (h .core .eseq))
+  edge-before = ap (before a b) (held-nodes elane (s .et) (eends (s .head)) valid-e (edgeNumbers g) (h .core .eseq))
 
   -- question 48
   pub word-before : EdgeThere g (edgeOf a) → before a b (nodes ilane (s .et) (endsAt (s .vt) (wthis (s .et) a))) ≡ before a b (listOf g (this g a))
   word-before c =
       ap (λ (v : ℕ). before a b (nodes ilane (s .et) (endsAt (s .vt) v))) (word-this s g h a c)
       ∙ ap (before a b)
-      (held-nodes ilane (s .et) (endsAt (s .vt) (this g a)) fair-i (listOf g (this g a)) (h .core .lists (this g a) (vertex-row s g h (this g a) (word-vertex s g h a c) .0)))
+      (held-nodes ilane (s .et) (endsAt (s .vt) (this g a)) valid-i (listOf g (this g a)) (h .core .lists (this g a) (vertex-row s g h (this g a) (word-vertex s g h a c) .0)))
 
 -- ---- a walk along the list of v
 

@@ -21,7 +21,7 @@ use Rattle.tables.specs.Holds.{Holds}
 use Rattle.queries.proofs.Answers.{vertex-row}
 use Rattle.queries.proofs.DistinctSums.{share, distinct-sum}
 use Rattle.queries.specs.Walks.{countedAt, edgeCount}
-use Rattle.tables.proofs.Frames.{fair-i}
+use Rattle.tables.proofs.Frames.{valid-i}
 
 pub counted-le : (et : List ℕ) (w : ℕ) → countedAt et w ≤ 1
 counted-le et w = elim (same? (w % 2) 0) [
@@ -139,5 +139,5 @@ module _ (s : State) (g : Graph) (h : Holds s g) (v : ℕ) (c : VertexThere g v)
   pub edges-counted : edgeCount (s .vt) (s .et) v ≡ length (edgesAt g v)
   unfolding edgeCount
   edges-counted =
-      ap (λ (l : List ℕ). sumOf f l) (held-nodes ilane (s .et) (endsAt (s .vt) v) fair-i (listOf g v) (h .core .lists v (vertex-row s g h v c .0)))
+      ap (λ (l : List ℕ). sumOf f l) (held-nodes ilane (s .et) (endsAt (s .vt) v) valid-i (listOf g v) (h .core .lists v (vertex-row s g h v c .0)))
       ∙ distinct-sum f edgeOf (listOf g v) edge-share

@@ -21,7 +21,7 @@ use Rattle.graph.specs.Questions.{onSide, degree}
 use Rattle.tables.specs.Tables.{State, ilane, endsAt, EIn, etype}
 use Rattle.tables.specs.Holds.{Holds}
 use Rattle.tables.specs.Capacities.{Sized}
-use Rattle.tables.proofs.Frames.{fair-i}
+use Rattle.tables.proofs.Frames.{valid-i}
 use Rattle.queries.specs.Walks.{degreeAt}
 use Rattle.queries.proofs.ListWalks.{Walk}
 use Rattle.queries.proofs.Answers.{vertex-row, edge-type, listed-edge}
@@ -56,7 +56,7 @@ bit-both p q e f = rw (e, f) refl
 
 -- ---- the walk, whatever it counts: no more was added than words were passed
 
-pub record Pace (et : List ℕ) (e : Ends) (w n : ℕ) : Type 0 where
+pub record CountedWalk (et : List ℕ) (e : Ends) (w n : ℕ) : Type 0 where
   pub passed : ℕ
   pub walk : Walk (λ x. 1) (λ x. EIn et (x / 2)) ilane et e w passed (sumOf (λ x. 1) (nodes ilane et e))
   pub most : n ≤ passed
@@ -83,7 +83,7 @@ pub degree-is : (b : Bounds) (s : State) → Sized b s → (g : Graph) → Holds
 unfolding degreeAt degree
 degree-is b s z g h v t inClass c =
     ap (λ (l : List ℕ). length (keep (λ w. inClass (etype (s .et) (w / 2)) && onSide c w) l))
-    (held-nodes ilane (s .et) (endsAt (s .vt) v) fair-i (listOf g v) (h .core .lists v (vertex-row s g h v t .0)))
+    (held-nodes ilane (s .et) (endsAt (s .vt) v) valid-i (listOf g v) (h .core .lists v (vertex-row s g h v t .0)))
     ∙ ap length
     (keep-agree (λ w. inClass (etype (s .et) (w / 2)) && onSide c w) (λ w. inClass (edge g (edgeOf w) .type) && onSide c w) (listOf g v)
     (λ w i. ap (λ (k : ℕ). inClass k && onSide c w) (edge-type s g h (edgeOf w) (listed-edge b s z g h v t w i))))

@@ -10,8 +10,8 @@ use Rattle.lists.specs.Lists.{sumOf, before}
 use Rattle.ring.specs.declared.Lane.{Lane}
 use Rattle.ring.specs.declared.Ends.{Ends}
 use Rattle.ring.specs.Lists.{Fresh, All}
-use Rattle.ring.specs.Links.{Fair, Side, prv, nxt, word, Starts, Inside, linkOf, Chain, Held, HeldAt, nodesFrom, nodes}
-use Rattle.ring.proofs.Pigeon.{held-length}
+use Rattle.ring.specs.Links.{ValidLane, Side, prv, nxt, word, Starts, Inside, linkOf, Chain, Held, HeldAt, nodesFrom, nodes}
+use Rattle.ring.proofs.Pigeonhole.{held-length}
 use Rattle.ring.proofs.Model.{nodes-chain, node-below, held-nodes}
 use Rattle.tables.specs.Tables.{ilane, endsAt, EIn, WIn, wat, vfirst, wnext}
 
@@ -33,8 +33,8 @@ abbrev pub left : Lane → List ℕ → Ends → ℕ → ℕ
 left lane t e w = length (nodesFrom (linkOf nxt lane t e) (length t + lane .skip) w)
 
 module _ (f : ℕ → ℕ) (P : ℕ → Type 0) (lane : Lane) (t : List ℕ) (e : Ends) where
-  pub walk-start : Fair lane → (l : List ℕ) → Held lane t e l → All P l → (w : ℕ) → w ≡ linkOf nxt lane t e 0 → Walk f P lane t e w 0 (sumOf f (nodes lane t e))
-  walk-start fair l h a w q = record {
+  pub walk-start : ValidLane lane → (l : List ℕ) → Held lane t e l → All P l → (w : ℕ) → w ≡ linkOf nxt lane t e 0 → Walk f P lane t e w 0 (sumOf f (nodes lane t e))
+  walk-start valid l h a w q = record {
     from = 0;
     rest = l;
     here = q;
@@ -42,8 +42,8 @@ module _ (f : ℕ → ℕ) (P : ℕ → Type 0) (lane : Lane) (t : List ℕ) (e 
     real = h .distinct .0;
     inside = h .inside;
     all = a;
-    few = held-length lane t e (length t + lane .skip) l (λ x s i. node-below lane (length t) x fair s i) h;
-    sum = rw (held-nodes lane t e fair l h) (omega arith);
+    few = held-length lane t e (length t + lane .skip) l (λ x s i. node-below lane (length t) x valid s i) h;
+    sum = rw (held-nodes lane t e valid l h) (omega arith);
   }
 
   -- what is known at a node: w is one, n + f w is no more than the total, and the walk goes on with less left
@@ -104,9 +104,9 @@ sum-le : (f : ℕ → ℕ) → ((w : ℕ) → f w ≤ 1) → (l : List ℕ) → 
 sum-le f h [] = omega arith
 sum-le f h (w ∷ l) = omega (arith, sum-le f h l, h w)
 
-pub sum-few : (f : ℕ → ℕ) → ((w : ℕ) → f w ≤ 1) → (lane : Lane) (t : List ℕ) (e : Ends) → Fair lane → (l : List ℕ) → Held lane t e l → sumOf f (nodes lane t e) ≤ length t + lane .skip
-sum-few f b lane t e fair l h =
-    rw (held-nodes lane t e fair l h) (omega (arith, sum-le f b l, held-length lane t e (length t + lane .skip) l (λ x s i. node-below lane (length t) x fair s i) h))
+pub sum-few : (f : ℕ → ℕ) → ((w : ℕ) → f w ≤ 1) → (lane : Lane) (t : List ℕ) (e : Ends) → ValidLane lane → (l : List ℕ) → Held lane t e l → sumOf f (nodes lane t e) ≤ length t + lane .skip
+sum-few f b lane t e valid l h =
+    rw (held-nodes lane t e valid l h) (omega (arith, sum-le f b l, held-length lane t e (length t + lane .skip) l (λ x s i. node-below lane (length t) x valid s i) h))
 
 -- ---- links as words of the tables
 
@@ -130,11 +130,11 @@ module _ (et : List ℕ) (w : ℕ) (h : EIn et (w / 2)) where
 
 -- ---- for callers of the walk of `before`
 
-module _ (lane : Lane) (t : List ℕ) (fair : Fair lane) where
+module _ (lane : Lane) (t : List ℕ) (valid : ValidLane lane) where
   pub before-read : {e e′ : Ends} {r : Bool} (a b : ℕ) → e ≡ e′ → HeldAt lane t e′ a → ((l : List ℕ) → Held lane t e l → r ≡ before a b l) → r ≡ before a b (nodes lane t e′)
   before-read {e} {e′} {r} a b q h f =
       let k : Held lane t e (h .0) = rw q (h .1) in
-      f (h .0) k ∙ ap (before a b) (sym (held-nodes lane t e′ fair (h .0) (h .1)))
+      f (h .0) k ∙ ap (before a b) (sym (held-nodes lane t e′ valid (h .0) (h .1)))
 
-  pub before-asks : {e e′ : Ends} (a : ℕ) → e ≡ e′ → HeldAt lane t e′ a → Fair lane × HeldAt lane t e a
-  before-asks a q h = (fair, rw q h)
+  pub before-asks : {e e′ : Ends} (a : ℕ) → e ≡ e′ → HeldAt lane t e′ a → ValidLane lane × HeldAt lane t e a
+  before-asks a q h = (valid, rw q h)

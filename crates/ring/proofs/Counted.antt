@@ -14,7 +14,7 @@ use Rattle.lists.proofs.Picks.{same, differ, same?, is-yes, is-no, is-zero}
 use Rattle.ring.specs.declared.Lane.{Lane}
 use Rattle.ring.specs.declared.Ends.{Ends}
 use Rattle.ring.specs.Lists.{Fresh, Distinct, All}
-use Rattle.ring.specs.Links.{Fair, prv, nxt, Inside, linkOf, Held, unlinkT, unlinkE, insertT, insertE, CanUnlink, CanInsert}
+use Rattle.ring.specs.Links.{ValidLane, prv, nxt, Inside, linkOf, Held, unlinkT, unlinkE, insertT, insertE, CanUnlink, CanInsert}
 use Rattle.ring.proofs.HeldLaws.{can-unlink, held-unlink, can-insert, held-insert, held-pred, held-inside}
 use Rattle.ring.proofs.Frames.{frame-unlink, frame-insert}
 use Rattle.ring.proofs.Walks.{next-after}
@@ -53,10 +53,10 @@ apart-is : (l l′ : List ℕ) → ((k : ℕ) → 1 ≤ times k l → times k l�
 apart-is [] l′ h = tt
 apart-is (y ∷ l) l′ h = (fresh-is y l′ (h y (omega (arith, is-yes y y refl))), apart-is l l′ (λ k i. h k (omega arith)))
 
-spot-is : (p : ℕ) (l : List ℕ) → 1 ≤ is 0 p + times p l → (p ≡ 0) ⊎ (has p l ≡ true)
-spot-is p l h = elim (same? p 0) [ same e f ↦ inl e | differ e f ↦ inr (has-is p l (omega (arith, is-no 0 p f))) ]
+split-after-is : (p : ℕ) (l : List ℕ) → 1 ≤ is 0 p + times p l → (p ≡ 0) ⊎ (has p l ≡ true)
+split-after-is p l h = elim (same? p 0) [ same e f ↦ inl e | differ e f ↦ inr (has-is p l (omega (arith, is-no 0 p f))) ]
 
-module _ (lane : Lane) (t : List ℕ) (e : Ends) (l : List ℕ) (fair : Fair lane) (h : Held lane t e l) where
+module _ (lane : Lane) (t : List ℕ) (e : Ends) (l : List ℕ) (valid : ValidLane lane) (h : Held lane t e l) where
   -- 0 is not in the list, and no node twice
   pub ordered : (x : ℕ) → is 0 x + times x l ≤ 1
   ordered x = distinct-times (0 ∷ l) (h .distinct) x
@@ -71,26 +71,26 @@ module _ (lane : Lane) (t : List ℕ) (e : Ends) (l : List ℕ) (fair : Fair lan
   next-is x c = next-after lane t e l h x (has-is x l c)
 
   pub can-rem : (x : ℕ) → 1 ≤ times x l → CanUnlink lane t e x
-  can-rem x c = can-unlink lane t e l x fair h (has-is x l c)
+  can-rem x c = can-unlink lane t e l x valid h (has-is x l c)
 
   pub held-rem : (x : ℕ) → 1 ≤ times x l → Held lane (unlinkT lane t e x) (unlinkE lane t e x) (rem (λ k. k) x l)
-  held-rem x c = held-unlink lane t e l x fair h (has-is x l c)
+  held-rem x c = held-unlink lane t e l x valid h (has-is x l c)
 
   -- x directly after p
   module _ (p x : ℕ) (r : 1 ≤ x) (f : times x l ≡ 0) (i : Inside lane (length t) x) (a : 1 ≤ is 0 p + times p l) where
     pub can-ins : CanInsert lane t e p x
-    can-ins = can-insert lane t e l p x fair h (new x r l f) i (spot-is p l a)
+    can-ins = can-insert lane t e l p x valid h (new x r l f) i (split-after-is p l a)
 
     pub held-ins : Held lane (insertT lane t e p x) (insertE lane t e p x) (ins (λ k. k) 0 p x l)
-    held-ins = held-insert lane t e l p x fair h (new x r l f) i (spot-is p l a)
+    held-ins = held-insert lane t e l p x valid h (new x r l f) i (split-after-is p l a)
 
   -- x last
   module _ (x : ℕ) (r : 1 ≤ x) (f : times x l ≡ 0) (i : Inside lane (length t) x) where
     pub can-end : CanInsert lane t e (e .last) x
-    can-end = can-append lane t e l x fair h (new x r l f) i
+    can-end = can-append lane t e l x valid h (new x r l f) i
 
     pub held-end : Held lane (insertT lane t e (e .last) x) (insertE lane t e (e .last) x) (l ++ x ∷ [])
-    held-end = held-append lane t e l x fair h (new x r l f) i
+    held-end = held-append lane t e l x valid h (new x r l f) i
 
   -- another list of the same lane
   module _ (e′ : Ends) (l′ : List ℕ) (h′ : Held lane t e′ l′) (apart : (k : ℕ) → times k l + times k l′ ≤ 1) where
@@ -98,7 +98,7 @@ module _ (lane : Lane) (t : List ℕ) (e : Ends) (l : List ℕ) (fair : Fair lan
     other = apart-is l l′ (λ k i. omega (arith, apart k))
 
     pub frame-rem : (x : ℕ) → 1 ≤ times x l → Held lane (unlinkT lane t e x) e′ l′
-    frame-rem x c = frame-unlink lane fair t e l e′ l′ h h′ other x (has-is x l c)
+    frame-rem x c = frame-unlink lane valid t e l e′ l′ h h′ other x (has-is x l c)
 
     pub frame-ins : (p x : ℕ) → times x l′ ≡ 0 → 1 ≤ is 0 p + times p l → Held lane (insertT lane t e p x) e′ l′
-    frame-ins p x f a = frame-insert lane fair t e l e′ l′ h h′ other p x (spot-is p l a) (fresh-is x l′ f)
+    frame-ins p x f a = frame-insert lane valid t e l e′ l′ h h′ other p x (split-after-is p l a) (fresh-is x l′ f)

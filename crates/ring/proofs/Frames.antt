@@ -1,5 +1,5 @@
 -- What a join leaves alone: the words of other lanes and of other nodes, and the lists that they hold.
-use Prim.Native.Nat.{ℕ, _+_, _-_, _*_}
+use Prim.Native.Nat.{ℕ, _*_}
 use mathlib.Core.Path.{_≡_, refl, sym, _∙_}
 use mathlib.Core.List.{List, [], _∷_, _++_}
 use mathlib.Core.Bool.{Bool, true, false}
@@ -12,10 +12,10 @@ use Rattle.lists.specs.Lists.{has}
 use Rattle.ring.specs.declared.Lane.{Lane}
 use Rattle.ring.specs.declared.Ends.{Ends}
 use Rattle.ring.specs.Lists.{Fresh, All}
-use Rattle.ring.specs.Links.{Fair, Side, prv, nxt, word, Starts, early, Inside, linkOf, putT, joinT, Chain, Held, unlinkT, insertT}
+use Rattle.ring.specs.Links.{ValidLane, Side, prv, nxt, word, Starts, early, Inside, linkOf, putT, joinT, Chain, Held, unlinkT, insertT}
 use Rattle.ring.proofs.Words.{nodes-apart}
 use Rattle.ring.proofs.HeldLaws.{before-x, after-x, after-last}
-use Rattle.ring.proofs.ListLaws.{Split, split, Spot, spot, all-left, all-right, all-last, all-head}
+use Rattle.ring.proofs.ListLaws.{Split, split, SplitAfter, split-after, all-left, all-right, all-last, all-head}
 use Rattle.ring.proofs.Puts.{length-join}
 
 -- no word of node k of one lane is a word of node a of another
@@ -80,11 +80,11 @@ module _ (lane′ lane : Lane) (a b : ℕ) (t : List ℕ) (e : Ends) where
 
 -- ---- the same lane, other nodes
 
-module _ (lane : Lane) (fair : Fair lane) where
+module _ (lane : Lane) (valid : ValidLane lane) where
   off-nodes : (a n : ℕ) (l : List ℕ) → Fresh 0 l → All (Inside lane n) l → Fresh a l → All (Off lane lane a) l
   off-nodes a n [] z i f = tt
   off-nodes a n (k ∷ l) z i f =
-      ((λ o r s. nodes-apart lane r s k a fair (i .0 (λ q. z .0 (sym q)) .0) o (λ q. f .0 (sym q))), off-nodes a n l (z .1) (i .1) (f .1))
+      ((λ o r s. nodes-apart lane r s k a valid (i .0 (λ q. z .0 (sym q)) .0) o (λ q. f .0 (sym q))), off-nodes a n l (z .1) (i .1) (f .1))
 
   pub frame-nodes : (a b : ℕ) (t : List ℕ) (e : Ends) (l : List ℕ) → Fresh a l → Fresh b l → Held lane t e l → Held lane (joinT lane a b t) e l
   frame-nodes a b t e l fa fb h =
@@ -109,7 +109,7 @@ module _ (lane′ lane : Lane) (apart : Apart lane′ lane) where
 
 -- ---- a list of other nodes in the same lane, after a whole step
 
-module _ (lane : Lane) (fair : Fair lane) (t : List ℕ) (e : Ends) (l : List ℕ) (e′ : Ends) (l′ : List ℕ)
+module _ (lane : Lane) (valid : ValidLane lane) (t : List ℕ) (e : Ends) (l : List ℕ) (e′ : Ends) (l′ : List ℕ)
     (h : Held lane t e l) (h′ : Held lane t e′ l′) (apart : All (λ k. Fresh k l′) l) where
   pub frame-unlink : (x : ℕ) → has x l ≡ true → Held lane (unlinkT lane t e x) e′ l′
   frame-unlink x m = go (split x l m)
@@ -120,15 +120,15 @@ module _ (lane : Lane) (fair : Fair lane) (t : List ℕ) (e : Ends) (l : List �
           let v = s .after in
           let g : Held lane t e (u ++ x ∷ v) = rw (s .whole) at h in
           let d : All (λ k. Fresh k l′) (u ++ x ∷ v) = rw (s .whole) at apart in
-          frame-nodes lane fair (linkOf prv lane t e x) (linkOf nxt lane t e x) t e′ l′
+          frame-nodes lane valid (linkOf prv lane t e x) (linkOf nxt lane t e x) t e′ l′
           (rw (before-x lane t e u v x g) (all-last (λ k. Fresh k l′) 0 u (h′ .distinct .0) (all-left (λ k. Fresh k l′) u (x ∷ v) d)))
           (rw (after-x lane t e u v x g) (all-head (λ k. Fresh k l′) 0 v (h′ .distinct .0) (all-right (λ k. Fresh k l′) u (x ∷ v) d .1)))
           h′
 
   pub frame-insert : (p x : ℕ) → (p ≡ 0) ⊎ (has p l ≡ true) → Fresh x l′ → Held lane (insertT lane t e p x) e′ l′
-  frame-insert p x m fx = go (spot p 0 l m)
+  frame-insert p x m fx = go (split-after p 0 l m)
     where
-      go : Spot p 0 l → Held lane (insertT lane t e p x) e′ l′
+      go : SplitAfter p 0 l → Held lane (insertT lane t e p x) e′ l′
       go s =
           let u = s .before in
           let v = s .after in
@@ -137,7 +137,7 @@ module _ (lane : Lane) (fair : Fair lane) (t : List ℕ) (e : Ends) (l : List �
           let fp : Fresh p l′ = rw (s .last) (all-last (λ k. Fresh k l′) 0 u (h′ .distinct .0) (all-left (λ k. Fresh k l′) u v d)) in
           let fn : Fresh (linkOf nxt lane t e p) l′ =
           rw (s .last, after-last lane t e u v g) (all-head (λ k. Fresh k l′) 0 v (h′ .distinct .0) (all-right (λ k. Fresh k l′) u v d)) in
-          frame-nodes lane fair x (linkOf nxt lane t e p) (joinT lane p x t) e′ l′ fx fn (frame-nodes lane fair p x t e′ l′ fp fx h′)
+          frame-nodes lane valid x (linkOf nxt lane t e p) (joinT lane p x t) e′ l′ fx fn (frame-nodes lane valid p x t e′ l′ fp fx h′)
 
 -- ---- for callers: a list of another lane, where `unlink` and `insert_after` return
 

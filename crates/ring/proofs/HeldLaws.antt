@@ -1,5 +1,5 @@
 -- What a table holds after a node was taken out or put in.
-use Prim.Native.Nat.{ℕ, _+_}
+use Prim.Native.Nat.{ℕ}
 use mathlib.Core.Path.{_≡_, refl, sym, _∙_}
 use mathlib.Core.List.{List, [], _∷_, _++_}
 use mathlib.Core.Bool.{true}
@@ -9,8 +9,8 @@ use Rattle.lists.specs.Lists.{has}
 use Rattle.ring.specs.declared.Lane.{Lane}
 use Rattle.ring.specs.declared.Ends.{Ends}
 use Rattle.ring.specs.Lists.{Fresh, All, remove, insertAfter, predOf}
-use Rattle.ring.specs.Links.{Fair, prv, nxt, Inside, linkOf, joinT, joinE, Held, unlinkT, unlinkE, insertT, insertE, CanUnlink, CanInsert}
-use Rattle.ring.proofs.ListLaws.{pred-in, insert-remove, lastOr, headOr, Split, split, Spot, spot, remove-at, insert-at, pred-at, all-left, all-right, all-last, all-head, all-drop, all-put, all-mid, fresh-mid, fresh-last, fresh-first, fresh-left, fresh-right, distinct-left, distinct-drop, distinct-put}
+use Rattle.ring.specs.Links.{ValidLane, prv, nxt, Inside, linkOf, joinT, joinE, Held, unlinkT, unlinkE, insertT, insertE, CanUnlink, CanInsert}
+use Rattle.ring.proofs.ListLaws.{pred-in, insert-remove, lastOr, headOr, Split, split, SplitAfter, split-after, remove-at, insert-at, pred-at, all-left, all-right, all-last, all-head, all-drop, all-put, all-mid, fresh-mid, fresh-last, fresh-first, fresh-left, fresh-right, distinct-left, distinct-drop, distinct-put}
 use Rattle.ring.proofs.Chains.{cut-chain, head-link, chain-out, chain-in}
 use Rattle.ring.proofs.Puts.{length-join, join-next, join-prev, join-next-other, join-prev-other}
 
@@ -41,43 +41,43 @@ module _ (lane : Lane) (t : List ℕ) (e : Ends) (u v : List ℕ) (x : ℕ) (h :
   inside-v : Inside lane (length t) (headOr 0 v)
   inside-v = inside-head lane (length t) v (all-right (Inside lane (length t)) u (x ∷ v) (h .inside) .1)
 
-  can-out : Fair lane → CanUnlink lane t e x
-  can-out fair =
+  can-out : ValidLane lane → CanUnlink lane t e x
+  can-out valid =
       record {
-        fair = fair;
+        valid = valid;
         here = all-mid (Inside lane (length t)) u x v (h .inside);
         prev = rw before-x inside-u;
         next = rw after-x inside-v;
       }
 
-  joined-out : Fair lane → Held lane (joinT lane (lastOr 0 u) (headOr 0 v) t) (joinE (lastOr 0 u) (headOr 0 v) e) (u ++ v)
-  joined-out fair =
+  joined-out : ValidLane lane → Held lane (joinT lane (lastOr 0 u) (headOr 0 v) t) (joinE (lastOr 0 u) (headOr 0 v) e) (u ++ v)
+  joined-out valid =
       record {
         chain =
             chain-out (linkOf nxt lane t e) (linkOf prv lane t e)
             (linkOf nxt lane (joinT lane (lastOr 0 u) (headOr 0 v) t) (joinE (lastOr 0 u) (headOr 0 v) e))
             (linkOf prv lane (joinT lane (lastOr 0 u) (headOr 0 v) t) (joinE (lastOr 0 u) (headOr 0 v) e))
             u v x
-            (λ k a b. join-next-other lane (lastOr 0 u) (headOr 0 v) t e fair k a)
-            (λ k a b. join-prev-other lane (lastOr 0 u) (headOr 0 v) t e fair k a)
+            (λ k a b. join-next-other lane (lastOr 0 u) (headOr 0 v) t e valid k a)
+            (λ k a b. join-prev-other lane (lastOr 0 u) (headOr 0 v) t e valid k a)
             (distinct-drop (0 ∷ u) x v (h .distinct))
             (fresh-mid (0 ∷ u) x v (h .distinct))
-            (join-next lane (lastOr 0 u) (headOr 0 v) t e fair inside-u, join-prev lane (lastOr 0 u) (headOr 0 v) t e fair inside-v)
+            (join-next lane (lastOr 0 u) (headOr 0 v) t e valid inside-u, join-prev lane (lastOr 0 u) (headOr 0 v) t e valid inside-v)
             (h .chain);
         distinct = distinct-drop (0 ∷ u) x v (h .distinct);
         inside = rw length-join (all-drop (Inside lane (length t)) u x v (h .inside));
       }
 
-  out : Fair lane → Held lane (unlinkT lane t e x) (unlinkE lane t e x) (u ++ v)
-  out fair = rw (before-x, after-x) (joined-out fair)
+  out : ValidLane lane → Held lane (unlinkT lane t e x) (unlinkE lane t e x) (u ++ v)
+  out valid = rw (before-x, after-x) (joined-out valid)
 
-module _ (lane : Lane) (t : List ℕ) (e : Ends) (l : List ℕ) (x : ℕ) (fair : Fair lane) (h : Held lane t e l) (m : has x l ≡ true) where
+module _ (lane : Lane) (t : List ℕ) (e : Ends) (l : List ℕ) (x : ℕ) (valid : ValidLane lane) (h : Held lane t e l) (m : has x l ≡ true) where
   -- a node of a list that is held can be unlinked
   pub can-unlink : CanUnlink lane t e x
   can-unlink = go (split x l m)
     where
       go : Split x l → CanUnlink lane t e x
-      go s = can-out lane t e (s .before) (s .after) x (rw (s .whole) at h) fair
+      go s = can-out lane t e (s .before) (s .after) x (rw (s .whole) at h) valid
 
   -- and the list without it is then held
   pub held-unlink : Held lane (unlinkT lane t e x) (unlinkE lane t e x) (remove x l)
@@ -86,7 +86,7 @@ module _ (lane : Lane) (t : List ℕ) (e : Ends) (l : List ℕ) (x : ℕ) (fair 
       go : Split x l → Held lane (unlinkT lane t e x) (unlinkE lane t e x) (remove x l)
       go s =
           let r : remove x l ≡ s .before ++ s .after = rw (s .whole, remove-at x (s .before) (s .after) (s .fresh)) in
-          rw r (out lane t e (s .before) (s .after) x (rw (s .whole) at h) fair)
+          rw r (out lane t e (s .before) (s .after) x (rw (s .whole) at h) valid)
 
 -- ---- in
 
@@ -95,7 +95,7 @@ after-last lane t e u v h =
     head-link (linkOf nxt lane t e) (linkOf prv lane t e) (lastOr 0 u) v 0
     (cut-chain (linkOf nxt lane t e) (linkOf prv lane t e) 0 u v 0 (h .chain)) .0
 
-module _ (lane : Lane) (t : List ℕ) (e : Ends) (u v : List ℕ) (x : ℕ) (fair : Fair lane)
+module _ (lane : Lane) (t : List ℕ) (e : Ends) (u v : List ℕ) (x : ℕ) (valid : ValidLane lane)
     (h : Held lane t e (u ++ v)) (fx : Fresh x (0 ∷ (u ++ v))) (ix : Inside lane (length t) x) where
   after-p : linkOf nxt lane t e (lastOr 0 u) ≡ headOr 0 v
   after-p = after-last lane t e u v h
@@ -107,7 +107,7 @@ module _ (lane : Lane) (t : List ℕ) (e : Ends) (u v : List ℕ) (x : ℕ) (fai
   inside-n = inside-head lane (length t) v (all-right (Inside lane (length t)) u v (h .inside))
 
   can-in : CanInsert lane t e (lastOr 0 u) x
-  can-in = record { fair = fair; here = ix; prev = inside-p; next = rw after-p inside-n }
+  can-in = record { valid = valid; here = ix; prev = inside-p; next = rw after-p inside-n }
 
   not-p : x ≡ lastOr 0 u → ⊥
   not-p = fresh-last x 0 u (fresh-left x (0 ∷ u) v fx)
@@ -126,14 +126,14 @@ module _ (lane : Lane) (t : List ℕ) (e : Ends) (u v : List ℕ) (x : ℕ) (fai
         chain =
             chain-in (linkOf nxt lane t e) (linkOf prv lane t e) (linkOf nxt lane (joinT lane x d t₁) e₂) (linkOf prv lane (joinT lane x d t₁) e₂)
             u v x
-            (λ k a b. join-next-other lane x d t₁ e₁ fair k b ∙ join-next-other lane c x t e fair k a)
-            (λ k a b. join-prev-other lane x d t₁ e₁ fair k a ∙ join-prev-other lane c x t e fair k b)
+            (λ k a b. join-next-other lane x d t₁ e₁ valid k b ∙ join-next-other lane c x t e valid k a)
+            (λ k a b. join-prev-other lane x d t₁ e₁ valid k a ∙ join-prev-other lane c x t e valid k b)
             (h .distinct)
             fx (
-              join-next-other lane x d t₁ e₁ fair c (λ q. not-p (sym q)) ∙ join-next lane c x t e fair inside-p,
-              join-prev-other lane x d t₁ e₁ fair x not-n ∙ join-prev lane c x t e fair ix,
+              join-next-other lane x d t₁ e₁ valid c (λ q. not-p (sym q)) ∙ join-next lane c x t e valid inside-p,
+              join-prev-other lane x d t₁ e₁ valid x not-n ∙ join-prev lane c x t e valid ix,
             )
-            (join-next lane x d t₁ e₁ fair (rw length-join ix), join-prev lane x d t₁ e₁ fair (rw length-join inside-n))
+            (join-next lane x d t₁ e₁ valid (rw length-join ix), join-prev lane x d t₁ e₁ valid (rw length-join inside-n))
             (h .chain);
         distinct = distinct-put (0 ∷ u) x v fx (h .distinct);
         inside = simp length-join (all-put (Inside lane (length t)) u x v ix (h .inside));
@@ -142,38 +142,38 @@ module _ (lane : Lane) (t : List ℕ) (e : Ends) (u v : List ℕ) (x : ℕ) (fai
   put-in : Held lane (insertT lane t e (lastOr 0 u) x) (insertE lane t e (lastOr 0 u) x) (u ++ x ∷ v)
   put-in = rw after-p joined-in
 
-module _ (lane : Lane) (t : List ℕ) (e : Ends) (l : List ℕ) (p x : ℕ) (fair : Fair lane) (h : Held lane t e l)
+module _ (lane : Lane) (t : List ℕ) (e : Ends) (l : List ℕ) (p x : ℕ) (valid : ValidLane lane) (h : Held lane t e l)
     (fx : Fresh x (0 ∷ l)) (ix : Inside lane (length t) x) (m : (p ≡ 0) ⊎ (has p l ≡ true)) where
   -- a node that is not in a list that is held can be put in
   pub can-insert : CanInsert lane t e p x
-  can-insert = go (spot p 0 l m)
+  can-insert = go (split-after p 0 l m)
     where
-      go : Spot p 0 l → CanInsert lane t e p x
-      go s = rw (s .last) (can-in lane t e (s .before) (s .after) x fair (rw (s .whole) at h) (rw (s .whole) at fx) ix)
+      go : SplitAfter p 0 l → CanInsert lane t e p x
+      go s = rw (s .last) (can-in lane t e (s .before) (s .after) x valid (rw (s .whole) at h) (rw (s .whole) at fx) ix)
 
   -- and the list with it is then held
   pub held-insert : Held lane (insertT lane t e p x) (insertE lane t e p x) (insertAfter p x l)
-  held-insert = go (spot p 0 l m)
+  held-insert = go (split-after p 0 l m)
     where
-      go : Spot p 0 l → Held lane (insertT lane t e p x) (insertE lane t e p x) (insertAfter p x l)
+      go : SplitAfter p 0 l → Held lane (insertT lane t e p x) (insertE lane t e p x) (insertAfter p x l)
       go s =
           let h′ : Held lane t e (s .before ++ s .after) = rw (s .whole) at h in
           let r : insertAfter p x l ≡ s .before ++ x ∷ s .after =
           rw (s .whole) (insert-at p x 0 (s .before) (s .after) (distinct-left (0 ∷ s .before) (s .after) (h′ .distinct)) (s .last)) in
-          rw r (rw (s .last) (put-in lane t e (s .before) (s .after) x fair h′ (rw (s .whole) at fx) ix))
+          rw r (rw (s .last) (put-in lane t e (s .before) (s .after) x valid h′ (rw (s .whole) at fx) ix))
 
 -- ---- for callers: what is held where `unlink` and `insert_after` return
 
 pub unlinked : (lane : Lane) (t : List ℕ) (e : Ends) (x : ℕ) {t′ : List ℕ} {e′ : Ends} (l : List ℕ) →
     (t′ ≡ unlinkT lane t e x) × (e′ ≡ unlinkE lane t e x) →
-    Fair lane → Held lane t e l → has x l ≡ true → Held lane t′ e′ (remove x l)
-unlinked lane t e x l q fair h m = rw (q .0, q .1) (held-unlink lane t e l x fair h m)
+    ValidLane lane → Held lane t e l → has x l ≡ true → Held lane t′ e′ (remove x l)
+unlinked lane t e x l q valid h m = rw (q .0, q .1) (held-unlink lane t e l x valid h m)
 
 pub inserted : (lane : Lane) (t : List ℕ) (e : Ends) (p x : ℕ) {t′ : List ℕ} {e′ : Ends} (l : List ℕ) →
     (t′ ≡ insertT lane t e p x) × (e′ ≡ insertE lane t e p x) →
-    Fair lane → Held lane t e l → Fresh x (0 ∷ l) → Inside lane (length t) x → (p ≡ 0) ⊎ (has p l ≡ true) →
+    ValidLane lane → Held lane t e l → Fresh x (0 ∷ l) → Inside lane (length t) x → (p ≡ 0) ⊎ (has p l ≡ true) →
     Held lane t′ e′ (insertAfter p x l)
-inserted lane t e p x l q fair h fx ix m = rw (q .0, q .1) (held-insert lane t e l p x fair h fx ix m)
+inserted lane t e p x l q valid h fx ix m = rw (q .0, q .1) (held-insert lane t e l p x valid h fx ix m)
 
 -- the empty list
 pub held-none : (lane : Lane) (t : List ℕ) → Held lane t (record { first = 0; last = 0 }) []

@@ -139,19 +139,19 @@ split x (y ∷ l) h = go (y == x) refl (split x l) h
         record { before = y ∷ s .before; after = s .after; whole = ap (λ k. y ∷ k) (s .whole); fresh = ((λ q. eqb-false y x e (sym q)), s .fresh) }
 
 -- where a ∷ l is cut directly after p
-pub record Spot (p a : ℕ) (l : List ℕ) : Type 0 where
+pub record SplitAfter (p a : ℕ) (l : List ℕ) : Type 0 where
   pub before : List ℕ
   pub after : List ℕ
   pub whole : l ≡ before ++ after
   pub last : p ≡ lastOr a before
 
-pub spot : (p a : ℕ) (l : List ℕ) → (p ≡ a) ⊎ (has p l ≡ true) → Spot p a l
-spot p a [] (inl e) = record { before = []; after = []; whole = refl; last = e }
-spot p a [] (inr h) = ft h
-spot p a (y ∷ l) (inl e) = record { before = []; after = y ∷ l; whole = refl; last = e }
-spot p a (y ∷ l) (inr h) = go (y == p) refl (spot p y l) h
+pub split-after : (p a : ℕ) (l : List ℕ) → (p ≡ a) ⊎ (has p l ≡ true) → SplitAfter p a l
+split-after p a [] (inl e) = record { before = []; after = []; whole = refl; last = e }
+split-after p a [] (inr h) = ft h
+split-after p a (y ∷ l) (inl e) = record { before = []; after = y ∷ l; whole = refl; last = e }
+split-after p a (y ∷ l) (inr h) = go (y == p) refl (split-after p y l) h
   where
-    go : (b : Bool) → (y == p) ≡ b → ((p ≡ y) ⊎ (has p l ≡ true) → Spot p y l) → (b || has p l) ≡ true → Spot p a (y ∷ l)
+    go : (b : Bool) → (y == p) ≡ b → ((p ≡ y) ⊎ (has p l ≡ true) → SplitAfter p y l) → (b || has p l) ≡ true → SplitAfter p a (y ∷ l)
     go true e r m = record { before = y ∷ []; after = l; whole = refl; last = sym (eqb-true y p e) }
     go false e r m =
         let s = r (inr m) in

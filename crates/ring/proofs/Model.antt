@@ -9,10 +9,10 @@ use borrow.Author.Tests.{eq-eqb, ne-eqb}
 use Rattle.ring.specs.declared.Lane.{Lane}
 use Rattle.ring.specs.declared.Ends.{Ends}
 use Rattle.ring.specs.Lists.{Fresh}
-use Rattle.ring.specs.Links.{Fair, nxt, prv, addr, Starts, linkOf, Chain, Held, nodesFrom, nodes}
+use Rattle.ring.specs.Links.{ValidLane, nxt, prv, addr, Starts, linkOf, Chain, Held, nodesFrom, nodes}
 use Rattle.ring.proofs.ListLaws.{headOr, lastOr}
 use Rattle.ring.proofs.Chains.{head-link, last-link}
-use Rattle.ring.proofs.Pigeon.{held-length}
+use Rattle.ring.proofs.Pigeonhole.{held-length}
 
 -- the nodes read off a chain are its nodes
 pub nodes-chain : (n p : ℕ → ℕ) (f a : ℕ) (l : List ℕ) → Chain n p a l 0 → Fresh 0 l → length l ≤ f → nodesFrom n f (n a) ≡ l
@@ -24,20 +24,20 @@ nodes-chain n p (suc f) a (x ∷ l) c z h =
     simp (c .0 .0, ne-eqb x 0 (λ q. z .0 (sym q)), r)
 
 -- a node whose words are in a table has a number below this bound
-pub node-below : (lane : Lane) (n x : ℕ) → Fair lane → Starts lane x → addr lane x + 1 < n → x < n + lane .skip
-node-below lane n x fair s i =
-    let f : 2 * x ≤ lane .stride * x = mul-le-mul-right x (fair .two) in
+pub node-below : (lane : Lane) (n x : ℕ) → ValidLane lane → Starts lane x → addr lane x + 1 < n → x < n + lane .skip
+node-below lane n x valid s i =
+    let f : 2 * x ≤ lane .stride * x = mul-le-mul-right x (valid .two) in
     omega arith
 
-pub held-nodes : (lane : Lane) (t : List ℕ) (e : Ends) → Fair lane → (l : List ℕ) → Held lane t e l → nodes lane t e ≡ l
+pub held-nodes : (lane : Lane) (t : List ℕ) (e : Ends) → ValidLane lane → (l : List ℕ) → Held lane t e l → nodes lane t e ≡ l
 unfolding nodes
-held-nodes lane t e fair l h =
+held-nodes lane t e valid l h =
     nodes-chain (linkOf nxt lane t e) (linkOf prv lane t e) (length t + lane .skip) 0 l (h .chain) (h .distinct .0)
-    (held-length lane t e (length t + lane .skip) l (λ x s i. node-below lane (length t) x fair s i) h)
+    (held-length lane t e (length t + lane .skip) l (λ x s i. node-below lane (length t) x valid s i) h)
 
 -- so a table and ends hold no two lists
-pub held-one : (lane : Lane) (t : List ℕ) (e : Ends) → Fair lane → (l l′ : List ℕ) → Held lane t e l → Held lane t e l′ → l ≡ l′
-held-one lane t e fair l l′ h h′ = sym (held-nodes lane t e fair l h) ∙ held-nodes lane t e fair l′ h′
+pub held-one : (lane : Lane) (t : List ℕ) (e : Ends) → ValidLane lane → (l l′ : List ℕ) → Held lane t e l → Held lane t e l′ → l ≡ l′
+held-one lane t e valid l l′ h h′ = sym (held-nodes lane t e valid l h) ∙ held-nodes lane t e valid l′ h′
 
 -- the ends are its first and last node, 0 where it is empty
 pub held-first : (lane : Lane) (t : List ℕ) (e : Ends) (l : List ℕ) → Held lane t e l → e .first ≡ headOr 0 l

@@ -1,5 +1,5 @@
 -- Reading a link after a link was put.
-use Prim.Native.Nat.{ℕ, _+_, _-_, _*_, _<_}
+use Prim.Native.Nat.{ℕ, _+_, _*_, _<_}
 use mathlib.Core.Path.{_≡_, refl, sym, _∙_}
 use mathlib.Core.List.{List}
 use mathlib.Core.Bool.{Bool, true, false}
@@ -10,7 +10,7 @@ use borrow.Author.Tests.{eqb-true, eqb-false, ltb-true, ltb-false}
 use Rattle.ring.specs.declared.Lane.{Lane}
 use Rattle.ring.specs.declared.Ends.{Ends}
 use Rattle.lists.specs.Choice.{_⇒_else_, _==_}
-use Rattle.ring.specs.Links.{Fair, Side, prv, nxt, word, addr, Starts, early, Inside, endOf, withEnd, linkOf, putT, putE, joinT, joinE}
+use Rattle.ring.specs.Links.{ValidLane, Side, prv, nxt, word, addr, Starts, early, Inside, endOf, withEnd, linkOf, putT, putE, joinT, joinE}
 use Rattle.ring.proofs.Words.{nodes-apart, sides-apart}
 
 pub length-put : (s : Side) (lane : Lane) (k v : ℕ) (t : List ℕ) → length (putT s lane k v t) ≡ length t
@@ -60,18 +60,18 @@ link-apart r s lane j k v t e he hw = go (j == 0) (k == 0) (early lane j) (early
     go false false false false h g i o =
         getD-set-other t (word s lane k) (word r lane j) v 0 (hw (ltb-false (lane .stride * j) (lane .skip) i) (ltb-false (lane .stride * k) (lane .skip) o))
 
-module _ (lane : Lane) (j k v : ℕ) (t : List ℕ) (e : Ends) (fair : Fair lane) where
+module _ (lane : Lane) (j k v : ℕ) (t : List ℕ) (e : Ends) (valid : ValidLane lane) where
   -- another node's link
   pub link-node : (r s : Side) → (j ≡ k → ⊥) → linkOf r lane (putT s lane k v t) (putE s k v e) j ≡ linkOf r lane t e j
   link-node r s ne =
-      link-apart r s lane j k v t e (λ a b. absurd (ne (a ∙ sym b))) (λ a b. nodes-apart lane r s j k fair a b ne)
+      link-apart r s lane j k v t e (λ a b. absurd (ne (a ∙ sym b))) (λ a b. nodes-apart lane r s j k valid a b ne)
 
   -- a link on the other side
   pub prev-kept : linkOf prv lane (putT nxt lane k v t) (putE nxt k v e) j ≡ linkOf prv lane t e j
-  prev-kept = link-apart prv nxt lane j k v t e (λ a b. refl) (λ a b. sides-apart lane j k fair a b)
+  prev-kept = link-apart prv nxt lane j k v t e (λ a b. refl) (λ a b. sides-apart lane j k valid a b)
 
   pub next-kept : linkOf nxt lane (putT prv lane k v t) (putE prv k v e) j ≡ linkOf nxt lane t e j
-  next-kept = link-apart nxt prv lane j k v t e (λ a b. refl) (λ a b q. sides-apart lane k j fair b a (sym q))
+  next-kept = link-apart nxt prv lane j k v t e (λ a b. refl) (λ a b q. sides-apart lane k j valid b a (sym q))
 
 -- ---- two nodes linked to each other
 
@@ -79,10 +79,10 @@ pub length-join : (lane : Lane) (a b : ℕ) (t : List ℕ) → length (joinT lan
 unfolding joinT
 length-join lane a b t = length-put prv lane b a (putT nxt lane a b t) ∙ length-put nxt lane a b t
 
-module _ (lane : Lane) (a b : ℕ) (t : List ℕ) (e : Ends) (fair : Fair lane) where
+module _ (lane : Lane) (a b : ℕ) (t : List ℕ) (e : Ends) (valid : ValidLane lane) where
   pub join-next : Inside lane (length t) a → linkOf nxt lane (joinT lane a b t) (joinE a b e) a ≡ b
   unfolding joinT joinE
-  join-next i = next-kept lane a b a (putT nxt lane a b t) (putE nxt a b e) fair ∙ link-same nxt lane a b t e i
+  join-next i = next-kept lane a b a (putT nxt lane a b t) (putE nxt a b e) valid ∙ link-same nxt lane a b t e i
 
   pub join-prev : Inside lane (length t) b → linkOf prv lane (joinT lane a b t) (joinE a b e) b ≡ a
   unfolding joinT joinE
@@ -91,8 +91,8 @@ module _ (lane : Lane) (a b : ℕ) (t : List ℕ) (e : Ends) (fair : Fair lane) 
 
   pub join-next-other : (k : ℕ) → (k ≡ a → ⊥) → linkOf nxt lane (joinT lane a b t) (joinE a b e) k ≡ linkOf nxt lane t e k
   unfolding joinT joinE
-  join-next-other k n = next-kept lane k b a (putT nxt lane a b t) (putE nxt a b e) fair ∙ link-node lane k a b t e fair nxt nxt n
+  join-next-other k n = next-kept lane k b a (putT nxt lane a b t) (putE nxt a b e) valid ∙ link-node lane k a b t e valid nxt nxt n
 
   pub join-prev-other : (k : ℕ) → (k ≡ b → ⊥) → linkOf prv lane (joinT lane a b t) (joinE a b e) k ≡ linkOf prv lane t e k
   unfolding joinT joinE
-  join-prev-other k n = link-node lane k b a (putT nxt lane a b t) (putE nxt a b e) fair prv prv n ∙ prev-kept lane k a b t e fair
+  join-prev-other k n = link-node lane k b a (putT nxt lane a b t) (putE nxt a b e) valid prv prv n ∙ prev-kept lane k a b t e valid

@@ -15,7 +15,7 @@ use Rattle.lists.proofs.Picks.{pick-no, same, differ, same?}
 use Rattle.ring.specs.declared.Lane.{Lane}
 use Rattle.ring.specs.declared.Ends.{Ends}
 use Rattle.ring.specs.Lists.{Fresh, Distinct, predOf}
-use Rattle.ring.specs.Links.{Fair, prv, nxt, Inside, linkOf, Held, HeldAt, nodes}
+use Rattle.ring.specs.Links.{ValidLane, prv, nxt, Inside, linkOf, Held, HeldAt, nodes}
 use Rattle.ring.proofs.ListLaws.{lastOr, headOr, Split, split, fresh-has}
 use Rattle.ring.proofs.Chains.{head-link, last-link}
 use Rattle.ring.proofs.HeldLaws.{after-x, held-inside}
@@ -148,10 +148,10 @@ pub record Walk (l : List ℕ) (a b x : ℕ) : Type 0 where
   pub place : (x ≡ 0) ⊎ (has x l ≡ true)
   pub rest : has b (suffix x l) ≡ before a b l
 
-module _ (lane : Lane) (t : List ℕ) (e : Ends) (fair : Fair lane) (a : ℕ) (some : HeldAt lane t e a) where
+module _ (lane : Lane) (t : List ℕ) (e : Ends) (valid : ValidLane lane) (a : ℕ) (some : HeldAt lane t e a) where
   -- the list is the one read off the table
   the-list : nodes lane t e ≡ some .0
-  the-list = held-nodes lane t e fair (some .0) (some .1)
+  the-list = held-nodes lane t e valid (some .0) (some .1)
 
   held : Held lane t e (nodes lane t e)
   held = rw the-list (some .1)
@@ -171,7 +171,7 @@ module _ (lane : Lane) (t : List ℕ) (e : Ends) (fair : Fair lane) (a : ℕ) (s
   module _ (b x : ℕ) (w : Walk (nodes lane t e) a b x) where
     -- the walk ends at 0
     pub walk-end : x ≡ 0 → (l : List ℕ) → Held lane t e l → false ≡ before a b l
-    walk-end z l h = rw (← held-nodes lane t e fair l h) (go (rw z at (w .rest)))
+    walk-end z l h = rw (← held-nodes lane t e valid l h) (go (rw z at (w .rest)))
       where
         go : has b (suffix 0 (nodes lane t e)) ≡ before a b (nodes lane t e) → false ≡ before a b (nodes lane t e)
         go r = sym (ap (has b) (suffix-none 0 (nodes lane t e) (held .distinct .0))) ∙ r
@@ -192,7 +192,7 @@ module _ (lane : Lane) (t : List ℕ) (e : Ends) (fair : Fair lane) (a : ℕ) (s
 
       -- b is found
       pub walk-found : x ≡ b → (l : List ℕ) → Held lane t e l → true ≡ before a b l
-      walk-found q l h = rw (← held-nodes lane t e fair l h) (rw (eq-eqb x b q) at walk-rest)
+      walk-found q l h = rw (← held-nodes lane t e valid l h) (rw (eq-eqb x b q) at walk-rest)
 
       -- or the walk goes on, with less of the list before it
       module _ (y : ℕ) (q : y ≡ linkOf nxt lane t e x) where

@@ -1,13 +1,13 @@
 -- Where a node's words stand: the product fits, and two nodes' words are apart.
-use Prim.Native.Nat.{ℕ, _+_, _-_, _*_, _≤_, _<_, _^_}
+use Prim.Native.Nat.{ℕ, _+_, _*_, _≤_, _<_, _^_}
 use native.Mathlib.Nat.{mul-le-mul-left, mul-suc}
 use native.Mathlib.Decide.{decLt, ℕ-discrete}
 use native.Mathlib.Omega.{arith}
 use mathlib.Core.Path.{_≡_, ap}
 use Rattle.ring.specs.declared.Lane.{Lane}
-use Rattle.ring.specs.Links.{Fair, Side, prv, nxt, word, addr, Starts, Inside}
+use Rattle.ring.specs.Links.{ValidLane, Side, prv, nxt, word, addr, Starts, Inside}
 
-pub product : (lane : Lane) (n x : ℕ) → Fair lane → (x ≡ 0 → ⊥) → Inside lane n x → n < 2 ^ 62 → lane .stride * x < 2 ^ 64
+pub product : (lane : Lane) (n x : ℕ) → ValidLane lane → (x ≡ 0 → ⊥) → Inside lane n x → n < 2 ^ 62 → lane .stride * x < 2 ^ 64
 product lane n x f h i b = omega (arith, i h .1)
 
 -- a later node starts at least a stride later
@@ -22,7 +22,7 @@ order : (x y : ℕ) → (x ≡ y → ⊥) → Order x y
 order x y h = elim (decLt x y) [ yes l ↦ less l | no g ↦ more (omega arith) ]
 
 -- the words of two nodes on any two sides are apart
-pub nodes-apart : (lane : Lane) (s r : Side) (x y : ℕ) → Fair lane → Starts lane x → Starts lane y → (x ≡ y → ⊥) → word s lane x ≡ word r lane y → ⊥
+pub nodes-apart : (lane : Lane) (s r : Side) (x y : ℕ) → ValidLane lane → Starts lane x → Starts lane y → (x ≡ y → ⊥) → word s lane x ≡ word r lane y → ⊥
 nodes-apart lane s r x y f hx hy ne = go s r (order x y ne)
   where
     go : (s r : Side) → Order x y → word s lane x ≡ word r lane y → ⊥
@@ -36,7 +36,7 @@ nodes-apart lane s r x y f hx hy ne = go s r (order x y ne)
     go nxt nxt (more h) e = omega (arith, step (lane .stride) y x h)
 
 -- a prev word is no next word
-pub sides-apart : (lane : Lane) (x y : ℕ) → Fair lane → Starts lane x → Starts lane y → word prv lane x ≡ word nxt lane y → ⊥
+pub sides-apart : (lane : Lane) (x y : ℕ) → ValidLane lane → Starts lane x → Starts lane y → word prv lane x ≡ word nxt lane y → ⊥
 sides-apart lane x y f hx hy = go (ℕ-discrete x y)
   where
     go : Dec (x ≡ y) → word prv lane x ≡ word nxt lane y → ⊥

@@ -15,7 +15,7 @@ use Rattle.ring.specs.Lists.{Distinct, All}
 -- ---- where the links stand
 
 -- a lane that can be used: nodes do not overlap, and an address is computed without overflow
-pub record Fair (lane : Lane) : Type 0 where
+pub record ValidLane (lane : Lane) : Type 0 where
   pub two : 2 ≤ lane .stride
   pub near : lane .skip ≤ 65536
 
@@ -122,14 +122,14 @@ insertE lane t e p x = joinE x (linkOf nxt lane t e p) (joinE p x e)
 
 -- what unlinking x asks: the words that it reads and writes are in the table
 pub record CanUnlink (lane : Lane) (t : List ℕ) (e : Ends) (x : ℕ) : Type 0 where
-  pub fair : Fair lane
+  pub valid : ValidLane lane
   pub here : Inside lane (length t) x
   pub prev : Inside lane (length t) (linkOf prv lane t e x)
   pub next : Inside lane (length t) (linkOf nxt lane t e x)
 
 -- what inserting x after p asks
 pub record CanInsert (lane : Lane) (t : List ℕ) (e : Ends) (p x : ℕ) : Type 0 where
-  pub fair : Fair lane
+  pub valid : ValidLane lane
   pub here : Inside lane (length t) x
   pub prev : Inside lane (length t) p
   pub next : Inside lane (length t) (linkOf nxt lane t e p)

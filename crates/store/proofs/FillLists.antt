@@ -23,7 +23,7 @@ use Rattle.graph.proofs.Moves.{attach-last}
 use Rattle.image.specs.Image.{incidencesOf, load}
 use Rattle.tables.specs.Tables.{State, ilane, vends, endsAt, vlast, wthis, WIn, attachS, CanAttach}
 use Rattle.tables.specs.Holds.{Core}
-use Rattle.tables.proofs.Frames.{fair-i, row-v}
+use Rattle.tables.proofs.Frames.{valid-i, row-v}
 use Rattle.tables.proofs.Refines.{word-in}
 use Rattle.tables.proofs.WordLaws.{can-attach, core-attach}
 use Rattle.store.specs.Filling.{filled, wordS, CanWord, CanLoad}
@@ -194,7 +194,7 @@ module _ (g : Graph) (wf : WellFormed g) where
     next-list : attach vs v (vlast (s .vt) v) w ≡ map (filled (g .eseq) (ws ++ w ∷ [])) (g .vseq)
     next-list =
         ap (λ (p : ℕ). attach vs v p w) last
-        ∙ attach-last vs v w (λ n. omega (arith, count-map vn (filled (g .eseq) ws) (λ y. refl) n (g .vseq), wf .vorder n)) (ordered ilane (s .et) (endsAt (s .vt) v) (listIn vs v) fair-i (c .lists v real))
+        ∙ attach-last vs v w (λ n. omega (arith, count-map vn (filled (g .eseq) ws) (λ y. refl) n (g .vseq), wf .vorder n)) (ordered ilane (s .et) (endsAt (s .vt) v) (listIn vs v) valid-i (c .lists v real))
         ∙ append-filled (g .eseq) ws w (g .vseq)
 
     next-word : WCore g (wordS w s) (ws ++ w ∷ [])

@@ -11,7 +11,7 @@ use Rattle.lists.proofs.Picks.{is-yes, is-zero}
 use Rattle.lists.proofs.Places.{last-in, ins-last}
 use Rattle.ring.specs.declared.Lane.{Lane}
 use Rattle.ring.specs.declared.Ends.{Ends}
-use Rattle.ring.specs.Links.{Fair, Held}
+use Rattle.ring.specs.Links.{ValidLane, Held}
 use Rattle.ring.proofs.Counted.{ordered}
 use Rattle.graph.specs.declared.Reading.{Reading}
 use Rattle.graph.specs.Graph.{Vertex, Edge, Graph, vn, en, readingOf}
@@ -24,11 +24,11 @@ use Rattle.tables.specs.Tables.{State, st, vlane, elane, vends, eends, VIn, EIn
 use Rattle.tables.specs.Holds.{Core}
 use Rattle.tables.specs.Capacities.{Sized}
 use Rattle.tables.proofs.Keys.{keys-count, keys-last}
-use Rattle.tables.proofs.Frames.{fair-v, fair-e}
+use Rattle.tables.proofs.Frames.{valid-v, valid-e}
 use Rattle.tables.proofs.Callers.{vertex-in, edge-in}
 use Rattle.tables.proofs.VertexLaws.{can-put-vertex, core-insert-vertex}
 use Rattle.tables.proofs.EdgeLaws.{can-put-edge, core-place-edge}
-use Rattle.store.specs.Filling.{bare, vertexS, edgeS, CanLoad}
+use Rattle.store.specs.Filling.{withoutList, vertexS, edgeS, CanLoad}
 use Rattle.store.proofs.Cuts.{count-append, count-map, all-at, read, read-first, last-is}
 use Rattle.store.proofs.Parts.{given, most-vertices, most-edges, sized-by}
 use Rattle.store.proofs.Fills.{Fill, Turn, fill-room, fill-next}
@@ -50,9 +50,9 @@ module _ {A : Type 0} (key : A → ℕ) (u : List A) (x : A) (v whole : List A) 
   next-few = omega (arith, ap length q, length-append u (x ∷ v))
 
 -- the last of a list that is held
-module _ {A : Type 0} (key : A → ℕ) (lane : Lane) (t : List ℕ) (e : Ends) (l : List A) (fair : Fair lane) (h : Held lane t e (map key l)) where
+module _ {A : Type 0} (key : A → ℕ) (lane : Lane) (t : List ℕ) (e : Ends) (l : List A) (valid : ValidLane lane) (h : Held lane t e (map key l)) where
   order-once : Ordered key l
-  order-once n = omega (arith, ordered lane t e (map key l) fair h n, keys-count key n l)
+  order-once n = omega (arith, ordered lane t e (map key l) valid h n, keys-count key n l)
 
   order-last : e .last ≡ lastBy key 0 l
   order-last = last-is lane t e (map key l) h ∙ keys-last key 0 l
@@ -66,7 +66,7 @@ module _ {A : Type 0} (key : A → ℕ) (lane : Lane) (t : List ℕ) (e : Ends) 
 -- ---- vertices
 
 abbrev pub VCore : State → List Vertex → Type 0
-VCore s u = Core s (map bare u) []
+VCore s u = Core s (map withoutList u) []
 
 module _ (b : Bounds) (g : Graph) (wf : WellFormed g) (wi : Within b g) (few : length (g .vseq) ≤ 1000)
     (part : List ℕ) (s : State) (at : ℕ) (z : Sized b s) (t : Turn vertexRecord VCore (g .vseq) part s at) where
@@ -79,11 +79,11 @@ module _ (b : Bounds) (g : Graph) (wf : WellFormed g) (wi : Within b g) (few : l
   abbrev p : ℕ
   p = s .head .vlast
 
-  fits-v : Fits vn (map bare u) (x .number) p
+  fits-v : Fits vn (map withoutList u) (x .number) p
   fits-v = record {
     real = next-real vn u x (t .left) (g .vseq) (t .all) (wf .vorder);
-    fresh = count-map vn bare (λ y. refl) (x .number) u ∙ next-fresh vn u x (t .left) (g .vseq) (t .all) (wf .vorder);
-    after = order-there vn vlane (s .vt) (vends (s .head)) (map bare u) fair-v (t .core .vseq);
+    fresh = count-map vn withoutList (λ y. refl) (x .number) u ∙ next-fresh vn u x (t .left) (g .vseq) (t .all) (wf .vorder);
+    after = order-there vn vlane (s .vt) (vends (s .head)) (map withoutList u) valid-v (t .core .vseq);
   }
 
   row-v : VIn (s .vt) (x .number)
@@ -92,15 +92,15 @@ module _ (b : Bounds) (g : Graph) (wf : WellFormed g) (wi : Within b g) (few : l
   can-v : CanInsertVertex (x .number) p s
   can-v = record {
     row = row-v;
-    room = omega (arith, t .core .vertices, length-map u bare, next-few vn u x (t .left) (g .vseq) (t .all) (wf .vorder));
-    back = can-put-vertex (x .number) (x .type) (x .value) p s (map bare u) [] (t .core) fits-v row-v;
+    room = omega (arith, t .core .vertices, length-map u withoutList, next-few vn u x (t .left) (g .vseq) (t .all) (wf .vorder));
+    back = can-put-vertex (x .number) (x .type) (x .value) p s (map withoutList u) [] (t .core) fits-v row-v;
   }
 
-  core-v : Core (insertVertexS (x .number) (x .type) (x .value) p s) (map bare (u ++ x ∷ [])) []
+  core-v : Core (insertVertexS (x .number) (x .type) (x .value) p s) (map withoutList (u ++ x ∷ [])) []
   core-v =
       subst (λ (l : List Vertex). Core (insertVertexS (x .number) (x .type) (x .value) p s) l [])
-      (order-end vn vlane (s .vt) (vends (s .head)) (map bare u) fair-v (t .core .vseq) (bare x) ∙ sym (map-append bare u (x ∷ [])))
-      (core-insert-vertex (x .number) (x .type) (x .value) p s (map bare u) [] (t .core) fits-v row-v)
+      (order-end vn vlane (s .vt) (vends (s .head)) (map withoutList u) valid-v (t .core .vseq) (withoutList x) ∙ sym (map-append withoutList u (x ∷ [])))
+      (core-insert-vertex (x .number) (x .type) (x .value) p s (map withoutList u) [] (t .core) fits-v row-v)
 
   -- the words that are read are those of the vertex
   number-v : getD part at 0 ≡ x .number
@@ -112,7 +112,7 @@ module _ (b : Bounds) (g : Graph) (wf : WellFormed g) (wi : Within b g) (few : l
   next-vertex : VCore (vertexS part at s) (u ++ x ∷ [])
   unfolding vertexS
   next-vertex =
-      subst (λ (r : State). Core r (map bare (u ++ x ∷ [])) [])
+      subst (λ (r : State). Core r (map withoutList (u ++ x ∷ [])) [])
       (sym (λ i. insertVertexS (number-v i) (read part at 1 _ (t .words) i) (read part at 2 _ (t .words) i) p s)) core-v
 
 -- ---- edges
@@ -135,7 +135,7 @@ module _ (b : Bounds) (g : Graph) (wf : WellFormed g) (wi : Within b g) (few : l
   fits-e = record {
     real = next-real en w y (t .left) (g .eseq) (t .all) (wf .eorder);
     fresh = next-fresh en w y (t .left) (g .eseq) (t .all) (wf .eorder);
-    after = order-there en elane (s .et) (eends (s .head)) w fair-e (t .core .eseq);
+    after = order-there en elane (s .et) (eends (s .head)) w valid-e (t .core .eseq);
   }
 
   row-e : EIn (s .et) (y .number)
@@ -151,7 +151,7 @@ module _ (b : Bounds) (g : Graph) (wf : WellFormed g) (wi : Within b g) (few : l
   core-e : Core (placeEdgeS (y .number) (y .alpha) (y .omega) (y .type) (y .reading) e s) vs (w ++ y ∷ [])
   core-e =
       subst (λ (l : List Edge). Core (placeEdgeS (y .number) (y .alpha) (y .omega) (y .type) (y .reading) e s) vs l)
-      (order-end en elane (s .et) (eends (s .head)) w fair-e (t .core .eseq) y)
+      (order-end en elane (s .et) (eends (s .head)) w valid-e (t .core .eseq) y)
       (core-place-edge (y .number) (y .alpha) (y .omega) (y .type) (y .reading) e s vs w (t .core) fits-e row-e)
 
   number-e : getD part at 0 ≡ y .number

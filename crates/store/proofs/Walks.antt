@@ -9,8 +9,8 @@ use Rattle.lists.specs.Lists.{each}
 use Rattle.ring.specs.declared.Lane.{Lane}
 use Rattle.ring.specs.declared.Ends.{Ends}
 use Rattle.ring.specs.Lists.{Fresh, All}
-use Rattle.ring.specs.Links.{Fair, prv, nxt, Inside, linkOf, Chain, Held, nodesFrom, nodes}
-use Rattle.ring.proofs.Pigeon.{held-length}
+use Rattle.ring.specs.Links.{ValidLane, prv, nxt, Inside, linkOf, Chain, Held, nodesFrom, nodes}
+use Rattle.ring.proofs.Pigeonhole.{held-length}
 use Rattle.ring.proofs.Model.{nodes-chain, node-below, held-nodes}
 use Rattle.store.specs.Words.{Some}
 use Rattle.store.proofs.Stores.{sets-append}
@@ -40,9 +40,9 @@ pub record Writing (f : ℕ → List ℕ) (lane : Lane) (t : List ℕ) (e : Ends
   pub size : at + length (each f rest) ≡ at₀ + length (each f (nodes lane t e))
 
 module _ (f : ℕ → List ℕ) (lane : Lane) (t : List ℕ) (e : Ends) (out₀ : List ℕ) (at₀ : ℕ) where
-  pub writing-start : Fair lane → Some lane t e → (x : ℕ) → x ≡ linkOf nxt lane t e 0 → Writing f lane t e out₀ at₀ out₀ at₀ x
-  writing-start fair s x q =
-      let h : Held lane t e (nodes lane t e) = rw (held-nodes lane t e fair (s .0) (s .1)) (s .1) in
+  pub writing-start : ValidLane lane → Some lane t e → (x : ℕ) → x ≡ linkOf nxt lane t e 0 → Writing f lane t e out₀ at₀ out₀ at₀ x
+  writing-start valid s x q =
+      let h : Held lane t e (nodes lane t e) = rw (held-nodes lane t e valid (s .0) (s .1)) (s .1) in
       record {
         rest = nodes lane t e;
         on = record {
@@ -51,7 +51,7 @@ module _ (f : ℕ → List ℕ) (lane : Lane) (t : List ℕ) (e : Ends) (out₀ 
           chain = h .chain;
           real = h .distinct .0;
           inside = h .inside;
-          few = held-length lane t e (length t + lane .skip) (nodes lane t e) (λ y s i. node-below lane (length t) y fair s i) h;
+          few = held-length lane t e (length t + lane .skip) (nodes lane t e) (λ y s i. node-below lane (length t) y valid s i) h;
         };
         same = refl;
         size = refl;

@@ -13,8 +13,8 @@ use Rattle.tables.specs.Tables.{State, st, noHead, WIn, vlast, wthis, insertVer
 use Rattle.tables.specs.Capacities.{Sized}
 
 -- the vertex without a list; with the words of ws that are seen from it, in their order
-abbrev pub bare : Vertex → Vertex
-bare v = record { number = v .number; type = v .type; value = v .value; incidences = [] }
+abbrev pub withoutList : Vertex → Vertex
+withoutList v = record { number = v .number; type = v .type; value = v .value; incidences = [] }
 
 abbrev pub filled : List Edge → List ℕ → Vertex → Vertex
 filled es ws v = record { number = v .number; type = v .type; value = v .value; incidences = keep (λ w. thisIn es w == v .number) ws }

@@ -14,7 +14,7 @@ ghost use lib.ListN.{length, getD};
 ghost use Rattle.image.specs.Image.{load as loadOf};
 ghost use Rattle.tables.specs.Tables.{st, CanInsertVertex, CanPlaceEdge};
 ghost use Rattle.tables.specs.Holds.{Core};
-ghost use Rattle.store.specs.Filling.{bare, vertexS, edgeS, wordS, CanWord, CanLoad};
+ghost use Rattle.store.specs.Filling.{withoutList, vertexS, edgeS, wordS, CanWord, CanLoad};
 
 // Puts the vertex whose record stands at `at` last in Vseq, with an empty list.
 fn vertex(head: Head, part: &[u32], at: usize, vt: &mut [u32], et: &[u32]) -> Head
@@ -66,7 +66,7 @@ fn word(head: Head, vt: &mut [u32], et: &mut [u32], w: u32)
 // The vertices, into tables that hold nothing.
 pub fn vertices(head: Head, words: &[u32], vt: &mut [u32], et: &[u32]) -> Head
     requires { ⌜ CanLoad (now words) (now vt) (now et) × Core (st head (now vt) (now et)) [] [] ⌝ }
-    ensures { λ r. ⌜ Core (st r (now (vt .exit)) (now (et .entry))) (map bare (loadOf (now (words .entry)) .vseq)) [] ⌝ }
+    ensures { λ r. ⌜ Core (st r (now (vt .exit)) (now (et .entry))) (map withoutList (loadOf (now (words .entry)) .vseq)) [] ⌝ }
 {
     let part = image::part(words, 1);
     let mut h = head;
@@ -80,8 +80,8 @@ pub fn vertices(head: Head, words: &[u32], vt: &mut [u32], et: &[u32]) -> Head
 
 // The edges, behind the vertices.
 pub fn edges(head: Head, words: &[u32], vt: &[u32], et: &mut [u32]) -> Head
-    requires { ⌜ CanLoad (now words) (now vt) (now et) × Core (st head (now vt) (now et)) (map bare (loadOf (now words) .vseq)) [] ⌝ }
-    ensures { λ r. ⌜ Core (st r (now (vt .entry)) (now (et .exit))) (map bare (loadOf (now (words .entry)) .vseq)) (loadOf (now (words .entry)) .eseq) ⌝ }
+    requires { ⌜ CanLoad (now words) (now vt) (now et) × Core (st head (now vt) (now et)) (map withoutList (loadOf (now words) .vseq)) [] ⌝ }
+    ensures { λ r. ⌜ Core (st r (now (vt .entry)) (now (et .exit))) (map withoutList (loadOf (now (words .entry)) .vseq)) (loadOf (now (words .entry)) .eseq) ⌝ }
 {
     let part = image::part(words, 2);
     let mut h = head;
@@ -95,7 +95,7 @@ pub fn edges(head: Head, words: &[u32], vt: &[u32], et: &mut [u32]) -> Head
 
 // The lists, behind the edges: the words of a list stand in its order, and each is seen from its vertex.
 pub fn lists(head: Head, words: &[u32], vt: &mut [u32], et: &mut [u32])
-    requires { ⌜ CanLoad (now words) (now vt) (now et) × Core (st head (now vt) (now et)) (map bare (loadOf (now words) .vseq)) (loadOf (now words) .eseq) ⌝ }
+    requires { ⌜ CanLoad (now words) (now vt) (now et) × Core (st head (now vt) (now et)) (map withoutList (loadOf (now words) .vseq)) (loadOf (now words) .eseq) ⌝ }
     ensures { λ _. ⌜ Core (st head (now (vt .exit)) (now (et .exit))) (loadOf (now (words .entry)) .vseq) (loadOf (now (words .entry)) .eseq) ⌝ }
 {
     let part = image::part(words, 3);

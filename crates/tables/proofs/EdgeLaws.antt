@@ -21,11 +21,11 @@ use Rattle.graph.specs.WellFormed.{Ordered}
 use Rattle.graph.proofs.Orders.{find-kept, find-move, count-move}
 use Rattle.graph.proofs.Incidence.{this-out, this-into, Word, out-word, in-word, other-word, word?}
 use Rattle.tables.specs.Tables.{State, elane, eat, wat, EIn, eends, rowET, thisET, moveT, CanMove, setEdgeS, moveEdgeS, placeEdgeS, dropEdgeS, CanDropEdge}
-use Rattle.tables.specs.Holds.{ERow, ERows, Thises, Lists, Core}
+use Rattle.tables.specs.Holds.{ERow, ERows, ThisEntries, Lists, Core}
 use Rattle.ring.proofs.Counted.{can-rem, held-rem, can-ins, held-ins}
 use Rattle.tables.proofs.Keys.{keys-count, keys-upd, keys-rem, keys-ins, length-upd, length-ins, length-rem}
 use Rattle.tables.proofs.MoveLaws.{can-move, held-move, move-len, move-e, keys-move, keys-there, keys-after}
-use Rattle.tables.proofs.Frames.{fair-e, Keeps, EOrder, EData, EThis, ELinks, keep-eseq, keep-erows, keep-this, keep-lists, unlink-e, unlink-len, insert-e, insert-len, set-keeps, row-e, real}
+use Rattle.tables.proofs.Frames.{valid-e, Keeps, EOrder, EData, EThis, ELinks, keep-eseq, keep-erows, keep-this, keep-lists, unlink-e, unlink-len, insert-e, insert-len, set-keeps, row-e, real}
 
 -- ---- the four words of an edge
 
@@ -100,7 +100,7 @@ module _ (n a z : ℕ) (et : List ℕ) where
     unfolding thisET
     seen-other w r p q = getD-set-other (set et (wat 2 (2 * n)) a) (wat 2 (2 * n + 1)) (wat 2 w) z 0 (λ e. omega arith) ∙ getD-set-other et (wat 2 (2 * n)) (wat 2 w) a 0 (λ e. omega arith)
 
-    pub this-new : (es es′ : List Edge) → Thises et es → (edgeIn es′ n) .alpha ≡ a → (edgeIn es′ n) .omega ≡ z → ((u : ℕ) → n ≢ u → edgeIn es′ u ≡ edgeIn es u) → Thises (thisET n a z et) es′
+    pub this-new : (es es′ : List Edge) → ThisEntries et es → (edgeIn es′ n) .alpha ≡ a → (edgeIn es′ n) .omega ≡ z → ((u : ℕ) → n ≢ u → edgeIn es′ u ≡ edgeIn es u) → ThisEntries (thisET n a z et) es′
     this-new es es′ h ca cz oe w r = go (word? n w)
       where
         go : Word n w → getD (thisET n a z et) (wat 2 w) 0 ≡ thisIn es′ w
@@ -117,7 +117,7 @@ module _ (n t : ℕ) (r : Reading) (s : State) (vs : List Vertex) (es : List Edg
   set-found : edgeIn (upd en n (withEdge t r) es) n ≡ withEdge t r (edgeIn es n)
   set-found = find-upd en (withEdge t r) (λ y. refl) noEdge n es (omega arith)
 
-  set-this : (et : List ℕ) → Thises et es → Thises et (upd en n (withEdge t r) es)
+  set-this : (et : List ℕ) → ThisEntries et es → ThisEntries et (upd en n (withEdge t r) es)
   set-this et h w k = h w k ∙ sym (find-kept en noEdge (λ (x : Edge). pick (w % 2) 0 (x .alpha) (x .omega)) (withEdge t r) (w / 2) n es (λ y. refl) (λ y. refl))
 
   pub core-set-edge : Core (setEdgeS n t r s) vs (upd en n (withEdge t r) es)
@@ -136,7 +136,7 @@ module _ (n t : ℕ) (r : Reading) (s : State) (vs : List Vertex) (es : List Edg
         this = set-this et′ (keep-this (s .et) et′ (k EThis (λ z. omega (arith, set-row)) (λ z. omega (arith, set-row)) (λ z. omega (arith, set-row)) (λ z. omega (arith, set-row))) es (c .this));
         lists = keep-lists (s .vt) (s .vt) (s .et) et′ (λ i h. refl) (k ELinks (λ z. omega (arith, set-row)) (λ z. omega (arith, set-row)) (λ z. omega (arith, set-row)) (λ z. omega (arith, set-row)))
             (row-len n 1 t r (s .et)) vs (c .lists);
-        alone = c .alone;
+        disjoint = c .disjoint;
         vertices = c .vertices;
         edges = c .edges ∙ sym (length-upd en (withEdge t r) n es);
       }
@@ -145,10 +145,10 @@ module _ (n t : ℕ) (r : Reading) (s : State) (vs : List Vertex) (es : List Edg
 
 module _ (n p : ℕ) (s : State) (vs : List Vertex) (es : List Edge) (c : Core s vs es) (o : Ordered en es) (hn : countBy en n es ≡ 1) (hp : 1 ≤ is 0 p + countBy en p (rem en n es)) where
   num : 1 ≤ n
-  num = real en elane (s .et) (eends (s .head)) es fair-e (c .eseq) n (omega arith)
+  num = real en elane (s .et) (eends (s .head)) es valid-e (c .eseq) n (omega arith)
 
   pub can-move-edge : CanMove elane n p (s .et) (eends (s .head))
-  can-move-edge = can-move elane (s .et) (eends (s .head)) (map en es) fair-e (c .eseq) n p num (keys-there en noEdge n p es hn) (keys-after en noEdge n p es hn hp)
+  can-move-edge = can-move elane (s .et) (eends (s .head)) (map en es) valid-e (c .eseq) n p num (keys-there en noEdge n p es hn) (keys-after en noEdge n p es hn hp)
 
   abbrev moved : List Edge
   moved = ins en 0 p (edgeIn es n) (rem en n es)
@@ -166,7 +166,7 @@ module _ (n p : ℕ) (s : State) (vs : List Vertex) (es : List Edge) (c : Core s
         decimetres = w .decimetres ∙ ap (λ (x : Edge). decimetres (x .reading)) (sym (moved-found u));
       }
 
-  moved-this : (et : List ℕ) → Thises et es → Thises et moved
+  moved-this : (et : List ℕ) → ThisEntries et es → ThisEntries et moved
   moved-this et h w r = h w r ∙ ap (λ (x : Edge). pick (w % 2) 0 (x .alpha) (x .omega)) (sym (moved-found (w / 2)))
 
   pub core-move-edge : Core (moveEdgeS n p s) vs moved
@@ -176,12 +176,12 @@ module _ (n p : ℕ) (s : State) (vs : List Vertex) (es : List Edge) (c : Core s
       let et′ = moveT elane n p (s .et) e in
       record {
         vseq = c .vseq;
-        eseq = rw (keys-move en noEdge n p es hn) (held-move elane (s .et) e (map en es) fair-e (c .eseq) n p num (keys-there en noEdge n p es hn) (keys-after en noEdge n p es hn hp));
+        eseq = rw (keys-move en noEdge n p es hn) (held-move elane (s .et) e (map en es) valid-e (c .eseq) n p num (keys-there en noEdge n p es hn) (keys-after en noEdge n p es hn hp));
         vrows = c .vrows;
         erows = moved-rows et′ (keep-erows (s .et) et′ (λ i h. move-e n p (s .et) e i (omega arith)) es (c .erows));
         this = moved-this et′ (keep-this (s .et) et′ (λ i h. move-e n p (s .et) e i (omega arith)) es (c .this));
         lists = keep-lists (s .vt) (s .vt) (s .et) et′ (λ i h. refl) (λ i h. move-e n p (s .et) e i (omega arith)) (move-len n p (s .et) e elane) vs (c .lists);
-        alone = c .alone;
+        disjoint = c .disjoint;
         vertices = c .vertices;
         edges = omega (arith, c .edges, length-ins en 0 p (edgeIn es n) (rem en n es), length-rem en n es (omega arith));
       }
@@ -215,7 +215,7 @@ module _ (n live t : ℕ) (r : Reading) (a z : ℕ) (et t₁ : List ℕ) (i : EI
     full-rows h = keep-erows (rowET n live t r t₁) full (ends-keep n a z (rowET n live t r t₁) EData (λ x. omega arith) (λ x. omega arith)) es′
         (rows-new n live t r t₁ es es′ (keep-erows et t₁ (λ j q. keep j (omega arith)) es h) i c ct cr oc oe)
 
-    pub full-this : Thises et es → Thises full es′
+    pub full-this : ThisEntries et es → ThisEntries full es′
     full-this h = this-new n a z (rowET n live t r t₁) row-in es es′
         (keep-this t₁ (rowET n live t r t₁) (row-keep n live t r t₁ EThis (λ x. omega arith) (λ x. omega arith) (λ x. omega arith) (λ x. omega arith)) es
         (keep-this et t₁ (λ j q. keep j (omega arith)) es h)) ca cz oe
@@ -236,7 +236,7 @@ module _ (n a z t : ℕ) (r : Reading) (p : ℕ) (s : State) (vs : List Vertex) 
   after-key = rw (keys-count en p es) (f .after)
 
   pub can-put-edge : CanInsert elane (s .et) (eends (s .head)) p n
-  can-put-edge = can-ins elane (s .et) (eends (s .head)) (map en es) fair-e (c .eseq) p n (f .real) fresh-key in-row after-key
+  can-put-edge = can-ins elane (s .et) (eends (s .head)) (map en es) valid-e (c .eseq) p n (f .real) fresh-key in-row after-key
 
   new-found : edgeIn (ins en 0 p new es) n ≡ new
   new-found = find-ins en noEdge 0 p new es (f .fresh)
@@ -256,14 +256,14 @@ module _ (n a z t : ℕ) (r : Reading) (p : ℕ) (s : State) (vs : List Vertex) 
       record {
         vseq = c .vseq;
         eseq = rw (keys-ins en 0 p new es) (full-order n 1 t r a z (s .et) t₁ i₁ k l (insertE elane (s .et) e p n) (ins wd 0 p n (map en es))
-            (held-ins elane (s .et) e (map en es) fair-e (c .eseq) p n (f .real) fresh-key in-row after-key));
+            (held-ins elane (s .et) e (map en es) valid-e (c .eseq) p n (f .real) fresh-key in-row after-key));
         vrows = c .vrows;
         erows = full-rows n 1 t r a z (s .et) t₁ i₁ k l es es′ one (ap (λ (y : Edge). y .type) new-found) (ap (λ (y : Edge). y .reading) new-found)
             (ap (λ (y : Edge). y .alpha) new-found) (ap (λ (y : Edge). y .omega) new-found) oc oe (c .erows);
         this = full-this n 1 t r a z (s .et) t₁ i₁ k l es es′ one (ap (λ (y : Edge). y .type) new-found) (ap (λ (y : Edge). y .reading) new-found)
             (ap (λ (y : Edge). y .alpha) new-found) (ap (λ (y : Edge). y .omega) new-found) oc oe (c .this);
         lists = full-lists n 1 t r a z (s .et) t₁ i₁ k l (s .vt) vs (c .lists);
-        alone = c .alone;
+        disjoint = c .disjoint;
         vertices = c .vertices;
         edges = omega (arith, c .edges, length-ins en 0 p new es);
       }
@@ -281,7 +281,7 @@ module _ (n : ℕ) (s : State) (vs : List Vertex) (es : List Edge) (c : Core s v
   can-drop-edge = record {
     row = old-row;
     some = omega (arith, c .edges, length-rem en n es (omega arith));
-    out = can-rem elane (s .et) (eends (s .head)) (map en es) fair-e (c .eseq) n old-key;
+    out = can-rem elane (s .et) (eends (s .head)) (map en es) valid-e (c .eseq) n old-key;
   }
 
   old-found : edgeIn (rem en n es) n ≡ noEdge
@@ -301,14 +301,14 @@ module _ (n : ℕ) (s : State) (vs : List Vertex) (es : List Edge) (c : Core s v
       let no : countBy en n es′ ≡ 0 = omega (arith, count-rem en n n es, is-yes n n refl) in
       record {
         vseq = c .vseq;
-        eseq = rw (keys-rem en n es) (full-order n 0 0 Untested 0 0 (s .et) t₁ i₁ k l (unlinkE elane (s .et) e n) (rem wd n (map en es)) (held-rem elane (s .et) e (map en es) fair-e (c .eseq) n old-key));
+        eseq = rw (keys-rem en n es) (full-order n 0 0 Untested 0 0 (s .et) t₁ i₁ k l (unlinkE elane (s .et) e n) (rem wd n (map en es)) (held-rem elane (s .et) e (map en es) valid-e (c .eseq) n old-key));
         vrows = c .vrows;
         erows = full-rows n 0 0 Untested 0 0 (s .et) t₁ i₁ k l es es′ no (ap (λ (y : Edge). y .type) old-found) (ap (λ (y : Edge). y .reading) old-found)
             (ap (λ (y : Edge). y .alpha) old-found) (ap (λ (y : Edge). y .omega) old-found) oc oe (c .erows);
         this = full-this n 0 0 Untested 0 0 (s .et) t₁ i₁ k l es es′ no (ap (λ (y : Edge). y .type) old-found) (ap (λ (y : Edge). y .reading) old-found)
             (ap (λ (y : Edge). y .alpha) old-found) (ap (λ (y : Edge). y .omega) old-found) oc oe (c .this);
         lists = full-lists n 0 0 Untested 0 0 (s .et) t₁ i₁ k l (s .vt) vs (c .lists);
-        alone = c .alone;
+        disjoint = c .disjoint;
         vertices = c .vertices;
         edges = omega (arith, c .edges, length-rem en n es (omega arith));
       }

@@ -26,7 +26,7 @@ module _ (vt et : List ℕ) (zv : (i : ℕ) → getD vt i 0 ≡ 0) (ze : (i : �
       erows = λ e r. record { live = ze (eat 3 e); type = ze (eat 4 e); kind = ze (eat 5 e); decimetres = ze (eat 9 e) };
       this = λ w r. ze (wat 2 w) ∙ sym (pick-both _ _ 0);
       lists = λ v r. rw (no-ends v) (held-none ilane et);
-      alone = λ u v k n. omega arith;
+      disjoint = λ u v k n. omega arith;
       vertices = refl;
       edges = refl;
     };

@@ -1,6 +1,6 @@
 -- What a step leaves alone. The words of a table go by their place in a row: a step names the places that it keeps, and each part
 -- of what the tables hold names the places that it reads.
-use Prim.Native.Nat.{ℕ, zero, suc, _-_, _%_, _≤_, _<_}
+use Prim.Native.Nat.{ℕ, zero, suc, _%_, _≤_, _<_}
 use mathlib.Core.Path.{_≡_, refl, sym, _∙_}
 use mathlib.Core.Logic.{_≢_}
 use mathlib.Core.List.{List, [], _∷_, map}
@@ -9,7 +9,7 @@ use lib.ListN.{length, getD, set, length-set}
 use lib.Seq.{getD-set-same, getD-set-other}
 use Rattle.ring.specs.declared.Lane.{Lane}
 use Rattle.ring.specs.declared.Ends.{Ends}
-use Rattle.ring.specs.Links.{Fair, Side, prv, nxt, word, Starts, Inside, Held, unlinkT, insertT}
+use Rattle.ring.specs.Links.{ValidLane, Side, prv, nxt, word, Starts, Inside, Held, unlinkT, insertT}
 use Rattle.ring.specs.Lists.{Fresh}
 use Rattle.ring.proofs.Puts.{length-join}
 use Rattle.ring.proofs.Frames.{unlink-word, insert-word, held-agree}
@@ -17,18 +17,18 @@ use Rattle.lists.proofs.Picks.{is-no}
 use Rattle.lists.specs.Keyed.{countBy}
 use Rattle.graph.specs.Graph.{Vertex, Edge, vn, en, wd, listIn}
 use Rattle.tables.specs.Tables.{vlane, elane, ilane, vat, eat, wat, VIn, EIn, endsAt, putEnds}
-use Rattle.tables.specs.Holds.{VRows, ERows, Thises, Lists}
+use Rattle.tables.specs.Holds.{VRows, ERows, ThisEntries, Lists}
 use Rattle.ring.proofs.Counted.{inside-is}
 use Rattle.tables.proofs.Keys.{keys-count}
 
-pub fair-v : Fair vlane
-fair-v = record { two = omega arith; near = omega arith }
+pub valid-v : ValidLane vlane
+valid-v = record { two = omega arith; near = omega arith }
 
-pub fair-e : Fair elane
-fair-e = record { two = omega arith; near = omega arith }
+pub valid-e : ValidLane elane
+valid-e = record { two = omega arith; near = omega arith }
 
-pub fair-i : Fair ilane
-fair-i = record { two = omega arith; near = omega arith }
+pub valid-i : ValidLane ilane
+valid-i = record { two = omega arith; near = omega arith }
 
 -- t′ agrees with t at the places of P
 abbrev pub Keeps : (ℕ → Type 0) → List ℕ → List ℕ → Type 0
@@ -95,7 +95,7 @@ module _ (t t′ : List ℕ) where
         decimetres = k (eat 9 e) (omega arith, omega arith) ∙ o .decimetres;
       }
 
-  pub keep-this : Keeps EThis t t′ → (es : List Edge) → Thises t es → Thises t′ es
+  pub keep-this : Keeps EThis t t′ → (es : List Edge) → ThisEntries t es → ThisEntries t′ es
   keep-this k es h w r = k (wat 2 w) (omega arith) ∙ h w r
 
   pub keep-ends : Keeps VEnds t t′ → (v : ℕ) → 1 ≤ v → endsAt t′ v ≡ endsAt t v
@@ -179,7 +179,7 @@ count-fresh : (x : ℕ) (l : List ℕ) → Fresh x l → countBy wd x l ≡ 0
 count-fresh x [] h = refl
 count-fresh x (y ∷ l) h = omega (arith, count-fresh x l (h .1), is-no y x (λ q. h .0 (sym q)))
 
-module _ {A : Type 0} (key : A → ℕ) (lane : Lane) (t : List ℕ) (e : Ends) (xs : List A) (fair : Fair lane) (h : Held lane t e (map key xs)) (n : ℕ) (c : 1 ≤ countBy key n xs) where
+module _ {A : Type 0} (key : A → ℕ) (lane : Lane) (t : List ℕ) (e : Ends) (xs : List A) (valid : ValidLane lane) (h : Held lane t e (map key xs)) (n : ℕ) (c : 1 ≤ countBy key n xs) where
   pub real : 1 ≤ n
   real = nonzero n (keys-count key n xs)
     where
@@ -188,14 +188,14 @@ module _ {A : Type 0} (key : A → ℕ) (lane : Lane) (t : List ℕ) (e : Ends) 
       nonzero (suc m) q = omega arith
 
   pub in-lane : Inside lane (length t) n
-  in-lane = inside-is lane t e (map key xs) fair h n (omega (arith, keys-count key n xs))
+  in-lane = inside-is lane t e (map key xs) valid h n (omega (arith, keys-count key n xs))
 
 pub row-v : (vt : List ℕ) (e : Ends) (vs : List Vertex) → Held vlane vt e (map vn vs) → (v : ℕ) → 1 ≤ countBy vn v vs → VIn vt v
 row-v vt e vs h v c =
-    let r = real vn vlane vt e vs fair-v h v c in
-    (r, omega (arith, in-lane vn vlane vt e vs fair-v h v c (λ q. omega arith)))
+    let r = real vn vlane vt e vs valid-v h v c in
+    (r, omega (arith, in-lane vn vlane vt e vs valid-v h v c (λ q. omega arith)))
 
 pub row-e : (et : List ℕ) (e : Ends) (es : List Edge) → Held elane et e (map en es) → (n : ℕ) → 1 ≤ countBy en n es → EIn et n
 row-e et e es h n c =
-    let r = real en elane et e es fair-e h n c in
-    (r, omega (arith, in-lane en elane et e es fair-e h n c (λ q. omega arith)))
+    let r = real en elane et e es valid-e h n c in
+    (r, omega (arith, in-lane en elane et e es valid-e h n c (λ q. omega arith)))

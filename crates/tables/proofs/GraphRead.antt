@@ -1,5 +1,5 @@
 -- The graph that the tables hold is the one that is read off them.
-use Prim.Native.Nat.{ℕ, _-_, _≤_}
+use Prim.Native.Nat.{ℕ, _≤_}
 use mathlib.Core.Path.{_≡_, refl, sym, ap, _∙_}
 use mathlib.Core.List.{List, [], _∷_, map}
 use native.Mathlib.Omega.{arith}
@@ -8,13 +8,13 @@ use Rattle.ring.specs.Links.{nodes}
 use Rattle.ring.proofs.Model.{held-nodes}
 use Rattle.lists.proofs.Picks.{pick-no, pick-self, is-yes, is-zero}
 use Rattle.lists.specs.Keyed.{countBy, find}
-use Rattle.graph.specs.Graph.{Graph, vn, en, noVertex, noEdge, outWord, inWord, vertexIn, edgeIn, listIn, decimetres, readingOf}
+use Rattle.graph.specs.Graph.{Graph, vn, en, noVertex, noEdge, outWord, inWord, vertexIn, edgeIn, listIn, readingOf}
 use Rattle.graph.proofs.Orders.{key-find}
 use Rattle.graph.proofs.Incidence.{this-out, this-into}
 use Rattle.tables.specs.Tables.{State, vlane, elane, ilane, vends, eends, endsAt, eat}
 use Rattle.tables.specs.Holds.{Holds}
 use Rattle.tables.specs.Read.{vertexAt, edgeAt, graphOf}
-use Rattle.tables.proofs.Frames.{fair-v, fair-e, fair-i, row-v, row-e}
+use Rattle.tables.proofs.Frames.{valid-v, valid-e, valid-i, row-v, row-e}
 use Rattle.graph.proofs.Readings.{reading-back}
 
 -- a function of the key that gives each element gives the list
@@ -37,7 +37,7 @@ module _ (s : State) (g : Graph) (h : Holds s g) where
         number = sym (key-find vn noVertex v (g .vseq) c) i;
         type = o .type i;
         value = o .value i;
-        incidences = held-nodes ilane (s .et) (endsAt (s .vt) v) fair-i (listIn (g .vseq) v) (h .core .lists v (r .0)) i;
+        incidences = held-nodes ilane (s .et) (endsAt (s .vt) v) valid-i (listIn (g .vseq) v) (h .core .lists v (r .0)) i;
       }
 
   read-edge : (e : ℕ) → 1 ≤ countBy en e (g .eseq) → edgeAt s e ≡ edgeIn (g .eseq) e
@@ -56,8 +56,8 @@ module _ (s : State) (g : Graph) (h : Holds s g) where
   pub graph-is : graphOf s ≡ g
   unfolding graphOf
   graph-is =
-      let v : nodes vlane (s .vt) (vends (s .head)) ≡ map vn (g .vseq) = held-nodes vlane (s .vt) (vends (s .head)) fair-v (map vn (g .vseq)) (h .core .vseq) in
-      let e : nodes elane (s .et) (eends (s .head)) ≡ map en (g .eseq) = held-nodes elane (s .et) (eends (s .head)) fair-e (map en (g .eseq)) (h .core .eseq) in
+      let v : nodes vlane (s .vt) (vends (s .head)) ≡ map vn (g .vseq) = held-nodes vlane (s .vt) (vends (s .head)) valid-v (map vn (g .vseq)) (h .core .vseq) in
+      let e : nodes elane (s .et) (eends (s .head)) ≡ map en (g .eseq) = held-nodes elane (s .et) (eends (s .head)) valid-e (map en (g .eseq)) (h .core .eseq) in
       let vs : map (vertexAt s) (map vn (g .vseq)) ≡ g .vseq = list-of vn noVertex (vertexAt s) (g .vseq) (λ n. omega (arith, h .sound .vorder n)) read-vertex in
       let es : map (edgeAt s) (map en (g .eseq)) ≡ g .eseq = list-of en noEdge (edgeAt s) (g .eseq) (λ n. omega (arith, h .sound .eorder n)) read-edge in
       λ i. record { vseq = (ap (map (vertexAt s)) v ∙ vs) i; eseq = (ap (map (edgeAt s)) e ∙ es) i }

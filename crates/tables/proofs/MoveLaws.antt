@@ -1,12 +1,12 @@
 -- A node of a held list taken out and put in elsewhere.
-use Prim.Native.Nat.{ℕ, _+_, _-_, _%_, _≤_, _<_}
+use Prim.Native.Nat.{ℕ, _+_, _%_, _≤_, _<_}
 use mathlib.Core.Path.{_≡_, refl, _∙_}
 use mathlib.Core.List.{List, map}
 use native.Mathlib.Omega.{arith}
 use lib.ListN.{length}
 use Rattle.ring.specs.declared.Lane.{Lane}
 use Rattle.ring.specs.declared.Ends.{Ends}
-use Rattle.ring.specs.Links.{Fair, Inside, Held, unlinkT, unlinkE}
+use Rattle.ring.specs.Links.{ValidLane, Inside, Held, unlinkT, unlinkE}
 use Rattle.lists.specs.Choice.{is}
 use Rattle.lists.proofs.Picks.{is-yes}
 use Rattle.lists.specs.Keyed.{countBy, ins, rem, find}
@@ -18,26 +18,26 @@ use Rattle.ring.proofs.Counted.{inside-is, can-rem, held-rem, can-ins, held-ins
 use Rattle.tables.proofs.Keys.{keys-count, keys-rem, keys-ins}
 use Rattle.tables.proofs.Frames.{Keeps, unlink-v, unlink-e, unlink-len, insert-v, insert-e, insert-len}
 
-module _ (lane : Lane) (t : List ℕ) (e : Ends) (l : List ℕ) (fair : Fair lane) (h : Held lane t e l) (n p : ℕ) (r : 1 ≤ n)
+module _ (lane : Lane) (t : List ℕ) (e : Ends) (l : List ℕ) (valid : ValidLane lane) (h : Held lane t e l) (n p : ℕ) (r : 1 ≤ n)
     (c : countBy wd n l ≡ 1) (a : 1 ≤ is 0 p + countBy wd p (rem wd n l)) where
   taken : Held lane (unlinkT lane t e n) (unlinkE lane t e n) (rem wd n l)
-  taken = held-rem lane t e l fair h n (omega arith)
+  taken = held-rem lane t e l valid h n (omega arith)
 
   gone : countBy wd n (rem wd n l) ≡ 0
   gone = omega (arith, count-rem wd n n l, is-yes n n refl)
 
   inside : Inside lane (length (unlinkT lane t e n)) n
-  inside = rw (unlink-len t e n lane) (inside-is lane t e l fair h n (omega arith))
+  inside = rw (unlink-len t e n lane) (inside-is lane t e l valid h n (omega arith))
 
   pub can-move : CanMove lane n p t e
   can-move = record {
-    out = can-rem lane t e l fair h n (omega arith);
-    back = can-ins lane (unlinkT lane t e n) (unlinkE lane t e n) (rem wd n l) fair taken p n r gone inside a;
+    out = can-rem lane t e l valid h n (omega arith);
+    back = can-ins lane (unlinkT lane t e n) (unlinkE lane t e n) (rem wd n l) valid taken p n r gone inside a;
   }
 
   pub held-move : Held lane (moveT lane n p t e) (moveE lane n p t e) (ins wd 0 p n (rem wd n l))
   unfolding moveT moveE
-  held-move = held-ins lane (unlinkT lane t e n) (unlinkE lane t e n) (rem wd n l) fair taken p n r gone inside a
+  held-move = held-ins lane (unlinkT lane t e n) (unlinkE lane t e n) (rem wd n l) valid taken p n r gone inside a
 
 module _ (n p : ℕ) (t : List ℕ) (e : Ends) where
   pub move-len : (lane : Lane) → length (moveT lane n p t e) ≡ length t

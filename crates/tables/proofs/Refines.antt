@@ -1,10 +1,10 @@
 -- Each edit: where it applies to the graph that the tables hold, the tables can take it, and hold the changed graph after it.
-use Prim.Native.Nat.{ℕ, _-_, _/_, _^_, _≤_, _<_}
+use Prim.Native.Nat.{ℕ, _/_, _^_, _≤_, _<_}
 use mathlib.Core.Path.{_≡_, refl, ap, _∙_}
 use mathlib.Core.List.{List, [], _∷_, map}
 use native.Mathlib.Omega.{arith}
 use lib.ListN.{length}
-use Rattle.ring.proofs.Pigeon.{held-length}
+use Rattle.ring.proofs.Pigeonhole.{held-length}
 use Rattle.graph.specs.declared.Reading.{Reading}
 use Rattle.lists.proofs.Picks.{is-yes}
 use Rattle.lists.specs.Keyed.{countBy, ins, rem, upd}

@@ -1,5 +1,5 @@
 -- No edit changes the length of a table.
-use Prim.Native.Nat.{ℕ, _+_, _-_, _*_}
+use Prim.Native.Nat.{ℕ, _+_, _*_}
 use mathlib.Core.Path.{_≡_, refl, _∙_}
 use lib.ListN.{length, length-set}
 use Rattle.graph.specs.declared.Reading.{Reading}

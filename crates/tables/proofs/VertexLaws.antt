@@ -18,11 +18,11 @@ use Rattle.graph.specs.WellFormed.{Ordered}
 use Rattle.graph.proofs.Orders.{find-kept, find-move, count-move}
 use Rattle.graph.proofs.Incidence.{list-ins, list-rem}
 use Rattle.tables.specs.Tables.{State, vlane, vat, VIn, vends, rowVT, moveT, CanMove, setVertexS, moveVertexS, insertVertexS, removeVertexS, CanRemoveVertex}
-use Rattle.tables.specs.Holds.{VRows, Lists, Alone, Core}
+use Rattle.tables.specs.Holds.{VRows, Lists, DisjointLists, Core}
 use Rattle.ring.proofs.Counted.{can-rem, held-rem, can-ins, held-ins}
 use Rattle.tables.proofs.Keys.{keys-count, keys-upd, keys-rem, keys-ins, length-upd, length-ins, length-rem}
 use Rattle.tables.proofs.MoveLaws.{can-move, held-move, move-v, keys-move, keys-there, keys-after}
-use Rattle.tables.proofs.Frames.{fair-v, Keeps, VOrder, VEnds, keep-vseq, keep-vrows, keep-lists, unlink-v, unlink-len, insert-v, insert-len, set-keeps, row-v, real}
+use Rattle.tables.proofs.Frames.{valid-v, Keeps, VOrder, VEnds, keep-vseq, keep-vrows, keep-lists, unlink-v, unlink-len, insert-v, insert-len, set-keeps, row-v, real}
 
 -- ---- the three words of a row
 
@@ -76,8 +76,8 @@ module _ (n live t x : ℕ) (vt : List ℕ) (vs vs′ : List Vertex) (h : VRows 
 pub same-lists : (vt et : List ℕ) (vs vs′ : List Vertex) → ((u : ℕ) → listIn vs′ u ≡ listIn vs u) → Lists vt et vs → Lists vt et vs′
 same-lists vt et vs vs′ q h u r = rw (q u) (h u r)
 
-pub same-alone : (vs vs′ : List Vertex) → ((u : ℕ) → listIn vs′ u ≡ listIn vs u) → Alone vs → Alone vs′
-same-alone vs vs′ q h u v k n = rw (q u, q v) (h u v k n)
+pub same-disjoint : (vs vs′ : List Vertex) → ((u : ℕ) → listIn vs′ u ≡ listIn vs u) → DisjointLists vs → DisjointLists vs′
+same-disjoint vs vs′ q h u v k n = rw (q u, q v) (h u v k n)
 
 -- ---- type and value
 
@@ -106,7 +106,7 @@ module _ (n t x : ℕ) (s : State) (vs : List Vertex) (es : List Edge) (c : Core
         this = c .this;
         lists = same-lists vt′ (s .et) vs (upd vn n (withVertex t x) vs) set-list
             (keep-lists (s .vt) vt′ (s .et) (s .et) (row-keep n 1 t x (s .vt) VEnds (λ z. omega (arith, set-row)) (λ z. omega (arith, set-row)) (λ z. omega (arith, set-row))) (λ i h. refl) refl vs (c .lists));
-        alone = same-alone vs (upd vn n (withVertex t x) vs) set-list (c .alone);
+        disjoint = same-disjoint vs (upd vn n (withVertex t x) vs) set-list (c .disjoint);
         vertices = c .vertices ∙ sym (length-upd vn (withVertex t x) n vs);
         edges = c .edges;
       }
@@ -115,10 +115,10 @@ module _ (n t x : ℕ) (s : State) (vs : List Vertex) (es : List Edge) (c : Core
 
 module _ (n p : ℕ) (s : State) (vs : List Vertex) (es : List Edge) (c : Core s vs es) (o : Ordered vn vs) (hn : countBy vn n vs ≡ 1) (hp : 1 ≤ is 0 p + countBy vn p (rem vn n vs)) where
   num : 1 ≤ n
-  num = real vn vlane (s .vt) (vends (s .head)) vs fair-v (c .vseq) n (omega arith)
+  num = real vn vlane (s .vt) (vends (s .head)) vs valid-v (c .vseq) n (omega arith)
 
   pub can-move-vertex : CanMove vlane n p (s .vt) (vends (s .head))
-  can-move-vertex = can-move vlane (s .vt) (vends (s .head)) (map vn vs) fair-v (c .vseq) n p num (keys-there vn noVertex n p vs hn) (keys-after vn noVertex n p vs hn hp)
+  can-move-vertex = can-move vlane (s .vt) (vends (s .head)) (map vn vs) valid-v (c .vseq) n p num (keys-there vn noVertex n p vs hn) (keys-after vn noVertex n p vs hn hp)
 
   abbrev moved : List Vertex
   moved = ins vn 0 p (vertexIn vs n) (rem vn n vs)
@@ -144,13 +144,13 @@ module _ (n p : ℕ) (s : State) (vs : List Vertex) (es : List Edge) (c : Core s
       let e = vends (s .head) in
       let vt′ = moveT vlane n p (s .vt) e in
       record {
-        vseq = rw (keys-move vn noVertex n p vs hn) (held-move vlane (s .vt) e (map vn vs) fair-v (c .vseq) n p num (keys-there vn noVertex n p vs hn) (keys-after vn noVertex n p vs hn hp));
+        vseq = rw (keys-move vn noVertex n p vs hn) (held-move vlane (s .vt) e (map vn vs) valid-v (c .vseq) n p num (keys-there vn noVertex n p vs hn) (keys-after vn noVertex n p vs hn hp));
         eseq = c .eseq;
         vrows = moved-rows vt′ (keep-vrows (s .vt) vt′ (λ i h. move-v n p (s .vt) e i (omega arith)) vs (c .vrows));
         erows = c .erows;
         this = c .this;
         lists = same-lists vt′ (s .et) vs moved moved-list (keep-lists (s .vt) vt′ (s .et) (s .et) (λ i h. move-v n p (s .vt) e i (omega arith)) (λ i h. refl) refl vs (c .lists));
-        alone = same-alone vs moved moved-list (c .alone);
+        disjoint = same-disjoint vs moved moved-list (c .disjoint);
         vertices = omega (arith, c .vertices, length-ins vn 0 p (vertexIn vs n) (rem vn n vs), length-rem vn n vs (omega arith));
         edges = c .edges;
       }
@@ -171,7 +171,7 @@ module _ (n t x p : ℕ) (s : State) (vs : List Vertex) (es : List Edge) (c : Co
   after-key = rw (keys-count vn p vs) (f .after)
 
   pub can-put-vertex : CanInsert vlane (s .vt) (vends (s .head)) p n
-  can-put-vertex = can-ins vlane (s .vt) (vends (s .head)) (map vn vs) fair-v (c .vseq) p n (f .real) fresh-key in-row after-key
+  can-put-vertex = can-ins vlane (s .vt) (vends (s .head)) (map vn vs) valid-v (c .vseq) p n (f .real) fresh-key in-row after-key
 
   new-found : vertexIn (ins vn 0 p new vs) n ≡ new
   new-found = find-ins vn noVertex 0 p new vs (f .fresh)
@@ -187,7 +187,7 @@ module _ (n t x p : ℕ) (s : State) (vs : List Vertex) (es : List Edge) (c : Co
       let i₁ : VIn t₁ n = (i .0, rw (insert-len (s .vt) e n vlane p) (i .1)) in
       record {
         vseq = rw (keys-ins vn 0 p new vs) (keep-vseq t₁ (rowVT n 1 t x t₁) (row-keep n 1 t x t₁ VOrder (λ z. omega arith) (λ z. omega arith) (λ z. omega arith)) (row-len n 1 t x t₁)
-            (insertE vlane (s .vt) e p n) (ins wd 0 p n (map vn vs)) (held-ins vlane (s .vt) e (map vn vs) fair-v (c .vseq) p n (f .real) fresh-key in-row after-key));
+            (insertE vlane (s .vt) e p n) (ins wd 0 p n (map vn vs)) (held-ins vlane (s .vt) e (map vn vs) valid-v (c .vseq) p n (f .real) fresh-key in-row after-key));
         eseq = c .eseq;
         vrows = rows-new n 1 t x t₁ vs (ins vn 0 p new vs) (keep-vrows (s .vt) t₁ (λ j h. insert-v (s .vt) e n p j (omega arith)) vs (c .vrows)) i₁
             (omega (arith, count-ins vn n 0 p new vs, is-yes n n refl, f .fresh)) (ap (λ (y : Vertex). y .type) new-found) (ap (λ (y : Vertex). y .value) new-found)
@@ -196,7 +196,7 @@ module _ (n t x p : ℕ) (s : State) (vs : List Vertex) (es : List Edge) (c : Co
         this = c .this;
         lists = same-lists (rowVT n 1 t x t₁) (s .et) vs (ins vn 0 p new vs) new-list (keep-lists (s .vt) (rowVT n 1 t x t₁) (s .et) (s .et)
             (λ j h. row-keep n 1 t x t₁ VEnds (λ z. omega arith) (λ z. omega arith) (λ z. omega arith) j h ∙ insert-v (s .vt) e n p j (omega arith)) (λ j h. refl) refl vs (c .lists));
-        alone = same-alone vs (ins vn 0 p new vs) new-list (c .alone);
+        disjoint = same-disjoint vs (ins vn 0 p new vs) new-list (c .disjoint);
         vertices = omega (arith, c .vertices, length-ins vn 0 p new vs);
         edges = c .edges;
       }
@@ -214,7 +214,7 @@ module _ (n : ℕ) (s : State) (vs : List Vertex) (es : List Edge) (c : Core s v
   can-remove-vertex = record {
     row = old-row;
     some = omega (arith, c .vertices, length-rem vn n vs (omega arith));
-    out = can-rem vlane (s .vt) (vends (s .head)) (map vn vs) fair-v (c .vseq) n old-key;
+    out = can-rem vlane (s .vt) (vends (s .head)) (map vn vs) valid-v (c .vseq) n old-key;
   }
 
   old-found : vertexIn (rem vn n vs) n ≡ noVertex
@@ -231,7 +231,7 @@ module _ (n : ℕ) (s : State) (vs : List Vertex) (es : List Edge) (c : Core s v
       let i₁ : VIn t₁ n = (old-row .0, rw (unlink-len (s .vt) e n vlane) (old-row .1)) in
       record {
         vseq = rw (keys-rem vn n vs) (keep-vseq t₁ (rowVT n 0 0 0 t₁) (row-keep n 0 0 0 t₁ VOrder (λ z. omega arith) (λ z. omega arith) (λ z. omega arith)) (row-len n 0 0 0 t₁)
-            (unlinkE vlane (s .vt) e n) (rem wd n (map vn vs)) (held-rem vlane (s .vt) e (map vn vs) fair-v (c .vseq) n old-key));
+            (unlinkE vlane (s .vt) e n) (rem wd n (map vn vs)) (held-rem vlane (s .vt) e (map vn vs) valid-v (c .vseq) n old-key));
         eseq = c .eseq;
         vrows = rows-new n 0 0 0 t₁ vs (rem vn n vs) (keep-vrows (s .vt) t₁ (λ j h. unlink-v (s .vt) e n j (omega arith)) vs (c .vrows)) i₁
             (omega (arith, count-rem vn n n vs, is-yes n n refl)) (ap (λ (y : Vertex). y .type) old-found) (ap (λ (y : Vertex). y .value) old-found)
@@ -240,7 +240,7 @@ module _ (n : ℕ) (s : State) (vs : List Vertex) (es : List Edge) (c : Core s v
         this = c .this;
         lists = same-lists (rowVT n 0 0 0 t₁) (s .et) vs (rem vn n vs) old-list (keep-lists (s .vt) (rowVT n 0 0 0 t₁) (s .et) (s .et)
             (λ j h. row-keep n 0 0 0 t₁ VEnds (λ z. omega arith) (λ z. omega arith) (λ z. omega arith) j h ∙ unlink-v (s .vt) e n j (omega arith)) (λ j h. refl) refl vs (c .lists));
-        alone = same-alone vs (rem vn n vs) old-list (c .alone);
+        disjoint = same-disjoint vs (rem vn n vs) old-list (c .disjoint);
         vertices = omega (arith, c .vertices, length-rem vn n vs (omega arith));
         edges = c .edges;
       }

@@ -1,5 +1,5 @@
 -- A word taken out of a list, put into one, and seen from another vertex: what the tables then hold.
-use Prim.Native.Nat.{ℕ, _+_, _-_, _/_, _%_, _≤_}
+use Prim.Native.Nat.{ℕ, _+_, _/_, _%_, _≤_}
 use mathlib.Core.Path.{_≡_, refl, sym, _∙_}
 use mathlib.Core.Logic.{_≢_}
 use mathlib.Core.List.{List, map}
@@ -19,10 +19,10 @@ use Rattle.graph.specs.Edits.{attach}
 use Rattle.graph.proofs.Incidence.{list-upd, count-list, this-set, this-other}
 use Rattle.graph.proofs.Orders.{find-kept}
 use Rattle.tables.specs.Tables.{State, st, ilane, wat, VIn, WIn, vends, eends, endsAt, putEnds, detachS, CanDetach, attachS, CanAttach, setThisS}
-use Rattle.tables.specs.Holds.{VRows, ERows, Thises, Alone, Core}
+use Rattle.tables.specs.Holds.{VRows, ERows, ThisEntries, DisjointLists, Core}
 use Rattle.ring.proofs.Counted.{can-rem, held-rem, can-ins, held-ins, frame-rem, frame-ins}
 use Rattle.tables.proofs.Keys.{keys-upd, length-upd}
-use Rattle.tables.proofs.Frames.{fair-i, Keeps, VOrder, VData, EOrder, EData, ELinks, keep-vseq, keep-eseq, keep-vrows, keep-erows, keep-this, keep-lists, unlink-i, unlink-len, insert-i, insert-len, set-keeps, ends-len, ends-keep, ends-same, ends-other, row-v}
+use Rattle.tables.proofs.Frames.{valid-i, Keeps, VOrder, VData, EOrder, EData, ELinks, keep-vseq, keep-eseq, keep-vrows, keep-erows, keep-this, keep-lists, unlink-i, unlink-len, insert-i, insert-len, set-keeps, ends-len, ends-keep, ends-same, ends-other, row-v}
 
 held-by : (lane : Lane) (t : List ℕ) {e e′ : Ends} {l l′ : List ℕ} → e′ ≡ e → l′ ≡ l → Held lane t e l → Held lane t e′ l′
 held-by lane t p q h = rw (p, q) h
@@ -33,7 +33,7 @@ module _ (v : ℕ) (f : List ℕ → List ℕ) (s : State) (vs : List Vertex) (e
     (et′ : List ℕ) (e′ : Ends) (keep : Keeps (λ i. 2 ≤ i % 6) (s .et) et′) (len : length et′ ≡ length (s .et))
     (here : Held ilane et′ e′ (f (listIn vs v)))
     (there : (u : ℕ) → 1 ≤ u → v ≢ u → Held ilane et′ (endsAt (s .vt) u) (listIn vs u))
-    (alone : (u k : ℕ) → v ≢ u → countBy wd k (f (listIn vs v)) + countBy wd k (listIn vs u) ≤ 1) where
+    (disjoint : (u k : ℕ) → v ≢ u → countBy wd k (f (listIn vs v)) + countBy wd k (listIn vs u) ≤ 1) where
   row : VIn (s .vt) v
   row = row-v (s .vt) (vends (s .head)) vs (c .vseq) v (omega arith)
 
@@ -49,14 +49,14 @@ module _ (v : ℕ) (f : List ℕ → List ℕ) (s : State) (vs : List Vertex) (e
     | differ p q ↦ held-by ilane et′ (ends-other v e′ (s .vt) u (row .0) r p) (list-there u p) (there u r p)
   ]
 
-  new-alone : Alone (upd vn v (onList f) vs)
-  new-alone a b k n = elim (same? v a) [
+  new-disjoint : DisjointLists (upd vn v (onList f) vs)
+  new-disjoint a b k n = elim (same? v a) [
     | same p q ↦
         let m : v ≢ b = λ z. n (q ∙ z) in
-        rw (q, list-here, list-there b m) (alone b k m)
+        rw (q, list-here, list-there b m) (disjoint b k m)
     | differ p q ↦ elim (same? v b) [
-      | same i j ↦ rw (j, list-here, list-there a p) (omega (arith, alone a k p))
-      | differ i j ↦ rw (list-there a p, list-there b i) (c .alone a b k n)
+      | same i j ↦ rw (j, list-here, list-there a p) (omega (arith, disjoint a k p))
+      | differ i j ↦ rw (list-there a p, list-there b i) (c .disjoint a b k n)
     ]
   ]
 
@@ -78,7 +78,7 @@ module _ (v : ℕ) (f : List ℕ → List ℕ) (s : State) (vs : List Vertex) (e
     erows = keep-erows (s .et) et′ (λ i h. keep i (omega arith)) es (c .erows);
     this = keep-this (s .et) et′ (λ i h. keep i (omega arith)) es (c .this);
     lists = new-lists;
-    alone = new-alone;
+    disjoint = new-disjoint;
     vertices = c .vertices ∙ sym (length-upd vn (onList f) v vs);
     edges = c .edges;
   }
@@ -90,7 +90,7 @@ module _ (v w : ℕ) (s : State) (vs : List Vertex) (es : List Edge) (c : Core s
   here = row-v (s .vt) (vends (s .head)) vs (c .vseq) v (omega arith)
 
   pub can-detach : CanDetach v w s
-  can-detach = record { row = here; out = can-rem ilane (s .et) (endsAt (s .vt) v) (listIn vs v) fair-i (c .lists v (here .0)) w hw }
+  can-detach = record { row = here; out = can-rem ilane (s .et) (endsAt (s .vt) v) (listIn vs v) valid-i (c .lists v (here .0)) w hw }
 
   pub core-detach : Core (detachS v w s) (detach vs v w) es
   unfolding detachS
@@ -99,9 +99,9 @@ module _ (v w : ℕ) (s : State) (vs : List Vertex) (es : List Edge) (c : Core s
       let e = endsAt (s .vt) v in
       let l = listIn vs v in
       core-list v (rem wd w) s vs es c hv (unlinkT ilane (s .et) e w) (unlinkE ilane (s .et) e w) (unlink-i (s .et) e w) (unlink-len (s .et) e w ilane)
-      (held-rem ilane (s .et) e l fair-i h w hw)
-      (λ u r n. frame-rem ilane (s .et) e l fair-i h (endsAt (s .vt) u) (listIn vs u) (c .lists u r) (λ k. c .alone v u k n) w hw)
-      (λ u k n. omega (arith, c .alone v u k n, count-rem wd k w l))
+      (held-rem ilane (s .et) e l valid-i h w hw)
+      (λ u r n. frame-rem ilane (s .et) e l valid-i h (endsAt (s .vt) u) (listIn vs u) (c .lists u r) (λ k. c .disjoint v u k n) w hw)
+      (λ u k n. omega (arith, c .disjoint v u k n, count-rem wd k w l))
 
 -- ---- in
 
@@ -114,7 +114,7 @@ module _ (v p w : ℕ) (s : State) (vs : List Vertex) (es : List Edge) (c : Core
   inside z = (omega arith, omega arith)
 
   pub can-attach : CanAttach v p w s
-  can-attach = record { row = place; back = can-ins ilane (s .et) (endsAt (s .vt) v) (listIn vs v) fair-i (c .lists v (place .0)) p w (omega arith) (hw v) inside hp }
+  can-attach = record { row = place; back = can-ins ilane (s .et) (endsAt (s .vt) v) (listIn vs v) valid-i (c .lists v (place .0)) p w (omega arith) (hw v) inside hp }
 
   pub core-attach : Core (attachS v p w s) (attach vs v p w) es
   unfolding attachS
@@ -123,17 +123,17 @@ module _ (v p w : ℕ) (s : State) (vs : List Vertex) (es : List Edge) (c : Core
       let e = endsAt (s .vt) v in
       let l = listIn vs v in
       core-list v (ins wd 0 p w) s vs es c hv (insertT ilane (s .et) e p w) (insertE ilane (s .et) e p w) (insert-i (s .et) e w p) (insert-len (s .et) e w ilane p)
-      (held-ins ilane (s .et) e l fair-i h p w (omega arith) (hw v) inside hp)
-      (λ u r n. frame-ins ilane (s .et) e l fair-i h (endsAt (s .vt) u) (listIn vs u) (c .lists u r) (λ k. c .alone v u k n) p w (hw u) hp)
+      (held-ins ilane (s .et) e l valid-i h p w (omega arith) (hw v) inside hp)
+      (λ u r n. frame-ins ilane (s .et) e l valid-i h (endsAt (s .vt) u) (listIn vs u) (c .lists u r) (λ k. c .disjoint v u k n) p w (hw u) hp)
       (λ u k n. elim (same? w k) [
         | same i j ↦ rw j (omega (arith, hw u, hw v, count-ins wd w 0 p w l, is-le w w))
-        | differ i j ↦ omega (arith, c .alone v u k n, count-ins wd k 0 p w l, is-no w k i)
+        | differ i j ↦ omega (arith, c .disjoint v u k n, count-ins wd k 0 p w l, is-no w k i)
       ])
 
 -- ---- seen from another vertex
 
 module _ (w u : ℕ) (s : State) (vs : List Vertex) (es : List Edge) (c : Core s vs es) (hw : countBy en (w / 2) es ≡ 1) (iw : WIn (s .et) w) where
-  seen : Thises (set (s .et) (wat 2 w) u) (upd en (w / 2) (withEnd w u) es)
+  seen : ThisEntries (set (s .et) (wat 2 w) u) (upd en (w / 2) (withEnd w u) es)
   seen x r = elim (same? w x) [
     | same p q ↦ rw q (getD-set-same (s .et) (wat 2 w) u 0 (omega arith) ∙ sym (this-set es w u hw))
     | differ p q ↦ getD-set-other (s .et) (wat 2 w) (wat 2 x) u 0 (λ z. omega arith) ∙ c .this x r ∙ sym (this-other es w u x hw p)
@@ -158,7 +158,7 @@ module _ (w u : ℕ) (s : State) (vs : List Vertex) (es : List Edge) (c : Core s
     erows = kept-rows;
     this = seen;
     lists = keep-lists (s .vt) (s .vt) (s .et) (set (s .et) (wat 2 w) u) (λ i h. refl) (set-keeps ELinks (s .et) (wat 2 w) u (λ z. omega arith)) (simp length-set) vs (c .lists);
-    alone = c .alone;
+    disjoint = c .disjoint;
     vertices = c .vertices;
     edges = c .edges ∙ sym (length-upd en (withEnd w u) (w / 2) es);
   }

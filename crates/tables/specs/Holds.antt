@@ -31,16 +31,16 @@ abbrev pub ERows : List ℕ → List Edge → Type 0
 ERows et es = (e : ℕ) → 1 ≤ e → ERow et e (countBy en e es) (edgeIn es e)
 
 -- the this of every oriented word from 2 on, 0 where its edge is not in the graph
-abbrev pub Thises : List ℕ → List Edge → Type 0
-Thises et es = (w : ℕ) → 2 ≤ w → getD et (wat 2 w) 0 ≡ thisIn es w
+abbrev pub ThisEntries : List ℕ → List Edge → Type 0
+ThisEntries et es = (w : ℕ) → 2 ≤ w → getD et (wat 2 w) 0 ≡ thisIn es w
 
 -- the incidence list of every number from 1 on, empty where it is not in the graph
 abbrev pub Lists : List ℕ → List ℕ → List Vertex → Type 0
 Lists vt et vs = (v : ℕ) → 1 ≤ v → Held ilane et (endsAt vt v) (listIn vs v)
 
 -- no word stands in two lists
-abbrev pub Alone : List Vertex → Type 0
-Alone vs = (u v k : ℕ) → u ≢ v → countBy wd k (listIn vs u) + countBy wd k (listIn vs v) ≤ 1
+abbrev pub DisjointLists : List Vertex → Type 0
+DisjointLists vs = (u v k : ℕ) → u ≢ v → countBy wd k (listIn vs u) + countBy wd k (listIn vs v) ≤ 1
 
 -- the tables hold these vertices and these edges, whether or not the two fit together
 pub record Core (s : State) (vs : List Vertex) (es : List Edge) : Type 0 where
@@ -48,9 +48,9 @@ pub record Core (s : State) (vs : List Vertex) (es : List Edge) : Type 0 where
   pub eseq : Held elane (s .et) (eends (s .head)) (map en es)
   pub vrows : VRows (s .vt) vs
   pub erows : ERows (s .et) es
-  pub this : Thises (s .et) es
+  pub this : ThisEntries (s .et) es
   pub lists : Lists (s .vt) (s .et) vs
-  pub alone : Alone vs
+  pub disjoint : DisjointLists vs
   pub vertices : s .head .vertices ≡ length vs
   pub edges : s .head .edges ≡ length es
 

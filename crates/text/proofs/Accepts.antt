@@ -1,5 +1,5 @@
 -- Which inputs are lists of calls: exactly those of lines of five good numbers, within the two limits.
-use Prim.Native.Nat.{ℕ, _+_, _*_, _≤_}
+use Prim.Native.Nat.{ℕ, _*_, _≤_}
 use mathlib.Core.Path.{_≡_, refl, sym, ap, _∙_}
 use mathlib.Core.Bool.{Bool, true, false}
 use mathlib.Core.List.{List, [], _∷_, _++_}
@@ -12,7 +12,7 @@ use Rattle.lists.specs.Lists.{all, All, done, more}
 use Rattle.lists.proofs.Bools.{and-true, and-both}
 use Rattle.lists.proofs.Sums.{all-bool}
 use Rattle.text.specs.Reading.{calls, unreadable, digit, pieces, goodNumber, goodLine, lineCount, firstBad, wordsIn, readText}
-use Rattle.text.proofs.Pieces.{Free, Parts, rest, cut, parts, pieces-rest, pieces-cut, Shown, shown, shape}
+use Rattle.text.proofs.Pieces.{Free, Parts, rest, cut, parts, pieces-rest, pieces-cut, NonEmpty, nonempty, pieces-nonempty}
 use Rattle.text.proofs.Scans.{Good, good, good-none, good-digits, words-count}
 
 -- ---- a good line is five good numbers with one space between
@@ -28,12 +28,12 @@ pub record Five (l : List ℕ) (numbers : List (List ℕ)) : Type 0 where
   pub spaces : l ≡ joined 32 numbers
 
 module _ (s : ℕ) where
-  joined-cons : (p : List ℕ) {ls : List (List ℕ)} → Shown ls → joined s (p ∷ ls) ≡ p ++ s ∷ joined s ls
-  joined-cons p (shown l ls) = refl
+  joined-cons : (p : List ℕ) {ls : List (List ℕ)} → NonEmpty ls → joined s (p ∷ ls) ≡ p ++ s ∷ joined s ls
+  joined-cons p (nonempty l ls) = refl
 
   pieces-joined : {xs : List ℕ} → Parts s xs → joined s (pieces s xs) ≡ xs
   pieces-joined (rest f) = rw (pieces-rest s f)
-  pieces-joined (cut {p = p} {xs = xs} f q) = rw (pieces-cut s f xs, joined-cons p (shape s q)) (ap (λ (l : List ℕ). p ++ s ∷ l) (pieces-joined q))
+  pieces-joined (cut {p = p} {xs = xs} f q) = rw (pieces-cut s f xs, joined-cons p (pieces-nonempty s q)) (ap (λ (l : List ℕ). p ++ s ∷ l) (pieces-joined q))
 
   joined-pieces : (p : List ℕ) {ls : List (List ℕ)} → Free s p → All (Free s) ls → pieces s (joined s (p ∷ ls)) ≡ p ∷ ls
   joined-pieces p f done = pieces-rest s f

@@ -1,7 +1,7 @@
 -- Reading a line byte by byte tells whether it is good.
 use Prim.Native.Nat.{ℕ, suc, _+_, _-_, _*_, _^_, _≤_, _<_}
 use mathlib.Core.Path.{_≡_, refl, sym, ap, _∙_}
-use mathlib.Core.Bool.{Bool, true, false, not, _&&_}
+use mathlib.Core.Bool.{Bool, true, false, _&&_}
 use mathlib.Core.List.{List, [], _∷_, _++_}
 use native.Mathlib.Omega.{arith}
 use lib.ListN.{length}
@@ -15,7 +15,7 @@ use Rattle.text.specs.declared.reading.Number.{Number}
 use Rattle.text.specs.declared.reading.Number.the-variants.{Empty, Value, Bad}
 use Rattle.text.specs.declared.reading.Line.{Line}
 use Rattle.text.specs.Scan.{run, moreDigit, addDigit, digitIn, isValue, blank, freshLine, spaceIn, lineIn, lineGood, lineBlank}
-use Rattle.text.proofs.Pieces.{Free, Parts, rest, cut, parts, pieces-rest, pieces-cut, Shown, shown, shape}
+use Rattle.text.proofs.Pieces.{Free, Parts, rest, cut, parts, pieces-rest, pieces-cut, NonEmpty, nonempty, pieces-nonempty}
 use Rattle.text.proofs.Numbers.{and-false, and-true-right, run-append, bad-digit, number-good}
 
 abbrev pub line : ℕ → Number → Line
@@ -57,8 +57,8 @@ module _ (k : ℕ) (p : List ℕ) where
   unfolding spaceIn
   space-bad e = rw (number-good p, e)
 
-some : {ls : List (List ℕ)} → Shown ls → 1 ≤ length ls
-some (shown l ls) = omega arith
+some : {ls : List (List ℕ)} → NonEmpty ls → 1 ≤ length ls
+some (nonempty l ls) = omega arith
 
 -- k numbers stand before the line
 abbrev goodFrom : ℕ → List (List ℕ) → Bool
@@ -90,7 +90,7 @@ line-from (cut {p = p} {xs = xs} f q) k h = rw (space-run f k xs, pieces-cut 32 
             rw (space-good k p e i) (ih (k + 1) (omega arith) ∙ ap (λ (j : ℕ). (j == 5) && all goodNumber (pieces 32 xs)) m)
         room false r =
             let i : 4 ≤ k = ltb-false k 4 r in
-            rw (space-full k p i, bad-line xs k) (sym (ap (λ (t : Bool). t && all goodNumber (pieces 32 xs)) (ne-eqb (k + suc (length (pieces 32 xs))) 5 (λ z. omega (arith, some (shape 32 q))))))
+            rw (space-full k p i, bad-line xs k) (sym (ap (λ (t : Bool). t && all goodNumber (pieces 32 xs)) (ne-eqb (k + suc (length (pieces 32 xs))) 5 (λ z. omega (arith, some (pieces-nonempty 32 q))))))
 
 pub line-law : (l : List ℕ) → lineGood (run lineIn freshLine l) ≡ goodLine l
 unfolding goodLine

@@ -41,9 +41,9 @@ module _ (s : ℕ) where
   pieces-cut (more e f) xs = rw (e, pieces-cut f xs)
 
 -- there is at least one piece
-pub data Shown : List (List ℕ) → Type 0 where
-  shown : (l : List ℕ) (ls : List (List ℕ)) → Shown (l ∷ ls)
+pub data NonEmpty : List (List ℕ) → Type 0 where
+  nonempty : (l : List ℕ) (ls : List (List ℕ)) → NonEmpty (l ∷ ls)
 
-pub shape : (s : ℕ) {xs : List ℕ} → Parts s xs → Shown (pieces s xs)
-shape s (rest {p = p} f) = subst Shown (sym (pieces-rest s f)) (shown p [])
-shape s (cut {p = p} {xs = xs} f q) = subst Shown (sym (pieces-cut s f xs)) (shown p (pieces s xs))
+pub pieces-nonempty : (s : ℕ) {xs : List ℕ} → Parts s xs → NonEmpty (pieces s xs)
+pieces-nonempty s (rest {p = p} f) = subst NonEmpty (sym (pieces-rest s f)) (nonempty p [])
+pieces-nonempty s (cut {p = p} {xs = xs} f q) = subst NonEmpty (sym (pieces-cut s f xs)) (nonempty p (pieces s xs))

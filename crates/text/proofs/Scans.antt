@@ -1,5 +1,5 @@
 -- Reading byte by byte is what Reading says.
-use Prim.Native.Nat.{ℕ, suc, _+_, _-_, _*_, _≤_}
+use Prim.Native.Nat.{ℕ, suc, _+_, _*_, _≤_}
 use mathlib.Core.Path.{_≡_, refl, sym, ap, _∙_}
 use mathlib.Core.Bool.{Bool, true, false}
 use mathlib.Core.List.{List, [], _∷_, _++_, map, append-assoc}
@@ -15,7 +15,7 @@ use Rattle.text.specs.declared.reading.Number.the-variants.{Empty}
 use Rattle.text.specs.declared.reading.Line.{Line}
 use Rattle.text.specs.declared.reading.Lines.{Lines}
 use Rattle.text.specs.Scan.{run, digitIn, freshLine, freshLines, lineIn, lineBlank, badAfter, newlineIn, byteIn, restIn, ends, numberAfter, wordAt, wordsFrom}
-use Rattle.text.proofs.Pieces.{Free, Parts, rest, cut, parts, pieces-rest, pieces-cut, Shown, shown, shape}
+use Rattle.text.proofs.Pieces.{Free, Parts, rest, cut, parts, pieces-rest, pieces-cut, NonEmpty, nonempty, pieces-nonempty}
 use Rattle.text.proofs.Numbers.{run-append, number-value}
 use Rattle.text.proofs.Lines.{line-law, blank-law}
 
@@ -38,17 +38,17 @@ newline-run {p} f a b xs =
     ∙ ap (λ (s : Lines). run byteIn s (10 ∷ xs)) (free-lines f a b freshLine)
     ∙ ap (λ (t : Bool). run byteIn (lines (a + 1) (badAfter b (a + 1) t) freshLine) xs) (line-law p)
 
-count-cons : (p : List ℕ) {ls : List (List ℕ)} → Shown ls → lineCount (p ∷ ls) ≡ 1 + lineCount ls
+count-cons : (p : List ℕ) {ls : List (List ℕ)} → NonEmpty ls → lineCount (p ∷ ls) ≡ 1 + lineCount ls
 unfolding lineCount
-count-cons p (shown l ls) = refl
+count-cons p (nonempty l ls) = refl
 
-bad-cons : (n : ℕ) (p : List ℕ) {ls : List (List ℕ)} → Shown ls → firstBad n (p ∷ ls) ≡ (goodLine p ⇒ firstBad (n + 1) ls else n)
+bad-cons : (n : ℕ) (p : List ℕ) {ls : List (List ℕ)} → NonEmpty ls → firstBad n (p ∷ ls) ≡ (goodLine p ⇒ firstBad (n + 1) ls else n)
 unfolding firstBad
-bad-cons n p (shown l ls) = refl
+bad-cons n p (nonempty l ls) = refl
 
-words-cons : (p : List ℕ) {ls : List (List ℕ)} → Shown ls → wordsIn (p ∷ ls) ≡ map (valueOf 0) (pieces 32 p) ++ wordsIn ls
+words-cons : (p : List ℕ) {ls : List (List ℕ)} → NonEmpty ls → wordsIn (p ∷ ls) ≡ map (valueOf 0) (pieces 32 p) ++ wordsIn ls
 unfolding wordsIn
-words-cons p (shown l ls) = refl
+words-cons p (nonempty l ls) = refl
 
 bad-then : (b n m : ℕ) (g : Bool) → 1 ≤ n → ((badAfter b n g == 0) ⇒ m else badAfter b n g) ≡ ((b == 0) ⇒ (g ⇒ m else n) else b)
 unfolding badAfter
@@ -82,8 +82,8 @@ lines-from (cut {p = p} {xs = xs} f q) a b = rw (pieces-cut 10 f xs, newline-run
   where
     go : {s : Lines} → Counted s (a + 1) (badAfter b (a + 1) (goodLine p)) (pieces 10 xs) → Counted s a b (p ∷ pieces 10 xs)
     go c = record {
-      count = omega (arith, c .count, count-cons p (shape 10 q));
-      found = c .found ∙ bad-then b (a + 1) (firstBad (a + 1 + 1) (pieces 10 xs)) (goodLine p) (omega arith) ∙ ap (λ (n : ℕ). (b == 0) ⇒ n else b) (sym (bad-cons (a + 1) p (shape 10 q)));
+      count = omega (arith, c .count, count-cons p (pieces-nonempty 10 q));
+      found = c .found ∙ bad-then b (a + 1) (firstBad (a + 1 + 1) (pieces 10 xs)) (goodLine p) (omega arith) ∙ ap (λ (n : ℕ). (b == 0) ⇒ n else b) (sym (bad-cons (a + 1) p (pieces-nonempty 10 q)));
     }
 
 pub lines-law : (xs : List ℕ) → Counted (restIn (run byteIn freshLines xs)) 0 0 (pieces 10 xs)
@@ -134,7 +134,7 @@ good (rest {p = p} f) n h e = go p (ap (firstBad n) (sym (pieces-rest 10 f)) ∙
     go : (p : List ℕ) → firstBad n (p ∷ []) ≡ 0 → Good p
     go [] i = none
     go (x ∷ xs) i = absurd (omega (arith, rw (ne-eqb (suc (length xs)) 0 (λ z. omega arith)) at i))
-good (cut {p = p} {xs = xs} f q) n h e = go (λ i. good q (n + 1) (omega arith) i) (goodLine p) refl (sym (bad-cons n p (shape 10 q)) ∙ ap (firstBad n) (sym (pieces-cut 10 f xs)) ∙ e)
+good (cut {p = p} {xs = xs} f q) n h e = go (λ i. good q (n + 1) (omega arith) i) (goodLine p) refl (sym (bad-cons n p (pieces-nonempty 10 q)) ∙ ap (firstBad n) (sym (pieces-cut 10 f xs)) ∙ e)
   where
     go : (firstBad (n + 1) (pieces 10 xs) ≡ 0 → Good xs) → (t : Bool) → goodLine p ≡ t → (goodLine p ⇒ firstBad (n + 1) (pieces 10 xs) else n) ≡ 0 → Good (p ++ 10 ∷ xs)
     go ih true g i = line f g (ih (rw g at i))
@@ -143,7 +143,7 @@ good (cut {p = p} {xs = xs} f q) n h e = go (λ i. good q (n + 1) (omega arith) 
 pub good-none : {xs : List ℕ} → Good xs → (n : ℕ) → firstBad n (pieces 10 xs) ≡ 0
 unfolding pieces firstBad
 good-none none n = refl
-good-none (line {p = p} {xs = xs} f e g) n = rw (pieces-cut 10 f xs, bad-cons n p (shape 10 (parts 10 xs)), e) (good-none g (n + 1))
+good-none (line {p = p} {xs = xs} f e g) n = rw (pieces-cut 10 f xs, bad-cons n p (pieces-nonempty 10 (parts 10 xs)), e) (good-none g (n + 1))
 
 five : (l : List ℕ) → goodLine l ≡ true → (length (pieces 32 l) ≡ 5) × (all goodNumber (pieces 32 l) ≡ true)
 unfolding goodLine
@@ -153,12 +153,12 @@ pub words-law : {xs : List ℕ} → Good xs → wordsFrom Empty xs ≡ wordsIn (
 unfolding pieces wordsIn wordsFrom
 words-law none = refl
 words-law (line {p = p} {xs = xs} f e g) =
-    rw (pieces-cut 10 f xs, words-cons p (shape 10 (parts 10 xs))) (line-words (parts 32 p) (five p e .1) xs ∙ ap (λ (ws : List ℕ). map (valueOf 0) (pieces 32 p) ++ ws) (words-law g))
+    rw (pieces-cut 10 f xs, words-cons p (pieces-nonempty 10 (parts 10 xs))) (line-words (parts 32 p) (five p e .1) xs ∙ ap (λ (ws : List ℕ). map (valueOf 0) (pieces 32 p) ++ ws) (words-law g))
 
 -- five words a line
 pub words-count : {xs : List ℕ} → Good xs → length (wordsIn (pieces 10 xs)) ≡ 5 * lineCount (pieces 10 xs)
 unfolding pieces wordsIn lineCount
 words-count none = refl
 words-count (line {p = p} {xs = xs} f e g) =
-    rw (pieces-cut 10 f xs, words-cons p (shape 10 (parts 10 xs)), count-cons p (shape 10 (parts 10 xs)), length-append (map (valueOf 0) (pieces 32 p)) (wordsIn (pieces 10 xs)), length-map (pieces 32 p) (valueOf 0))
+    rw (pieces-cut 10 f xs, words-cons p (pieces-nonempty 10 (parts 10 xs)), count-cons p (pieces-nonempty 10 (parts 10 xs)), length-append (map (valueOf 0) (pieces 32 p)) (wordsIn (pieces 10 xs)), length-map (pieces 32 p) (valueOf 0))
     (omega (arith, five p e .0, words-count g))

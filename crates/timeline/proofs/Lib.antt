@@ -1,3 +1,3 @@
-pub mod Tapes
+pub mod JournalRowLaws
 pub mod Steps
 pub mod Cells

@@ -1,10 +1,10 @@
 -- The steps in the rows: undo, redo, a step more, commit, free changes.
 use Prim.Native.Nat.{ℕ, zero, suc, _+_, _-_, _*_, _^_, _≤_, _<_}
 use mathlib.Core.Path.{_≡_, refl, sym, ap, subst, _∙_}
-use mathlib.Core.List.{List, [], _∷_, _++_, map}
+use mathlib.Core.List.{List, [], _∷_, _++_}
 use native.Mathlib.Omega.{arith}
 use lib.ListN.{length, take}
-use Rattle.lists.proofs.Picks.{Same, same, differ, same?}
+use Rattle.lists.proofs.Picks.{same, differ, same?}
 use Rattle.graph.specs.declared.Edit.{Edit}
 use Rattle.graph.specs.Graph.{Graph}
 use Rattle.graph.specs.WellFormed.{Bounds, WellFormed, Within}
@@ -20,9 +20,9 @@ use Rattle.tables.specs.Capacities.{Sized}
 use Rattle.tables.proofs.GraphRead.{holds-one}
 use Rattle.timeline.specs.declared.Position.{Position}
 use Rattle.timeline.specs.declared.Current.{Current}
-use Rattle.timeline.specs.Tape.{made, Tape, Toward, back, on}
-use Rattle.timeline.specs.Steps.{rowsTo, StepAt, Laid, Behind, Journal, Open}
-use Rattle.timeline.proofs.Tapes.{tape-can, tape-sound, made-within, made-agree, tape-cut, made-more, tape-more}
+use Rattle.timeline.specs.JournalRows.{made, JournalRows, Toward, back, on}
+use Rattle.timeline.specs.Steps.{rowsTo, StepAt, StepsAt, Behind, Journal, Open}
+use Rattle.timeline.proofs.JournalRowLaws.{rows-can, made-within, made-agree, rows-cut, made-more, rows-added}
 
 abbrev pub stepWith : ℕ → Graph → Step
 stepWith c g = record { cost = c; graph = g }
@@ -41,7 +41,7 @@ record Turn (t : List ℕ) (i p : ℕ) (ss : List Step) : Type 0 where
   last : costAt t (rowsTo i (suc p) ss - 1) ≡ cost
   within : rowsTo i (suc p) ss ≤ rowsTo i (length ss) ss
 
-turn-at : (t : List ℕ) (g : Graph) (i p : ℕ) (ss : List Step) → Laid t g i ss → p < length ss → Turn t i p ss
+turn-at : (t : List ℕ) (g : Graph) (i p : ℕ) (ss : List Step) → StepsAt t g i ss → p < length ss → Turn t i p ss
 turn-at t g i p [] l h = absurd (omega arith)
 turn-at t g i zero (x ∷ ss) l h = record {
   cost = x .cost;
@@ -56,7 +56,7 @@ turn-at t g i (suc p) (x ∷ ss) l h =
     record { cost = r .cost; some = r .some; next = r .next; first = r .first; last = r .last; within = r .within }
 
 -- the first p steps' rows make Gp
-makes-current : (t : List ℕ) (g : Graph) (i p : ℕ) (ss : List Step) → Laid t g i ss → p ≤ length ss → graphAt p (made t g i) ss ≡ made t g (rowsTo i p ss)
+makes-current : (t : List ℕ) (g : Graph) (i p : ℕ) (ss : List Step) → StepsAt t g i ss → p ≤ length ss → graphAt p (made t g i) ss ≡ made t g (rowsTo i p ss)
 makes-current t g i zero ss l h = refl
 makes-current t g i (suc p) [] l h = absurd (omega arith)
 makes-current t g i (suc p) (x ∷ ss) l h = ap (λ (y : Graph). graphAt p y ss) (l .0 .makes) ∙ makes-current t g (i + x .cost) p ss (l .1) (omega arith)
@@ -65,11 +65,11 @@ makes-current t g i (suc p) (x ∷ ss) l h = ap (λ (y : Graph). graphAt p y ss)
 
 module _ (b : Bounds) (j : Position) (s : State) (t : List ℕ) (l : Timeline) (k : Journal b j s t l) where
   current-made : current l ≡ made t (l .start) (j .used)
-  current-made = makes-current t (l .start) 0 (l .place) (l .steps) (k .laid) (k .inside) ∙ ap (made t (l .start)) (sym (k .used))
+  current-made = makes-current t (l .start) 0 (l .place) (l .steps) (k .steps-at) (k .inside) ∙ ap (made t (l .start)) (sym (k .used))
 
   -- the tables hold Gp
   pub holds-current : Holds s (current l)
-  holds-current = subst (λ (x : Graph). Holds s x) (sym current-made) (k .tape .holds)
+  holds-current = subst (λ (x : Graph). Holds s x) (sym current-made) (k .rows .holds)
 
   pub sound-current : WellFormed (current l)
   sound-current = holds-current .sound
@@ -77,10 +77,10 @@ module _ (b : Bounds) (j : Position) (s : State) (t : List ℕ) (l : Timeline) (
   pub within-current : Within b (current l)
   within-current =
       subst (Within b) (sym current-made)
-      (made-within b t (l .start) _ (k .tape .applies) (k .tape .inside) (k .tape .bounded) (j .used) (k .tape .upto))
+      (made-within b t (l .start) _ (k .rows .applies) (k .rows .inside) (k .rows .bounded) (j .used) (k .rows .upto))
 
   pub can-current : (e : Edit) → Applies e (current l) → EditIn b e → Can e s
-  can-current e a i = tape-can b t (l .start) _ s (j .used) e (k .tape) (subst (Applies e) current-made a) i
+  can-current e a i = rows-can b t (l .start) _ s (j .used) e (k .rows) (subst (Applies e) current-made a) i
 
 -- two timelines of the same words have the same present graph
 pub same-current : (b b′ : Bounds) (j : Position) (s : State) (t : List ℕ) (l l′ : Timeline) → Journal b j s t l → Journal b′ j s t l′ → current l ≡ current l′
@@ -96,13 +96,13 @@ step-agree t t′ g i x b k = record {
   makes = k .makes ∙ sym (made-agree (i + x .cost) t t′ g b (i + x .cost) (omega arith));
 }
 
-laid-more : (t t′ : List ℕ) (g : Graph) (i p : ℕ) (ss : List Step) (x : Step) → Laid t g i ss → p ≤ length ss → Below (rowsTo i p ss) t t′
-    → StepAt t′ g (rowsTo i p ss) x → Laid t′ g i (take p ss ++ (x ∷ []))
-laid-more t t′ g i zero ss x l h b k = (k, tt)
-laid-more t t′ g i (suc p) [] x l h b k = absurd (omega arith)
-laid-more t t′ g i (suc p) (y ∷ ss) x l h b k = (
+steps-at-more : (t t′ : List ℕ) (g : Graph) (i p : ℕ) (ss : List Step) (x : Step) → StepsAt t g i ss → p ≤ length ss → Below (rowsTo i p ss) t t′
+    → StepAt t′ g (rowsTo i p ss) x → StepsAt t′ g i (take p ss ++ (x ∷ []))
+steps-at-more t t′ g i zero ss x l h b k = (k, tt)
+steps-at-more t t′ g i (suc p) [] x l h b k = absurd (omega arith)
+steps-at-more t t′ g i (suc p) (y ∷ ss) x l h b k = (
   step-agree t t′ g i y (below-less (rowsTo (i + y .cost) p ss) (i + y .cost) t t′ (rows-from (i + y .cost) p ss) b) (l .0),
-  laid-more t t′ g (i + y .cost) p ss x (l .1) (omega arith) b k,
+  steps-at-more t t′ g (i + y .cost) p ss x (l .1) (omega arith) b k,
 )
 
 rows-more : (i p : ℕ) (ss : List Step) (x : Step) → p ≤ length ss → rowsTo i (suc p) (take p ss ++ (x ∷ [])) ≡ rowsTo i p ss + x .cost
@@ -119,7 +119,7 @@ pub record Back (t : List ℕ) (ss : List Step) (q u : ℕ) : Type 0 where
   pub before : rowsTo 0 q ss + cost ≡ u
   pub fits : 12 * u ≤ length t
 
-pub record Fore (t : List ℕ) (ss : List Step) (q u : ℕ) : Type 0 where
+pub record Forward (t : List ℕ) (ss : List Step) (q u : ℕ) : Type 0 where
   pub cost : ℕ
   pub some : 1 ≤ cost
   pub word : costAt t u ≡ cost
@@ -130,7 +130,7 @@ module _ (t : List ℕ) (g : Graph) (ss : List Step) (to p q u : ℕ) (i : to �
   pub back-of : q < p → Back t ss q u
   back-of h =
       let e : p ≡ suc q = elim d [ back x y ↦ y | on x y ↦ absurd (omega arith) ] in
-      let r = turn-at t g 0 q ss (k .laid) (omega (arith, k .inside)) in
+      let r = turn-at t g 0 q ss (k .steps-at) (omega (arith, k .inside)) in
       let w : rowsTo 0 (suc q) ss ≡ u = ap (λ (x : ℕ). rowsTo 0 x ss) (sym e) ∙ sym (k .used) in
       record {
         cost = r .cost;
@@ -140,11 +140,11 @@ module _ (t : List ℕ) (g : Graph) (ss : List Step) (to p q u : ℕ) (i : to �
         fits = omega (arith, w, r .within, k .within);
       }
 
-  pub fore-of : p ≤ q → Fore t ss q u
-  fore-of h =
+  pub forward-of : p ≤ q → Forward t ss q u
+  forward-of h =
       let e : q ≡ suc p = elim d [ back x y ↦ absurd (omega arith) | on x y ↦ y ] in
       let l : p < to = elim d [ back x y ↦ absurd (omega arith) | on x y ↦ x ] in
-      let r = turn-at t g 0 p ss (k .laid) (omega arith) in
+      let r = turn-at t g 0 p ss (k .steps-at) (omega arith) in
       record {
         cost = r .cost;
         some = r .some;
@@ -155,7 +155,7 @@ module _ (t : List ℕ) (g : Graph) (ss : List Step) (to p q u : ℕ) (i : to �
 
   behind-by : (v : ℕ) → v ≡ rowsTo 0 q ss → Behind t g ss q v
   behind-by v e = record {
-    laid = k .laid;
+    steps-at = k .steps-at;
     within = k .within;
     short = k .short;
     inside = elim d [ back x y ↦ omega (arith, k .inside) | on x y ↦ omega arith ];
@@ -166,7 +166,7 @@ module _ (t : List ℕ) (g : Graph) (ss : List Step) (to p q u : ℕ) (i : to �
   behind-back h c e = let r = back-of h in behind-by (u - c) (omega (arith, e, r .word, r .before))
 
   pub behind-on : p ≤ q → (c : ℕ) → c ≡ costAt t u → Behind t g ss q (u + c)
-  behind-on h c e = let r = fore-of h in behind-by (u + c) (omega (arith, e, r .word, r .after))
+  behind-on h c e = let r = forward-of h in behind-by (u + c) (omega (arith, e, r .word, r .after))
 
 rows-within : (i p : ℕ) (ss : List Step) → p ≤ length ss → rowsTo i p ss ≤ rowsTo i (length ss) ss
 rows-within i zero ss h = rows-from i (length ss) ss
@@ -178,19 +178,19 @@ behind-within t g ss p u k = omega (arith, k .used, rows-within 0 p ss (k .insid
 
 pub journal-behind : (b : Bounds) (j : Position) (s : State) (t : List ℕ) (l : Timeline) → Journal b j s t l → Behind t (l .start) (l .steps) (j .place) (j .used)
 journal-behind b j s t l k = record {
-  laid = k .laid;
-  within = k .tape .within;
-  short = k .tape .short;
+  steps-at = k .steps-at;
+  within = k .rows .within;
+  short = k .rows .short;
   inside = omega (arith, k .place, k .inside);
   used = k .used ∙ ap (λ (x : ℕ). rowsTo 0 x (l .steps)) (sym (k .place));
 }
 
 pub journal-placed : (b : Bounds) (j j′ : Position) (s s′ : State) (t : List ℕ) (l : Timeline) → Journal b j s t l
     → Behind t (l .start) (l .steps) (j′ .place) (j′ .used) → j′ .steps ≡ j .steps
-    → Tape b t (l .start) (rowsTo 0 (length (l .steps)) (l .steps)) s′ (j′ .used) → Journal b j′ s′ t (placed (j′ .place) l)
+    → JournalRows b t (l .start) (rowsTo 0 (length (l .steps)) (l .steps)) s′ (j′ .used) → Journal b j′ s′ t (placed (j′ .place) l)
 journal-placed b j j′ s s′ t l k h y z = record {
-  tape = z;
-  laid = k .laid;
+  rows = z;
+  steps-at = k .steps-at;
   place = refl;
   inside = h .inside;
   steps = y ∙ k .steps;
@@ -206,18 +206,18 @@ placed-by b j s t l p q e = subst (λ (x : ℕ). Journal b j s t (placed x l)) e
 
 -- ---- a step more
 
-rows-count : (t : List ℕ) (g : Graph) (i p : ℕ) (ss : List Step) → Laid t g i ss → p ≤ length ss → i + p ≤ rowsTo i p ss
+rows-count : (t : List ℕ) (g : Graph) (i p : ℕ) (ss : List Step) → StepsAt t g i ss → p ≤ length ss → i + p ≤ rowsTo i p ss
 rows-count t g i zero ss l h = omega arith
 rows-count t g i (suc p) [] l h = absurd (omega arith)
 rows-count t g i (suc p) (x ∷ ss) l h = omega (arith, l .0 .some, rows-count t g (i + x .cost) p ss (l .1) (omega arith))
 
 -- place, steps and rows used fit into words
 pub place-short : (b : Bounds) (j : Position) (s : State) (t : List ℕ) (l : Timeline) → Journal b j s t l → 12 * j .place ≤ length t
-place-short b j s t l k = omega (arith, rows-count t (l .start) 0 (l .place) (l .steps) (k .laid) (k .inside), k .place, k .used, k .tape .within, k .tape .upto)
+place-short b j s t l k = omega (arith, rows-count t (l .start) 0 (l .place) (l .steps) (k .steps-at) (k .inside), k .place, k .used, k .rows .within, k .rows .upto)
 
 -- rows written after the rows of step p are a step
 journal-close : (b : Bounds) (j j′ : Position) (s s′ : State) (t t′ : List ℕ) (l : Timeline) (x : Step) → Journal b j s t l → Below (j .used) t t′ → StepAt t′ (l .start) (j .used) x
-    → Tape b t′ (l .start) (j .used + x .cost) s′ (j .used + x .cost)
+    → JournalRows b t′ (l .start) (j .used + x .cost) s′ (j .used + x .cost)
     → j′ .place ≡ j .place + 1 → j′ .steps ≡ j .place + 1 → j′ .used ≡ j .used + x .cost → Journal b j′ s′ t′ (extended x l)
 journal-close b j j′ s s′ t t′ l x k w y z p q r =
     let ss = take (l .place) (l .steps) ++ (x ∷ []) in
@@ -225,8 +225,8 @@ journal-close b j j′ s s′ t t′ l x k w y z p q r =
     let u : rowsTo 0 (suc (l .place)) ss ≡ j .used + x .cost = rows-more 0 (l .place) (l .steps) x (k .inside) ∙ ap (λ (i : ℕ). i + x .cost) (sym (k .used)) in
     let v : rowsTo 0 (length ss) ss ≡ j .used + x .cost = ap (λ (i : ℕ). rowsTo 0 i ss) n ∙ u in
     record {
-      tape = rw (r, v) z;
-      laid = laid-more t t′ (l .start) 0 (l .place) (l .steps) x (k .laid) (k .inside)
+      rows = rw (r, v) z;
+      steps-at = steps-at-more t t′ (l .start) 0 (l .place) (l .steps) x (k .steps-at) (k .inside)
           (subst (λ (i : ℕ). Below i t t′) (k .used) w) (subst (λ (i : ℕ). StepAt t′ (l .start) i x) (k .used) y);
       place = omega (arith, p, k .place);
       inside = omega (arith, n);
@@ -241,7 +241,7 @@ module _ (b : Bounds) (j : Position) (s₀ : State) (t₀ : List ℕ) (l : Timel
   open-start u q k = subst (Open b j s₀ t₀ l c s₀ t₀) q (record {
     journal = k;
     below = λ i h. refl;
-    tape = tape-cut b t₀ (l .start) _ s₀ (j .used) (k .tape);
+    rows = rows-cut b t₀ (l .start) _ s₀ (j .used) (k .rows);
     low = omega arith;
     costs = λ i l h. absurd (omega arith);
     size = refl;
@@ -249,15 +249,15 @@ module _ (b : Bounds) (j : Position) (s₀ : State) (t₀ : List ℕ) (l : Timel
 
   module _ (s : State) (t : List ℕ) (u : ℕ) (k : Open b j s₀ t₀ l c s t u) where
     open-now : (g : Graph) → Holds s g → g ≡ made t (l .start) u
-    open-now g h = holds-one s g (made t (l .start) u) h (k .tape .holds)
+    open-now g h = holds-one s g (made t (l .start) u) h (k .rows .holds)
 
     pub open-within : (g : Graph) → Holds s g → Within b g
     open-within g h =
         subst (Within b) (sym (open-now g h))
-        (made-within b t (l .start) u (k .tape .applies) (k .tape .inside) (k .tape .bounded) u (k .tape .upto))
+        (made-within b t (l .start) u (k .rows .applies) (k .rows .inside) (k .rows .bounded) u (k .rows .upto))
 
     pub open-can : (g : Graph) (e : Edit) → Holds s g → Applies e g → EditIn b e → Can e s
-    open-can g e h a i = tape-can b t (l .start) u s u e (k .tape) (subst (Applies e) (open-now g h) a) i
+    open-can g e h a i = rows-can b t (l .start) u s u e (k .rows) (subst (Applies e) (open-now g h) a) i
 
     -- one row more
     module _ (g : Graph) (e : Edit) (h : Holds s g) (a : Applies e g) (i : EditIn b e) (f : 12 * u + 12 ≤ length t) (s′ : State) (t′ : List ℕ) (u′ : ℕ)
@@ -266,7 +266,7 @@ module _ (b : Bounds) (j : Position) (s₀ : State) (t₀ : List ℕ) (l : Timel
       open-more = subst (Open b j s₀ t₀ l c s′ t′) (sym n) (record {
         journal = k .journal;
         below = λ x y. rowed-below u e c t t′ q f x (omega (arith, k .low)) ∙ k .below x y;
-        tape = tape-more b t t′ (l .start) s s′ u e c (k .tape) f (subst (Applies e) (open-now g h) a) i q d;
+        rows = rows-added b t t′ (l .start) s s′ u e c (k .rows) f (subst (Applies e) (open-now g h) a) i q d;
         low = omega (arith, k .low);
         costs = λ x o y. elim (same? x u) [
           | same v w ↦ subst (λ (z : ℕ). costAt t′ z ≡ c) w (rowed-cost u e c t t′ q f)
@@ -277,9 +277,9 @@ module _ (b : Bounds) (j : Position) (s₀ : State) (t₀ : List ℕ) (l : Timel
 
       pub open-holds : Holds s′ (apply e g)
       open-holds =
-          let x = tape-more b t t′ (l .start) s s′ u e c (k .tape) f (subst (Applies e) (open-now g h) a) i q d .holds in
+          let x = rows-added b t t′ (l .start) s s′ u e c (k .rows) f (subst (Applies e) (open-now g h) a) i q d .holds in
           subst (λ (y : Graph). Holds s′ y)
-          (made-more b t t′ (l .start) s s′ u e c (k .tape) f (subst (Applies e) (open-now g h) a) i q d ∙ ap (apply e) (sym (open-now g h))) x
+          (made-more b t t′ (l .start) s s′ u e c (k .rows) f (subst (Applies e) (open-now g h) a) i q d ∙ ap (apply e) (sym (open-now g h))) x
 
     pub open-close : (j′ : Position) (g : Graph) → 1 ≤ c → u ≡ j .used + c → Holds s g → j′ .place ≡ j .place + 1 → j′ .steps ≡ j .place + 1 → j′ .used ≡ u
         → Journal b j′ s t (extended (stepWith c g) l)
@@ -291,7 +291,7 @@ module _ (b : Bounds) (j : Position) (s₀ : State) (t₀ : List ℕ) (l : Timel
           last = k .costs (j .used + c - 1) (omega arith) (omega arith);
           makes = open-now g h ∙ ap (made t (l .start)) n;
         })
-        (subst (λ (i : ℕ). Tape b t (l .start) i s i) n (k .tape)) x y (z ∙ n)
+        (subst (λ (i : ℕ). JournalRows b t (l .start) i s i) n (k .rows)) x y (z ∙ n)
 
 -- an edit is a step of one row
 pub journal-step : (b : Bounds) (j j′ : Position) (s s′ : State) (t t′ : List ℕ) (l : Timeline) (e : Edit) → Journal b j s t l → Applies e (current l) → EditIn b e
@@ -310,7 +310,7 @@ journal-step b j j′ s s′ t t′ l e k a i f q d x y z =
 pub journal-begin : (b : Bounds) (j : Position) (s : State) (t : List ℕ) (g : Graph) → Sized b s → Within b g → Holds s g → length t < 2 ^ 32
     → j .place ≡ 0 → j .steps ≡ 0 → j .used ≡ 0 → Journal b j s t (begun g)
 journal-begin b j s t g z w h e x y u = record {
-  tape = rw u (record {
+  rows = rw u (record {
     sized = z;
     sound = h .sound;
     bounded = w;
@@ -321,7 +321,7 @@ journal-begin b j s t g z w h e x y u = record {
     upto = omega arith;
     holds = h;
   });
-  laid = tt;
+  steps-at = tt;
   place = x;
   inside = omega arith;
   steps = y;
@@ -331,7 +331,7 @@ journal-begin b j s t g z w h e x y u = record {
 pub journal-commit : (b : Bounds) (j j′ : Position) (s : State) (t : List ℕ) (l : Timeline) → Journal b j s t l → j′ .place ≡ 0 → j′ .steps ≡ 0 → j′ .used ≡ 0
     → Journal b j′ s t (begun (current l))
 journal-commit b j j′ s t l k x y u =
-    journal-begin b j′ s t (current l) (k .tape .sized) (within-current b j s t l k) (holds-current b j s t l k) (k .tape .short) x y u
+    journal-begin b j′ s t (current l) (k .rows .sized) (within-current b j s t l k) (holds-current b j s t l k) (k .rows .short) x y u
 
 rows-total : (i p : ℕ) (ss : List Step) → rowsTo i p ss ≡ i + costs (take p ss)
 rows-total i zero ss = omega arith

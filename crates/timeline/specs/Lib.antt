@@ -1,3 +1,3 @@
-pub mod Tape
+pub mod JournalRows
 pub mod Steps
 pub mod Current

@@ -9,7 +9,7 @@ use Rattle.history.specs.Machine.{Step, Timeline}
 use Rattle.journal.specs.Rows.{costAt, Below}
 use Rattle.tables.specs.Tables.{State}
 use Rattle.timeline.specs.declared.Position.{Position}
-use Rattle.timeline.specs.Tape.{made, Tape}
+use Rattle.timeline.specs.JournalRows.{made, JournalRows}
 
 -- i and the costs of the first p steps: the row where step p + 1 begins, if the first step begins at row i
 abbrev pub rowsTo : ℕ → ℕ → List Step → ℕ
@@ -25,13 +25,13 @@ pub record StepAt (t : List ℕ) (g : Graph) (i : ℕ) (x : Step) : Type 0 where
   pub makes : x .graph ≡ made t g (i + x .cost)
 
 -- the rows of the steps, one after another from row i on
-abbrev pub Laid : List ℕ → Graph → ℕ → List Step → Type 0
-Laid t g i [] = Unit {0}
-Laid t g i (x ∷ ss) = StepAt t g i x × Laid t g (i + x .cost) ss
+abbrev pub StepsAt : List ℕ → Graph → ℕ → List Step → Type 0
+StepsAt t g i [] = Unit {0}
+StepsAt t g i (x ∷ ss) = StepAt t g i x × StepsAt t g (i + x .cost) ss
 
 -- u rows lie behind place p: those of the first p steps
 pub record Behind (t : List ℕ) (g : Graph) (ss : List Step) (p u : ℕ) : Type 0 where
-  pub laid : Laid t g 0 ss
+  pub steps-at : StepsAt t g 0 ss
   pub within : 12 * rowsTo 0 (length ss) ss ≤ length t
   pub short : length t < 2 ^ 32
   pub inside : p ≤ length ss
@@ -39,8 +39,8 @@ pub record Behind (t : List ℕ) (g : Graph) (ss : List Step) (p u : ℕ) : Type
 
 -- the position, the tables s and the journal's words t stand for the timeline l
 pub record Journal (b : Bounds) (j : Position) (s : State) (t : List ℕ) (l : Timeline) : Type 0 where
-  pub tape : Tape b t (l .start) (rowsTo 0 (length (l .steps)) (l .steps)) s (j .used)
-  pub laid : Laid t (l .start) 0 (l .steps)
+  pub rows : JournalRows b t (l .start) (rowsTo 0 (length (l .steps)) (l .steps)) s (j .used)
+  pub steps-at : StepsAt t (l .start) 0 (l .steps)
   pub place : j .place ≡ l .place
   pub inside : l .place ≤ length (l .steps)
   pub steps : j .steps ≡ length (l .steps)
@@ -50,7 +50,7 @@ pub record Journal (b : Bounds) (j : Position) (s : State) (t : List ℕ) (l : T
 pub record Open (b : Bounds) (j : Position) (s₀ : State) (t₀ : List ℕ) (l : Timeline) (c : ℕ) (s : State) (t : List ℕ) (u : ℕ) : Type 0 where
   pub journal : Journal b j s₀ t₀ l
   pub below : Below (j .used) t₀ t
-  pub tape : Tape b t (l .start) u s u
+  pub rows : JournalRows b t (l .start) u s u
   pub low : j .used ≤ u
   pub costs : (i : ℕ) → j .used ≤ i → i < u → costAt t i ≡ c
   pub size : length t ≡ length t₀

@@ -17,8 +17,7 @@ ghost use Rattle.tables.specs.Tables.{State, st};
 ghost use Rattle.tables.specs.Edits.{applyS, Can};
 ghost use Rattle.tables.specs.Capacities.{Sized};
 ghost use Rattle.tables.specs.Holds.{Holds};
-ghost use Rattle.tables.specs.Read.{graphOf};
-ghost use Rattle.timeline.specs.Tape.{Tape, Toward};
+ghost use Rattle.timeline.specs.JournalRows.{JournalRows, Toward};
 ghost use Rattle.timeline.specs.Steps.{Journal, Behind};
 
 // The place p, the number of steps m, and the rows of steps 1 to p.
@@ -71,8 +70,8 @@ fn edit_between(t: &[u32], u: u32, v: u32) -> Edit
 
 // Takes one row back or carries it out: from u rows behind to v.
 fn replay_row(head: Head, vt: &mut [u32], et: &mut [u32], t: &[u32], u: u32, v: u32) -> Head
-    requires { ⌜ ((b : Bounds) × (g : Graph) × (n : ℕ) × (to : ℕ) × (to ≤ n) × Toward to u v × Tape b (now t) g n (st head (now vt) (now et)) u) ⌝ }
-    ensures { λ r. ⌜ ((b : Bounds) → (g : Graph) → (n : ℕ) → (to : ℕ) → to ≤ n → Toward to u v → Tape b (now (t .entry)) g n (st head (now (vt .entry)) (now (et .entry))) u → Tape b (now (t .entry)) g n (st r (now (vt .exit)) (now (et .exit))) v) ⌝ }
+    requires { ⌜ ((b : Bounds) × (g : Graph) × (n : ℕ) × (to : ℕ) × (to ≤ n) × Toward to u v × JournalRows b (now t) g n (st head (now vt) (now et)) u) ⌝ }
+    ensures { λ r. ⌜ ((b : Bounds) → (g : Graph) → (n : ℕ) → (to : ℕ) → to ≤ n → Toward to u v → JournalRows b (now (t .entry)) g n (st head (now (vt .entry)) (now (et .entry))) u → JournalRows b (now (t .entry)) g n (st r (now (vt .exit)) (now (et .exit))) v) ⌝ }
 {
     let e = edit_between(t, u, v);
     tables::edits::apply_edit(head, vt, et, e)
@@ -81,8 +80,8 @@ fn replay_row(head: Head, vt: &mut [u32], et: &mut [u32], t: &[u32], u: u32, v: 
 // Takes rows back or carries them out: from `from` rows behind to `to`. The one loop that replays, so that it is compiled as
 // one piece with the edits in it.
 fn replay(head: Head, vt: &mut [u32], et: &mut [u32], t: &[u32], from: u32, to: u32) -> Head
-    requires { ⌜ ((b : Bounds) × (g : Graph) × (n : ℕ) × (to ≤ n) × Tape b (now t) g n (st head (now vt) (now et)) from) ⌝ }
-    ensures { λ r. ⌜ ((b : Bounds) → (g : Graph) → (n : ℕ) → to ≤ n → Tape b (now (t .entry)) g n (st head (now (vt .entry)) (now (et .entry))) from → Tape b (now (t .entry)) g n (st r (now (vt .exit)) (now (et .exit))) to) ⌝ }
+    requires { ⌜ ((b : Bounds) × (g : Graph) × (n : ℕ) × (to ≤ n) × JournalRows b (now t) g n (st head (now vt) (now et)) from) ⌝ }
+    ensures { λ r. ⌜ ((b : Bounds) → (g : Graph) → (n : ℕ) → to ≤ n → JournalRows b (now (t .entry)) g n (st head (now (vt .entry)) (now (et .entry))) from → JournalRows b (now (t .entry)) g n (st r (now (vt .exit)) (now (et .exit))) to) ⌝ }
 {
     let mut h = head;
     let mut u = from;
@@ -182,7 +181,7 @@ pub fn add_step(x: Current, vt: &mut [u32], et: &mut [u32], t: &mut [u32], edit:
 }
 
 // The head and the position at a place that is gone to, and how many steps lay between.
-pub struct Went {
+pub struct MovedTo {
     pub current: Current,
     pub moved: u32,
 }
@@ -198,7 +197,7 @@ fn steps_between(p: u32, q: u32) -> u32
 }
 
 // To a place: the steps between are undone or redone; how many.
-pub fn go_to(x: Current, vt: &mut [u32], et: &mut [u32], t: &[u32], place: u32) -> Went
+pub fn go_to(x: Current, vt: &mut [u32], et: &mut [u32], t: &[u32], place: u32) -> MovedTo
     requires { ⌜ place ≤ x .position .steps ⌝ }
     requires { ⌜ ((b : Bounds) × (l : Timeline) × Journal b (x .position) (st (x .head) (now vt) (now et)) (now t) l) ⌝ }
     ensures { λ r. ⌜ ((b : Bounds) → (l : Timeline) → Journal b (x .position) (st (x .head) (now (vt .entry)) (now (et .entry))) (now (t .entry)) l → Journal b (r .current .position) (st (r .current .head) (now (vt .exit)) (now (et .exit))) (now (t .entry)) (placed place l)) ⌝ }
@@ -206,7 +205,7 @@ pub fn go_to(x: Current, vt: &mut [u32], et: &mut [u32], t: &[u32], place: u32) 
 {
     let current = placed_at(x, vt, et, t, place);
     let moved = steps_between(x.position.place, place);
-    Went { current, moved }
+    MovedTo { current, moved }
 }
 
 // Kind 22: the present graph is the start.

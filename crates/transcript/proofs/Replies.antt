@@ -1,19 +1,17 @@
 -- The list that chartrun runs is never refused, and what the run leaves is what the reply shows.
-use Prim.Native.Nat.{ℕ, _+_, _*_, _/_, _%_, _≤_}
+use Prim.Native.Nat.{ℕ, _*_, _/_, _%_, _≤_}
 use mathlib.Core.Path.{_≡_, refl, sym, ap, subst, _∙_}
-use mathlib.Core.Bool.{true, false}
 use mathlib.Core.List.{List, [], _∷_}
 use native.Mathlib.Omega.{arith}
-use lib.Dec.{ltb}
 use lib.ListN.{length, length-append, take, drop}
 use store.Seg.{take-pre}
 use borrow.Author.Tests.{le-ltb}
 use Rattle.lists.specs.Lists.{over}
-use Rattle.image.specs.Image.{loadable, load, save}
+use Rattle.image.specs.Image.{load, save}
 use Rattle.history.specs.Machine.{Machine, present}
-use Rattle.machine.specs.Calls.{Call, World, callsOf}
+use Rattle.machine.specs.Calls.{Call, Parameters, callsOf}
 use Rattle.machine.specs.Machine.{answers, step, last}
-use Rattle.machine.specs.Run.{Lent, Ran, listRefusal, run, answerWords}
+use Rattle.machine.specs.Run.{Lent, RunResult, listRefusal, run, answerWords}
 use Rattle.machine.proofs.Whole.{demand-3}
 use Rattle.text.specs.declared.reading.ReadVerdict.{ReadVerdict}
 use Rattle.text.specs.declared.reading.ReadVerdict.the-variants.{Calls, Unreadable}
@@ -22,14 +20,14 @@ use Rattle.text.specs.Writing.{writeText, unreadableText}
 use Rattle.text.proofs.Verdicts.{told-calls, told-unreadable}
 use Rattle.text.proofs.Accepts.{five-a-line, words-most}
 use Rattle.engine.specs.declared.run.Outcome.{Outcome}
-use Rattle.engine.specs.Outcomes.{ran}
-use Rattle.transcript.specs.Transcript.{world, begin, reply, replyTo, transcript, Written}
+use Rattle.engine.specs.Outcomes.{runResult}
+use Rattle.transcript.specs.Transcript.{parameters, begin, reply, replyTo, transcript, Written}
 
 -- what chartrun lends beside the calls
 abbrev pub lends : List ℕ → List ℕ → List ℕ → Lent
 lends calls answers end = record {
   start = 0 ∷ 0 ∷ 6 ∷ 6 ∷ 6 ∷ 6 ∷ [];
-  rows = world .rows;
+  rows = parameters .rows;
   calls = calls;
   vertexTable = 1600;
   edgeTable = 9600;
@@ -38,7 +36,7 @@ lends calls answers end = record {
   end = end;
 }
 
-answers-length : (w : World) (m : Machine) (xs : List Call) → length (answerWords (answers w m xs)) ≡ 2 * length xs
+answers-length : (w : Parameters) (m : Machine) (xs : List Call) → length (answerWords (answers w m xs)) ≡ 2 * length xs
 unfolding answers
 answers-length w m [] = refl
 answers-length w m (x ∷ xs) = omega (arith, answers-length w (step w m x) xs)
@@ -67,18 +65,18 @@ module _ (ws slice end : List ℕ) (whole : length ws % 5 ≡ 0) (few : length w
       rw (whole, a, le-ltb _ _ p, b)
 
   -- what the run leaves, cut to the calls done and the words of the image, is what the reply shows
-  pub shows : (r : Outcome) (slice′ end′ : List ℕ) → length slice′ ≡ 2000 → length end′ ≡ 7006 → ran r slice′ end′ ≡ run (lends ws slice end) →
+  pub shows : (r : Outcome) (slice′ end′ : List ℕ) → length slice′ ≡ 2000 → length end′ ≡ 7006 → runResult r slice′ end′ ≡ run (lends ws slice end) →
       Shows ws (r .done) (r .words) slice′ end′
   unfolding reply load
   shows r slice′ end′ p q e =
       let l = lends ws slice end in
       let d = demand-3 l accepts in
-      let A = answerWords (answers world begin (callsOf ws)) in
-      let G = save (present (last world begin (callsOf ws))) in
-      let done : 2 * r .done ≡ length A = ap (λ (n : ℕ). 2 * n) (ap (λ (x : Ran). x .done) e ∙ d .done) ∙ sym (answers-length world begin (callsOf ws)) in
-      let words : r .words ≡ length G = ap (λ (x : Ran). x .words) e ∙ d .words in
-      let answered : slice′ ≡ over A slice = ap (λ (x : Ran). x .answers) e ∙ d .answered in
-      let saved : end′ ≡ over G end = ap (λ (x : Ran). x .end) e ∙ d .saved in
+      let A = answerWords (answers parameters begin (callsOf ws)) in
+      let G = save (present (last parameters begin (callsOf ws))) in
+      let done : 2 * r .done ≡ length A = ap (λ (n : ℕ). 2 * n) (ap (λ (x : RunResult). x .done) e ∙ d .done) ∙ sym (answers-length parameters begin (callsOf ws)) in
+      let words : r .words ≡ length G = ap (λ (x : RunResult). x .words) e ∙ d .words in
+      let answered : slice′ ≡ over A slice = ap (λ (x : RunResult). x .answers) e ∙ d .answered in
+      let saved : end′ ≡ over G end = ap (λ (x : RunResult). x .end) e ∙ d .saved in
       record {
         calls-fit = fits A slice slice′ (2 * r .done) 2000 done answered p;
         words-fit = fits G end end′ (r .words) 7006 words saved q;

@@ -7,15 +7,15 @@ use Rattle.lists.specs.Lists.{over}
 use Rattle.graph.specs.Graph.{empty}
 use Rattle.image.specs.Image.{save}
 use Rattle.history.specs.Machine.{Machine, fresh, present}
-use Rattle.machine.specs.Calls.{World, callsOf}
+use Rattle.machine.specs.Calls.{Parameters, callsOf}
 use Rattle.machine.specs.Machine.{answers, last}
 use Rattle.machine.specs.Run.{answerWords}
 use Rattle.text.specs.Reading.{Verdict, calls, unreadable, readText}
 use Rattle.text.specs.Writing.{writeText, unreadableText}
 
 -- "capacities 200, 800, 1,000; types 0 to 4, with 2 and 3 below 1"
-abbrev pub world : World
-world = record { rows = 0 ∷ 0 ∷ 2 ∷ 2 ∷ 0 ∷ []; vertices = 200; edges = 800; changes = 1000 }
+abbrev pub parameters : Parameters
+parameters = record { rows = 0 ∷ 0 ∷ 2 ∷ 2 ∷ 0 ∷ []; vertices = 200; edges = 800; changes = 1000 }
 
 -- "empty start"
 abbrev pub begin : Machine
@@ -24,7 +24,7 @@ begin = fresh empty
 -- "a line per call (done number, or refused code), then a line of image and the end chart"
 unfoldable pub reply : List ℕ → List ℕ
 unfolding answers last save writeText
-reply words = writeText (answerWords (answers world begin (callsOf words))) (save (present (last world begin (callsOf words))))
+reply words = writeText (answerWords (answers parameters begin (callsOf words))) (save (present (last parameters begin (callsOf words))))
 
 unfoldable pub replyTo : Verdict → List ℕ
 unfolding reply unreadableText

@@ -1,5 +1,5 @@
 -- What each history call makes of the relation with the machine.
-use Prim.Native.Nat.{ℕ, suc, _+_, _-_, _*_, _/_, _^_, _≤_, _<_}
+use Prim.Native.Nat.{ℕ, suc, _+_, _-_, _*_, _≤_, _<_}
 use mathlib.Core.Path.{_≡_, refl, sym, ap, subst, _∙_}
 use mathlib.Core.Logic.{_≢_}
 use mathlib.Core.Bool.{Bool, true, false}
@@ -8,23 +8,23 @@ use native.Mathlib.Omega.{arith}
 use borrow.Author.Tests.{eq-eqb, ne-eqb, lt-ltb, le-ltb, ltb-false}
 use lib.Dec.{ltb}
 use lib.ListN.{length, getD}
-use Rattle.lists.specs.Choice.{_⇒_else_, _==_}
-use Rattle.lists.proofs.Picks.{Same, same, differ, same?}
+use Rattle.lists.specs.Choice.{_⇒_else_}
+use Rattle.lists.proofs.Picks.{same, differ, same?}
 use Rattle.graph.specs.Graph.{Graph}
 use Rattle.graph.specs.WellFormed.{Bounds}
 use Rattle.graph.specs.declared.Change.{Change}
 use Rattle.graph.specs.Changes.{cost}
-use Rattle.history.specs.Machine.{Standing, gone, at, Timeline, Machine, begun, current, placed, extended, freeOf, distance, noMarks, stands, placeOr, marked, cut, cutMarks, standing, fresh, present, moves}
+use Rattle.history.specs.Machine.{Standing, gone, at, Machine, begun, current, placed, extended, freeOf, distance, noMarks, stands, placeOr, marked, cut, cutMarks, standing, fresh, present, moves}
 use Rattle.history.proofs.Timelines.{length-cut}
 use Rattle.history.specs.Rules.{Obeys, stepOf, markCode, outside, changing, setting, dropping, undoing, redoing, going, committing, measuring, counting, freeing}
-use Rattle.marks.specs.Marked.{inSet, Marked}
+use Rattle.marks.specs.Marked.{Marked}
 use Rattle.marks.proofs.MarkLaws.{marked-same, marked-other, in-set, place-is}
 use Rattle.tables.specs.Tables.{st}
 use Rattle.timeline.specs.Steps.{Journal}
 use Rattle.timeline.proofs.Steps.{journal-free}
 use Rattle.versions.specs.declared.Version.{Version}
 use Rattle.versions.specs.Represents.{capacityOf, Represents, Follows, namedCode, freshCode, bothCode}
-use Rattle.versions.proofs.Codes.{Named, named-none, fresh-none, named-is, fresh-is, both-is, both-none}
+use Rattle.versions.proofs.Codes.{Named, named-none, named-is, fresh-is, both-is, both-none}
 use Rattle.versions.proofs.Following.{obeys-refused, obeys-accepted, refused, accepted}
 
 -- no mark stands
@@ -90,7 +90,7 @@ module _ (b : Bounds) (x : Version) (vt et t places : List ℕ) (m : Machine) (h
     -- there are rows for it
     pub change-room : n ≤ free → 12 * (x .current .position .used + n) ≤ length t
     change-room l =
-        omega (arith, f, l, q, h .journal .tape .within, h .journal .tape .upto, journal-free b (x .current .position) (st (x .current .head) vt et) t (m .line) capacity (h .journal))
+        omega (arith, f, l, q, h .journal .rows .within, h .journal .rows .upto, journal-free b (x .current .position) (st (x .current .head) vt et) t (m .line) capacity (h .journal))
 
     pub change-done : n ≤ free → (x′ : Version) (vt′ et′ t′ : List ℕ) → Journal b (x′ .current .position) (st (x′ .current .head) vt′ et′) t′ (extended (stepOf c (present m)) (m .line))
         → Marked (cutMarks (x .current .position .place) (m .marks)) (x′ .set) places → Follows (changing (capacityOf t) c) m b x′ 0 n vt′ et′ t′ places
@@ -222,7 +222,7 @@ module _ (b : Bounds) (x : Version) (vt et t places : List ℕ) (m : Machine) (h
   count-done n e = obeys-accepted counting m n refl e
 
   pub rows-fit : x .current .position .used ≤ capacityOf t
-  rows-fit = omega (arith, h .journal .tape .within, h .journal .tape .upto)
+  rows-fit = omega (arith, h .journal .rows .within, h .journal .rows .upto)
 
   pub free-done : (n c : ℕ) → c ≡ capacityOf t → n ≡ freeOf c (m .line) → Obeys (freeing (capacityOf t)) m 0 n
   free-done n c q e = obeys-accepted (freeing (capacityOf t)) m n refl (e ∙ ap (λ (k : ℕ). freeOf k (m .line)) q)

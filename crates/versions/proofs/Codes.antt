@@ -2,15 +2,15 @@
 use Prim.Native.Nat.{ℕ, _≤_, _<_}
 use mathlib.Core.Path.{_≡_, refl, sym, ap, _∙_}
 use mathlib.Core.Logic.{_≢_}
-use mathlib.Core.Bool.{Bool, true, false, not, _&&_, _||_}
+use mathlib.Core.Bool.{Bool, true, false, not, _||_}
 use mathlib.Core.List.{List, [], _∷_}
 use native.Mathlib.Omega.{arith}
 use lib.Dec.{leb}
-use borrow.Author.Tests.{le-leb, lt-leb, leb-true, not-true}
-use Rattle.lists.specs.Choice.{_⇒_else_, _==_, within}
-use Rattle.lists.proofs.Bools.{ft, tf, and-true}
-use Rattle.history.specs.Machine.{Standing, Machine, stands}
-use Rattle.history.specs.Rules.{outside, missing, markCode}
+use borrow.Author.Tests.{le-leb, lt-leb, leb-true}
+use Rattle.lists.specs.Choice.{_⇒_else_, within}
+use Rattle.lists.proofs.Bools.{tf, and-true}
+use Rattle.history.specs.Machine.{Machine, stands}
+use Rattle.history.specs.Rules.{outside, markCode}
 use Rattle.marks.specs.Marked.{inSet, Marked}
 use Rattle.marks.proofs.MarkLaws.{in-set}
 use Rattle.versions.specs.Represents.{namedCode, freshCode, bothCode}

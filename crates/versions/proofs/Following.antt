@@ -1,15 +1,14 @@
 -- A call that is refused, and one that is accepted.
 use Prim.Native.Nat.{ℕ}
-use mathlib.Core.Path.{_≡_, refl, sym, ap, subst, _∙_}
+use mathlib.Core.Path.{_≡_, sym, ap, subst, _∙_}
 use mathlib.Core.Logic.{_≢_}
-use mathlib.Core.Bool.{Bool, true, false}
+use mathlib.Core.Bool.{Bool}
 use mathlib.Core.List.{List}
-use native.Mathlib.Omega.{arith}
 use borrow.Author.Tests.{eq-eqb, ne-eqb}
-use Rattle.lists.specs.Choice.{_⇒_else_, _==_}
+use Rattle.lists.specs.Choice.{_⇒_else_}
 use Rattle.graph.specs.WellFormed.{Bounds}
 use Rattle.history.specs.Machine.{Machine}
-use Rattle.history.specs.Rules.{Rule, answered, followed, Obeys}
+use Rattle.history.specs.Rules.{Rule, Obeys}
 use Rattle.versions.specs.declared.Version.{Version}
 use Rattle.versions.specs.Represents.{Represents, Follows}
 

@@ -22,4 +22,4 @@ module _ (b : Bounds) (x : Version) (vt et t places : List ℕ) (m : Machine) (h
   within-present = within-current b (x .current .position) (st (x .current .head) vt et) t (m .line) (h .journal)
 
   pub sized-present : Sized b (st (x .current .head) vt et)
-  sized-present = h .journal .tape .sized
+  sized-present = h .journal .rows .sized

@@ -1,4 +1,4 @@
-use Rattle.answers.proofs.Telling.{few-edges}
+use Rattle.answers.proofs.AnswerLaws.{few-edges}
 use borrow.Author.Needs.{needs}
 use Rattle.answers.proofs.reply.Statement.{statement}
 use Rattle.answers.proofs.reply.Tie as tie

@@ -1,5 +1,5 @@
 use mathlib.Core.Path.{_∙_}
-use Rattle.answers.proofs.Telling.{told-refused, told-accepted, w-row, w-this}
+use Rattle.answers.proofs.AnswerLaws.{answer-refused, answer-accepted, w-row, w-this}
 use borrow.Author.Needs.{needs}
 use Rattle.answers.proofs.this_of.Statement.{statement}
 use Rattle.answers.proofs.this_of.Tie as tie
@@ -8,13 +8,13 @@ edge-code-requires : tie.Need-edge-code-requires
 edge-code-requires c κs = search needs
 
 returns : tie.Need-returns
-returns c = λ g n rows h. told-refused _ _ _ (c .before .edge-code .ensures .0 g h) (c .if1 .taken)
+returns c = λ g n rows h. answer-refused _ _ _ (c .before .edge-code .ensures .0 g h) (c .if1 .taken)
 
 this-requires : tie.Need-this-requires
 this-requires c κs = w-row _ (c .before .before .before .pre .0) (c .before .before .before .pre .1) _ _ (c .before .edge-code .ensures .0 (c .before .before .before .pre .0) (c .before .before .before .pre .1)) (c .if1 .left)
 
 returns-2 : tie.Need-returns-2
-returns-2 c = λ g n rows h. told-accepted _ _ _ _ (c .before .before .edge-code .ensures .0 g h) (c .before .if1 .left) (c .this .ensures ∙ w-this _ g h _ _ (c .before .before .edge-code .ensures .0 g h) (c .before .if1 .left))
+returns-2 c = λ g n rows h. answer-accepted _ _ _ _ (c .before .before .edge-code .ensures .0 g h) (c .before .if1 .left) (c .this .ensures ∙ w-this _ g h _ _ (c .before .before .edge-code .ensures .0 g h) (c .before .if1 .left))
 
 pub this-of-spec : {M : Type 1} → statement M
 this-of-spec = tie.close (tie.spec edge-code-requires returns this-requires returns-2)

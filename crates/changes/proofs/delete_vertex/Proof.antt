@@ -43,7 +43,7 @@ stepped-requires c κs =
     let a = s .args in
     let p = s .pre in
     let n = place-short (p .0) (a .x .position) (st (a .x .head) (a .vt .now) (a .et .now)) (a .t .now) (p .1) (p .5) in
-    (omega (arith, n, p .5 .tape .short), omega (arith, p .4, p .5 .tape .short))
+    (omega (arith, n, p .5 .rows .short), omega (arith, p .4, p .5 .rows .short))
 
 same-length : tie.Need-same-length
 same-length c =

@@ -7,12 +7,12 @@ use Rattle.history.specs.Machine.{current}
 use Rattle.tables.specs.Tables.{st}
 use Rattle.queries.proofs.Answers.{vertex-row}
 use Rattle.timeline.proofs.Steps.{holds-current, same-current}
-use Rattle.changes.proofs.Deletion.{Rowing, deleting-start, row-room, row-short, row-before, edge-here, edge-can, vertex-still, deleting-turn, deleting-end}
+use Rattle.changes.proofs.Deletion.{RemovalLoop, deleting-start, row-room, row-short, row-before, edge-here, edge-can, vertex-still, deleting-turn, deleting-end}
 use Rattle.changes.proofs.remove_edges.Statement.{statement}
 use Rattle.changes.proofs.remove_edges.Tie as tie
 
 abbrev Inv-loop : tie.InvT-loop
-Inv-loop vt₀ et₀ t₀ a rows h₀ u₀ w₀ vt et t h u w = Rowing a u₀ rows (st h₀ vt₀ et₀) t₀ (st h vt et) t u w
+Inv-loop vt₀ et₀ t₀ a rows h₀ u₀ w₀ vt et t h u w = RemovalLoop a u₀ rows (st h₀ vt₀ et₀) t₀ (st h vt et) t u w
 
 abbrev μ-loop : tie.MeasureT-loop
 μ-loop vt₀ et₀ t₀ a rows h₀ u₀ w₀ vt et t h u w = u₀ + rows - u

@@ -5,7 +5,7 @@ use borrow.Author.Needs.{needs}
 use borrow.Author.Tests.{not-true, not-false}
 use Rattle.image.specs.Checks.{bounds, codeOf}
 use Rattle.image.proofs.Headers.{counts-le}
-use Rattle.image.proofs.ScratchTies.{bad-head, bad-counts, incidences-few, verdict-by}
+use Rattle.image.proofs.ScratchPass.{bad-head, bad-counts, incidences-few, verdict-by}
 use Rattle.image.proofs.SavedSound.{verdict-code}
 use Rattle.image.proofs.check.Statement.{statement}
 use Rattle.image.proofs.check.Tie as tie

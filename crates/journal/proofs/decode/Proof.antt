@@ -1,5 +1,5 @@
 use Rattle.journal.specs.Rows.{editOf}
-use borrow.Author.Tests.{eq-eqb, ne-eqb}
+use borrow.Author.Tests.{ne-eqb}
 use borrow.Author.Needs.{needs}
 use Rattle.journal.proofs.decode.Statement.{statement}
 use Rattle.journal.proofs.decode.Tie as tie

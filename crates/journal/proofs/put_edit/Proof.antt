@@ -1,4 +1,4 @@
-use Rattle.journal.specs.Rows.{wordsOf, storeFrom, editOf}
+use Rattle.journal.specs.Rows.{wordsOf, storeFrom}
 use Rattle.graph.specs.declared.Edit.{Edit}
 use mathlib.Core.Path.{ap, sym, _∙_}
 use borrow.Author.Needs.{needs}

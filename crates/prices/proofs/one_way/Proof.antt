@@ -8,7 +8,7 @@ use Rattle.ring.specs.declared.Ends.{Ends}
 use Rattle.ring.specs.Links.{nxt, linkOf, nodes}
 use Rattle.graph.specs.declared.Reading.{Reading}
 use Rattle.tables.specs.Tables.{st, ilane, endsAt, EIn, wnext}
-use Rattle.tables.proofs.Frames.{fair-i}
+use Rattle.tables.proofs.Frames.{valid-i}
 use Rattle.queries.proofs.ListWalks.{Walk, Step, left, walk-start, walk-step, first-link, word-in, next-link}
 use Rattle.prices.specs.declared.Way.{Way}
 use Rattle.prices.specs.declared.Way.the-variants.{Nothing}
@@ -57,7 +57,7 @@ loop-holds c =
     let et = s .args .et .now in
     let e = endsAt (s .args .vt .now) (s .args .a) in
     let q = c .first-word .ensures ∙ first-link (s .args .vt .now) et (s .args .a) in (
-      walk-start (λ x. 0) (Row et) ilane et e fair-i (s .pre .list) (s .pre .held) (s .pre .rows) (c .first-word .result) q,
+      walk-start (λ x. 0) (Row et) ilane et e valid-i (s .pre .list) (s .pre .held) (s .pre .rows) (c .first-word .result) q,
       ap (λ (w : ℕ). along (readingTo et (s .args .b)) Nothing (ahead ilane et e w)) q,
     )
 

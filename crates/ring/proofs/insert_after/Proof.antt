@@ -16,7 +16,7 @@ join-requires-2 c κs =
     let d = c .before .before .before in
     let n = d .before .before in
     let s = n .before .before .before in (
-      s .pre .fair,
+      s .pre .valid,
       (
         inside-by (s .args .lane) refl (d .join .kept .0) (s .pre .here),
         inside-by (s .args .lane) (n .next .ensures) (d .join .kept .0) (s .pre .next),

@@ -16,7 +16,7 @@ join-requires c κs =
     let n = c .before in
     let p = n .before .before in
     let s = p .before .before .before in (
-      s .pre .fair,
+      s .pre .valid,
       (
         inside-by (s .args .lane) (p .prev .ensures) refl (s .pre .prev),
         inside-by (s .args .lane) (n .next .ensures) refl (s .pre .next),

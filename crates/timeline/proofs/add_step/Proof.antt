@@ -20,7 +20,7 @@ stepped-requires c κs =
     let a = s .args in
     let p = s .pre .1 in
     let n = place-short (p .0) (a .x .position) (st (a .x .head) (a .vt .now) (a .et .now)) (a .t .now) (p .1) (p .4) in
-    (omega (arith, n, p .4 .tape .short), omega (arith, s .pre .0, p .4 .tape .short))
+    (omega (arith, n, p .4 .rows .short), omega (arith, s .pre .0, p .4 .rows .short))
 
 same-length : tie.Need-same-length
 same-length c = search needs

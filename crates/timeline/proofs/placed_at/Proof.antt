@@ -21,7 +21,7 @@ replay-requires c κs =
     let l = s .pre .1 .1 in
     let k = s .pre .1 .2 in
     let h = c .before .before .rows-behind .ensures (l .start) (l .steps) (omega (arith, s .pre .0, k .steps)) (journal-behind (s .pre .1 .0) (a .x .position) (st (a .x .head) (a .vt .now) (a .et .now)) (a .t .now) l k) in
-    (s .pre .1 .0, l .start, _, behind-within (a .t .now) (l .start) (l .steps) (a .place) _ h, k .tape)
+    (s .pre .1 .0, l .start, _, behind-within (a .t .now) (l .start) (l .steps) (a .place) _ h, k .rows)
 
 moved-requires : tie.Need-moved-requires
 moved-requires c κs = search needs
@@ -40,7 +40,7 @@ returns c =
     let s₀ = st (a .x .head) (a .vt .now) (a .et .now) in
     let h = c .before .before .before .before .before .before .before .before .rows-behind .ensures (l .start) (l .steps) (omega (arith, s .pre .0, k .steps)) (journal-behind b (a .x .position) s₀ (a .t .now) l k) in
     at-record b _ _ _ _ _ _ (c .moved .ensures)
-    (journal-placed b (a .x .position) _ s₀ _ (a .t .now) l k h refl (c .before .before .before .before .before .replay .ensures b (l .start) _ (behind-within (a .t .now) (l .start) (l .steps) (a .place) _ h) (k .tape)))
+    (journal-placed b (a .x .position) _ s₀ _ (a .t .now) l k h refl (c .before .before .before .before .before .replay .ensures b (l .start) _ (behind-within (a .t .now) (l .start) (l .steps) (a .place) _ h) (k .rows)))
 
 pub placed-at-spec : {M : Type 1} → statement M
 placed-at-spec =

@@ -1,8 +1,8 @@
 use mathlib.Core.Path.{refl, subst, _∙_}
 use Prim.Native.Nat.{ℕ}
 use Rattle.tables.specs.Tables.{st}
-use Rattle.timeline.specs.Tape.{Tape}
-use Rattle.timeline.proofs.Tapes.{apart, nearer, Replayed}
+use Rattle.timeline.specs.JournalRows.{JournalRows}
+use Rattle.timeline.proofs.JournalRowLaws.{apart, nearer, Replayed}
 use Rattle.timeline.proofs.replay.Statement.{statement}
 use Rattle.timeline.proofs.replay.Tie as tie
 
@@ -47,7 +47,7 @@ returns : tie.Need-returns Inv-loop μ-loop
 returns c =
     λ b g n i x.
     let l = c .before .loop in
-    subst (λ (u : ℕ). Tape b (c .before .before .before .before .before .args .t .now) g n (st (l .h) (l .vt) (l .et)) u) (c .loop-test .left) (l .inv .goes b g n i x)
+    subst (λ (u : ℕ). JournalRows b (c .before .before .before .before .before .args .t .now) g n (st (l .h) (l .vt) (l .et)) u) (c .loop-test .left) (l .inv .goes b g n i x)
 
 pub replay-spec : {M : Type 1} → statement M
 replay-spec =

@@ -1,5 +1,5 @@
 use Rattle.tables.specs.Tables.{st}
-use Rattle.timeline.proofs.Tapes.{row-room, row-can, row-tape}
+use Rattle.timeline.proofs.JournalRowLaws.{row-room, row-can, row-tape}
 use borrow.Author.Needs.{needs}
 use Rattle.timeline.proofs.replay_row.Statement.{statement}
 use Rattle.timeline.proofs.replay_row.Tie as tie

@@ -5,7 +5,7 @@ use lib.ListN.{length}
 use Rattle.graph.specs.Graph.{Graph}
 use Rattle.history.specs.Machine.{Step}
 use Rattle.timeline.specs.Steps.{Behind}
-use Rattle.timeline.proofs.Tapes.{apart, nearer}
+use Rattle.timeline.proofs.JournalRowLaws.{apart, nearer}
 use Rattle.timeline.proofs.rows_behind.Statement.{statement}
 use Rattle.timeline.proofs.rows_behind.Tie as tie
 

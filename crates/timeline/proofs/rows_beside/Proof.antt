@@ -1,5 +1,5 @@
 use native.Mathlib.Omega.{arith}
-use Rattle.timeline.proofs.Steps.{back-of, fore-of, behind-back, behind-on}
+use Rattle.timeline.proofs.Steps.{back-of, forward-of, behind-back, behind-on}
 use Rattle.timeline.proofs.rows_beside.Statement.{statement}
 use Rattle.timeline.proofs.rows_beside.Tie as tie
 
@@ -38,7 +38,7 @@ cost-at-requires-2 c κs =
     let s = c .before .before in
     let a = s .args in
     let p = s .pre in
-    let r = fore-of (a .t .now) (p .0) (p .1) (p .2) (a .p) (a .q) (a .u) (p .3) (p .4) (p .5) (c .if1 .left) in
+    let r = forward-of (a .t .now) (p .0) (p .1) (p .2) (a .p) (a .q) (a .u) (p .3) (p .4) (p .5) (c .if1 .left) in
     omega (arith, r .some, r .fits)
 
 add-result : tie.Need-add-result
@@ -46,7 +46,7 @@ add-result c =
     let s = c .before .before .before in
     let a = s .args in
     let p = s .pre in
-    let r = fore-of (a .t .now) (p .0) (p .1) (p .2) (a .p) (a .q) (a .u) (p .3) (p .4) (p .5) (c .before .if1 .left) in
+    let r = forward-of (a .t .now) (p .0) (p .1) (p .2) (a .p) (a .q) (a .u) (p .3) (p .4) (p .5) (c .before .if1 .left) in
     omega (arith, r .word, r .fits, c .cost-at2 .ensures, p .5 .short)
 
 returns-2 : tie.Need-returns-2

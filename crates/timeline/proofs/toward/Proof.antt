@@ -1,5 +1,5 @@
 use native.Mathlib.Omega.{arith}
-use Rattle.timeline.specs.Tape.{back, on}
+use Rattle.timeline.specs.JournalRows.{back, on}
 use borrow.Author.Needs.{needs}
 use Rattle.timeline.proofs.toward.Statement.{statement}
 use Rattle.timeline.proofs.toward.Tie as tie

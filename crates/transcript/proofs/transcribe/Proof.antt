@@ -1,6 +1,5 @@
 -- `transcribe` meets its contract.
-use mathlib.Core.Path.{refl, sym}
-use native.Mathlib.Omega.{arith}
+use mathlib.Core.Path.{sym}
 use lib.Seq.{length-take-le}
 use Rattle.transcript.proofs.Replies.{CallsRead, calls-read, unreadable-read, written-as}
 use borrow.Author.Needs.{needs}

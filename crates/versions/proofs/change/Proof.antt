@@ -13,7 +13,7 @@ cost-of-requires c κs =
     let a = s .args in
     let p = s .pre in
     let s₀ = st (a .x .current .head) (a .vt .now) (a .et .now) in
-    (p .0, present (p .1), p .3 .journal .tape .sized, holds-current (p .0) (a .x .current .position) s₀ (a .t .now) (p .1 .line) (p .3 .journal), p .2)
+    (p .0, present (p .1), p .3 .journal .rows .sized, holds-current (p .0) (a .x .current .position) s₀ (a .t .now) (p .1 .line) (p .3 .journal), p .2)
 
 cast-capacity : tie.Need-cast-capacity
 cast-capacity c = search needs

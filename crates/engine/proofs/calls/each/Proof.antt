@@ -5,24 +5,24 @@ use native.Mathlib.Omega.{arith}
 use lib.ListN.{length, take, length-set, length-take, length-drop}
 use borrow.Author.Needs.{needs}
 use Rattle.history.specs.Machine.{Machine}
-use Rattle.machine.specs.Calls.{World, callsOf}
+use Rattle.machine.specs.Calls.{Parameters, callsOf}
 use Rattle.engine.specs.Running.{Running}
-use Rattle.engine.specs.Calls.{Went}
-use Rattle.engine.proofs.CallLaws.{went-none, went-more, went-all}
+use Rattle.engine.specs.Calls.{AfterCalls}
+use Rattle.engine.proofs.CallLaws.{after-calls-none, after-calls-more, after-calls-all}
 use Rattle.engine.proofs.calls.each.Statement.{statement}
 use Rattle.engine.proofs.calls.each.Tie as tie
 
 abbrev Inv-loop : tie.InvT-loop
 Inv-loop vt₀ et₀ t₀ places₀ closed types calls answers₀ n y₀ k₀ vt et t places answers y k =
     (k ≤ n) × (length vt ≡ length vt₀) × (length et ≡ length et₀) × (length t ≡ length t₀) × (length answers ≡ length answers₀)
-    × ((w : World) → (m : Machine) → Running w y₀ vt₀ et₀ t₀ places₀ closed types m
-    → Went w m (take k (callsOf calls)) y vt et t places closed types answers₀ answers)
+    × ((w : Parameters) → (m : Machine) → Running w y₀ vt₀ et₀ t₀ places₀ closed types m
+    → AfterCalls w m (take k (callsOf calls)) y vt et t places closed types answers₀ answers)
 
 abbrev μ-loop : tie.MeasureT-loop
 μ-loop vt₀ et₀ t₀ places₀ closed types calls answers₀ n y₀ k₀ vt et t places answers y k = n - k
 
 loop-holds : tie.Need-loop-holds Inv-loop μ-loop
-loop-holds c = (omega arith, refl, refl, refl, refl, λ w m h. went-none w m _ _ _ _ _ _ _ _ (c .before .before .before .before .before .args .answers .now) h)
+loop-holds c = (omega arith, refl, refl, refl, refl, λ w m h. after-calls-none w m _ _ _ _ _ _ _ _ (c .before .before .before .before .before .args .answers .now) h)
 
 mul-decode : tie.Need-mul-decode Inv-loop μ-loop
 mul-decode c = search needs
@@ -92,7 +92,7 @@ loop-again c =
       s .kept .1 .1 .1 .0 ∙ l .inv .3,
       simp length-set (l .inv .4),
       λ w m h.
-          went-more w m _ _ _ _ _ _ _ _ _ (a .calls .now) (l .k) _ (s .result) _ _ _ _ (l .inv .5 w m h) (c .before .before .before .before .before .before .before .before .before .before .before .before .decode .ensures) (s .ensures)
+          after-calls-more w m _ _ _ _ _ _ _ _ _ (a .calls .now) (l .k) _ (s .result) _ _ _ _ (l .inv .5 w m h) (c .before .before .before .before .before .before .before .before .before .before .before .before .decode .ensures) (s .ensures)
           (omega (arith, c .before .before .before .before .before .before .before .before .before .before .before .before .before .before)) (omega (arith, c .before .before .before .before .before .before .before .before .before .before .before .before .before .before)),
     )
 
@@ -111,7 +111,7 @@ same-length-4 c = c .before .loop .inv .4
 returns : tie.Need-returns Inv-loop μ-loop
 returns c =
     let l = c .before .loop in
-    λ w m h. went-all w m _ _ _ _ _ _ _ _ _ (c .before .before .before .before .before .before .before .args .calls .now) (l .k) (omega arith) (l .inv .5 w m h)
+    λ w m h. after-calls-all w m _ _ _ _ _ _ _ _ _ (c .before .before .before .before .before .before .before .args .calls .now) (l .k) (omega arith) (l .inv .5 w m h)
 
 pub each-spec : {M : Type 1} → statement M
 each-spec =

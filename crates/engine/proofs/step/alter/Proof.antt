@@ -1,5 +1,3 @@
-use mathlib.Core.Path.{refl}
-use Rattle.history.specs.Machine.{present}
 use Rattle.machine.specs.Calls.{boundsIn}
 use Rattle.engine.proofs.StepRules.{alter-refused, alter-allowed, alter-made}
 use borrow.Author.Needs.{needs}

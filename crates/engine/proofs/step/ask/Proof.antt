@@ -1,7 +1,7 @@
 use mathlib.Core.Path.{refl}
 use Rattle.history.specs.Machine.{present}
 use Rattle.machine.specs.Calls.{boundsIn}
-use Rattle.engine.proofs.StepRules.{ask-told, sized, holds}
+use Rattle.engine.proofs.StepRules.{ask-answers, sized, holds}
 use borrow.Author.Needs.{needs}
 use Rattle.engine.proofs.step.ask.Statement.{statement}
 use Rattle.engine.proofs.step.ask.Tie as tie
@@ -10,7 +10,7 @@ reply-requires : tie.Need-reply-requires
 reply-requires c κs = search needs
 
 returns : tie.Need-returns
-returns c = λ w m t places h. (refl, ask-told w m _ _ _ t places _ _ h _ (c .reply .result) (c .reply .ensures (present m) (w .rows) (boundsIn w) (sized w m _ _ _ t places _ _ h) (holds w m _ _ _ t places _ _ h) (h .setting .rows) (h .setting .closed-rows)))
+returns c = λ w m t places h. (refl, ask-answers w m _ _ _ t places _ _ h _ (c .reply .result) (c .reply .ensures (present m) (w .rows) (boundsIn w) (sized w m _ _ _ t places _ _ h) (holds w m _ _ _ t places _ _ h) (h .setting .rows) (h .setting .closed-rows)))
 
 pub ask-spec : {M : Type 1} → statement M
 ask-spec = tie.close (tie.spec reply-requires returns)

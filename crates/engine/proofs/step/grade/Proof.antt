@@ -1,7 +1,5 @@
 use mathlib.Core.Path.{refl}
-use Rattle.history.specs.Machine.{present}
-use Rattle.machine.specs.Calls.{boundsIn}
-use Rattle.engine.proofs.StepRules.{grade-told}
+use Rattle.engine.proofs.StepRules.{grade-answers}
 use borrow.Author.Needs.{needs}
 use Rattle.engine.proofs.step.grade.Statement.{statement}
 use Rattle.engine.proofs.step.grade.Tie as tie
@@ -13,7 +11,7 @@ grade-of-requires : tie.Need-grade-of-requires
 grade-of-requires c κs = search needs
 
 returns : tie.Need-returns
-returns c = λ w m t places closed types h. (refl, grade-told w m _ _ _ t places closed types h _ _ _ (c .before .priced .result) (c .before .priced .ensures w m t places closed types h) (c .grade-of .ensures))
+returns c = λ w m t places closed types h. (refl, grade-answers w m _ _ _ t places closed types h _ _ _ (c .before .priced .result) (c .before .priced .ensures w m t places closed types h) (c .grade-of .ensures))
 
 pub grade-spec : {M : Type 1} → statement M
 grade-spec = tie.close (tie.spec priced-requires grade-of-requires returns)

@@ -1,4 +1,3 @@
-use mathlib.Core.Path.{refl}
 use Rattle.history.specs.Machine.{present}
 use Rattle.machine.specs.Calls.{boundsIn}
 use Rattle.engine.proofs.StepRules.{holds, sound, sized, both-there, missing-priced, there-priced}

@@ -1,7 +1,5 @@
 use mathlib.Core.Path.{refl}
-use Rattle.history.specs.Machine.{present}
-use Rattle.machine.specs.Calls.{boundsIn}
-use Rattle.engine.proofs.StepRules.{range-told}
+use Rattle.engine.proofs.StepRules.{range-answers}
 use borrow.Author.Needs.{needs}
 use Rattle.engine.proofs.step.range.Statement.{statement}
 use Rattle.engine.proofs.step.range.Tie as tie
@@ -10,7 +8,7 @@ priced-requires : tie.Need-priced-requires
 priced-requires c κs = search needs
 
 returns : tie.Need-returns
-returns c = λ w m t places closed types h. (refl, range-told w m _ _ _ t places closed types h _ _ (c .priced .result) (c .priced .ensures w m t places closed types h))
+returns c = λ w m t places closed types h. (refl, range-answers w m _ _ _ t places closed types h _ _ (c .priced .result) (c .priced .ensures w m t places closed types h))
 
 pub range-spec : {M : Type 1} → statement M
 range-spec = tie.close (tie.spec priced-requires returns)

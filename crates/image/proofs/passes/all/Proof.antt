@@ -2,7 +2,7 @@ use borrow.Author.Needs.{needs}
 use lib.ListN.{replicate}
 use Rattle.image.specs.Checks.{bounds}
 use Rattle.image.proofs.Turns.{below-marked}
-use Rattle.image.proofs.ScratchTies.{pass-1, pass-2, pass-3}
+use Rattle.image.proofs.ScratchPass.{pass-1, pass-2, pass-3}
 use Rattle.image.proofs.passes.all.Statement.{statement}
 use Rattle.image.proofs.passes.all.Tie as tie
 

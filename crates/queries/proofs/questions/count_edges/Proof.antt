@@ -8,7 +8,7 @@ use Rattle.ring.specs.declared.Ends.{Ends}
 use Rattle.ring.specs.Links.{nxt, linkOf, nodes}
 use Rattle.tables.specs.Tables.{ilane, endsAt, EIn, wnext}
 use Rattle.queries.specs.Walks.{countedAt, edgeCount}
-use Rattle.tables.proofs.Frames.{fair-i}
+use Rattle.tables.proofs.Frames.{valid-i}
 use Rattle.queries.proofs.ListWalks.{Walk, Step, left, walk-start, walk-end, walk-step, sum-few, first-link, word-in, next-link}
 use Rattle.queries.proofs.Counts.{counted-le}
 use Rattle.queries.proofs.questions.count_edges.Statement.{statement}
@@ -38,7 +38,7 @@ loop-holds c =
     let s = c .before .before .before in
     let et = s .args .et .now in
     let vt = s .args .vt .now in
-    walk-start (countedAt et) (λ x. EIn et (x / 2)) ilane et (endsAt vt (s .args .v)) fair-i (s .pre .list) (s .pre .held) (s .pre .rows) (c .first-word .result)
+    walk-start (countedAt et) (λ x. EIn et (x / 2)) ilane et (endsAt vt (s .args .v)) valid-i (s .pre .list) (s .pre .held) (s .pre .rows) (c .first-word .result)
     (c .first-word .ensures ∙ first-link vt et (s .args .v))
 
 counted-requires : tie.Need-counted-requires Inv-loop μ-loop
@@ -57,7 +57,7 @@ add-n c =
       arith,
       step et e (l .w) (l .n) (l .inv) (c .before .loop-test .taken) .most,
       c .counted .ensures,
-      sum-few (countedAt et) (counted-le et) ilane et e fair-i (s .pre .list) (s .pre .held),
+      sum-few (countedAt et) (counted-le et) ilane et e valid-i (s .pre .list) (s .pre .held),
       s .pre .small,
     )
 

@@ -13,10 +13,10 @@ use Rattle.types.specs.Types.{below}
 use Rattle.types.specs.Rows.{goodRows}
 use Rattle.types.specs.Closure.{closureWords}
 use Rattle.tables.specs.Tables.{ilane, endsAt, EIn, etype, wnext}
-use Rattle.tables.proofs.Frames.{fair-i}
+use Rattle.tables.proofs.Frames.{valid-i}
 use Rattle.queries.specs.Walks.{degreeOne, degreeAt}
 use Rattle.queries.proofs.ListWalks.{Walk, Step, left, walk-start, walk-end, walk-step, walk-on, sum-few, first-link, word-in, next-link}
-use Rattle.queries.proofs.Degrees.{Pace, sum-keep}
+use Rattle.queries.proofs.Degrees.{CountedWalk, sum-keep}
 use Rattle.queries.proofs.questions.degree.Statement.{statement}
 use Rattle.queries.proofs.questions.degree.Tie as tie
 
@@ -31,19 +31,19 @@ abbrev Counted : List ℕ → List ℕ → ℕ → ℕ → Ends → ℕ → ℕ 
 Counted words et t c e n w = (rows : List ℕ) → goodRows rows ≡ true → words ≡ closureWords rows → Walk (one rows et t c) (Row et) ilane et e w n (sumOf (one rows et t c) (nodes ilane et e))
 
 abbrev Inv-loop : tie.InvT-loop
-Inv-loop words vt et v t c n₀ w₀ n w = Pace et (endsAt vt v) w n × Counted words et t c (endsAt vt v) n w
+Inv-loop words vt et v t c n₀ w₀ n w = CountedWalk et (endsAt vt v) w n × Counted words et t c (endsAt vt v) n w
 
 abbrev μ-loop : tie.MeasureT-loop
 μ-loop words vt et v t c n₀ w₀ n w = left ilane et (endsAt vt v) w
 
-module _ (et : List ℕ) (e : Ends) (w n : ℕ) (k : Pace et e w n) (z : w ≡ 0 → ⊥) where
+module _ (et : List ℕ) (e : Ends) (w n : ℕ) (k : CountedWalk et e w n) (z : w ≡ 0 → ⊥) where
   step : Step (λ x. 1) (Row et) ilane et e w (k .passed) (sumOf (λ x. 1) (nodes ilane et e))
   step = walk-step (λ x. 1) (Row et) ilane et e w (k .passed) (sumOf (λ x. 1) (nodes ilane et e)) (k .walk) z
 
   link : (y : ℕ) → y ≡ wnext et w → y ≡ linkOf nxt ilane et e w
   link = next-link et w (step .holds) e
 
-  on : (r y : ℕ) → r ≤ 1 → y ≡ wnext et w → Pace et e y (n + r)
+  on : (r y : ℕ) → r ≤ 1 → y ≡ wnext et w → CountedWalk et e y (n + r)
   on r y m q = record { passed = k .passed + 1; walk = step .next y (link y q); most = omega (arith, k .most) }
 
 first-word-requires : tie.Need-first-word-requires Inv-loop μ-loop
@@ -55,8 +55,8 @@ loop-holds c =
     let et = s .args .et .now in
     let e = endsAt (s .args .vt .now) (s .args .v) in
     let q = c .first-word .ensures ∙ first-link (s .args .vt .now) et (s .args .v) in (
-      record { passed = 0; walk = walk-start (λ x. 1) (Row et) ilane et e fair-i (s .pre .list) (s .pre .held) (s .pre .rows) (c .first-word .result) q; most = omega arith },
-      λ rows good p. walk-start (one rows et (s .args .t) (s .args .c)) (Row et) ilane et e fair-i (s .pre .list) (s .pre .held) (s .pre .rows) (c .first-word .result) q,
+      record { passed = 0; walk = walk-start (λ x. 1) (Row et) ilane et e valid-i (s .pre .list) (s .pre .held) (s .pre .rows) (c .first-word .result) q; most = omega arith },
+      λ rows good p. walk-start (one rows et (s .args .t) (s .args .c)) (Row et) ilane et e valid-i (s .pre .list) (s .pre .held) (s .pre .rows) (c .first-word .result) q,
     )
 
 in-degree-requires : tie.Need-in-degree-requires Inv-loop μ-loop
@@ -76,7 +76,7 @@ add-n c =
       step et e (l .w) (l .n) (l .inv .0) (c .before .loop-test .taken) .most,
       l .inv .0 .most,
       c .in-degree .ensures .0,
-      sum-few (λ x. 1) (λ x. omega arith) ilane et e fair-i (s .pre .list) (s .pre .held),
+      sum-few (λ x. 1) (λ x. omega arith) ilane et e valid-i (s .pre .list) (s .pre .held),
       s .pre .small,
     )
 

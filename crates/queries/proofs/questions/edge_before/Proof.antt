@@ -1,5 +1,5 @@
 use Rattle.queries.proofs.ListWalks.{before-read}
-use Rattle.tables.proofs.Frames.{fair-e}
+use Rattle.tables.proofs.Frames.{valid-e}
 use Rattle.tables.specs.Tables.{elane}
 use mathlib.Core.Path.{refl}
 use borrow.Author.Needs.{needs}
@@ -10,7 +10,7 @@ before-requires : tie.Need-before-requires
 before-requires c κs = search needs
 
 returns : tie.Need-returns
-returns c = let s = c .before .before in before-read elane (s .args .et .now) fair-e (s .args .a) (s .args .b) refl (s .pre) (c .before2 .ensures)
+returns c = let s = c .before .before in before-read elane (s .args .et .now) valid-e (s .args .a) (s .args .b) refl (s .pre) (c .before2 .ensures)
 
 pub edge-before-spec : {M : Type 1} → statement M
 edge-before-spec = tie.close (tie.spec before-requires returns)

@@ -1,5 +1,5 @@
 use Rattle.queries.proofs.ListWalks.{before-read}
-use Rattle.tables.proofs.Frames.{fair-v}
+use Rattle.tables.proofs.Frames.{valid-v}
 use Rattle.tables.specs.Tables.{vlane}
 use mathlib.Core.Path.{refl}
 use borrow.Author.Needs.{needs}
@@ -10,7 +10,7 @@ before-requires : tie.Need-before-requires
 before-requires c κs = search needs
 
 returns : tie.Need-returns
-returns c = let s = c .before .before in before-read vlane (s .args .vt .now) fair-v (s .args .a) (s .args .b) refl (s .pre) (c .before2 .ensures)
+returns c = let s = c .before .before in before-read vlane (s .args .vt .now) valid-v (s .args .a) (s .args .b) refl (s .pre) (c .before2 .ensures)
 
 pub vertex-before-spec : {M : Type 1} → statement M
 vertex-before-spec = tie.close (tie.spec before-requires returns)

@@ -1,5 +1,5 @@
 use Rattle.queries.proofs.ListWalks.{before-read, before-asks}
-use Rattle.tables.proofs.Frames.{fair-i}
+use Rattle.tables.proofs.Frames.{valid-i}
 use Rattle.tables.specs.Tables.{ilane, endsAt}
 use mathlib.Core.Path.{ap, _∙_}
 use borrow.Author.Needs.{needs}
@@ -15,12 +15,12 @@ ends-of-requires c κs = search needs
 before-requires : tie.Need-before-requires
 before-requires c κs =
     let s = c .before .before .before .before in
-    before-asks ilane (s .args .et .now) fair-i (s .args .a) (c .ends-of .ensures ∙ ap (endsAt (s .args .vt .now)) (c .before .this .ensures)) (s .pre .2)
+    before-asks ilane (s .args .et .now) valid-i (s .args .a) (c .ends-of .ensures ∙ ap (endsAt (s .args .vt .now)) (c .before .this .ensures)) (s .pre .2)
 
 returns : tie.Need-returns
 returns c =
     let s = c .before .before .before .before .before in
-    before-read ilane (s .args .et .now) fair-i (s .args .a) (s .args .b) (c .before .ends-of .ensures ∙ ap (endsAt (s .args .vt .now)) (c .before .before .this .ensures)) (s .pre .2)
+    before-read ilane (s .args .et .now) valid-i (s .args .a) (s .args .b) (c .before .ends-of .ensures ∙ ap (endsAt (s .args .vt .now)) (c .before .before .this .ensures)) (s .pre .2)
     (c .before2 .ensures)
 
 pub word-before-spec : {M : Type 1} → statement M

@@ -5,7 +5,7 @@ use native.Mathlib.Omega.{arith}
 use borrow.Author.Needs.{needs}
 use lib.ListN.{length}
 use Rattle.tables.specs.Tables.{elane, eends}
-use Rattle.tables.proofs.Frames.{fair-e}
+use Rattle.tables.proofs.Frames.{valid-e}
 use Rattle.store.specs.Words.{edgeWords, edgePart}
 use Rattle.store.proofs.Walks.{Writing, Turn, left, writing-start, writing-turn, writing-end}
 use Rattle.store.proofs.write.edges.Statement.{statement}
@@ -18,12 +18,12 @@ abbrev μ-loop : tie.MeasureT-loop
 μ-loop et out₀ from lane ends at₀ e₀ out at e = left lane et ends e
 
 next-requires : tie.Need-next-requires Inv-loop μ-loop
-next-requires c κs = (fair-e, λ z. absurd (z refl))
+next-requires c κs = (valid-e, λ z. absurd (z refl))
 
 loop-holds : tie.Need-loop-holds Inv-loop μ-loop
 loop-holds c =
     let s = c .before .before .before in
-    (refl, writing-start (edgeWords (s .args .et .now)) elane (s .args .et .now) (eends (s .args .head)) (s .args .out .now) (s .args .from) fair-e (s .pre .0) (c .next .result) (c .next .ensures))
+    (refl, writing-start (edgeWords (s .args .et .now)) elane (s .args .et .now) (eends (s .args .head)) (s .args .out .now) (s .args .from) valid-e (s .pre .0) (c .next .result) (c .next .ensures))
 
 -- what is known in a turn
 turn : (c : tie.In-loop Inv-loop μ-loop) → let s = c .before .before .before .before .before in let l = c .before .loop in
@@ -46,7 +46,7 @@ unfolding edgePart
 add-at c = omega (arith, turn (c .before .before .before .before) .room)
 
 next-requires-2 : tie.Need-next-requires-2 Inv-loop μ-loop
-next-requires-2 c κs = (fair-e, turn (c .before .before .before .before) .inside)
+next-requires-2 c κs = (valid-e, turn (c .before .before .before .before) .inside)
 
 loop-less : tie.Need-loop-less Inv-loop μ-loop
 loop-less c = turn (c .before .before .before .before .before) .less (c .next2 .result) (c .next2 .ensures)

@@ -8,7 +8,7 @@ use lib.ListN.{length, length-set}
 use Rattle.lists.specs.Lists.{each}
 use Rattle.ring.specs.Links.{nodes}
 use Rattle.tables.specs.Tables.{ilane}
-use Rattle.tables.proofs.Frames.{fair-i}
+use Rattle.tables.proofs.Frames.{valid-i}
 use Rattle.store.specs.Words.{listWords}
 use Rattle.store.proofs.Walks.{Writing, Turn, left, writing-start, writing-turn, writing-end, each-one}
 use Rattle.store.proofs.write.list.Statement.{statement}
@@ -24,13 +24,13 @@ ends-of-requires : tie.Need-ends-of-requires Inv-loop μ-loop
 ends-of-requires c κs = search needs
 
 next-requires : tie.Need-next-requires Inv-loop μ-loop
-next-requires c κs = (fair-i, λ z. absurd (z refl))
+next-requires c κs = (valid-i, λ z. absurd (z refl))
 
 loop-holds : tie.Need-loop-holds Inv-loop μ-loop
 loop-holds c =
     let e = c .before .ends-of in
     let s = c .before .before .before .before .before in
-    (refl, writing-start (λ x. x ∷ []) ilane (s .args .et .now) (e .result) (s .args .out .now) (s .args .from) fair-i (rw (e .ensures) (s .pre .1)) (c .next .result) (c .next .ensures))
+    (refl, writing-start (λ x. x ∷ []) ilane (s .args .et .now) (e .result) (s .args .out .now) (s .args .from) valid-i (rw (e .ensures) (s .pre .1)) (c .next .result) (c .next .ensures))
 
 -- what is known in a turn
 turn : (c : tie.In-loop Inv-loop μ-loop) → let s = c .before .before .before .before .before .before .before in let l = c .before .loop in
@@ -59,7 +59,7 @@ add-at : tie.Need-add-at Inv-loop μ-loop
 add-at c = omega (arith, room c)
 
 next-requires-2 : tie.Need-next-requires-2 Inv-loop μ-loop
-next-requires-2 c κs = (fair-i, turn c .inside)
+next-requires-2 c κs = (valid-i, turn c .inside)
 
 loop-less : tie.Need-loop-less Inv-loop μ-loop
 loop-less c = turn (c .before) .less (c .next2 .result) (c .next2 .ensures)

@@ -1,5 +1,4 @@
-use Rattle.tables.specs.Tables.{st}
-use Rattle.tables.specs.Tables.{setEdgeS}
+use Rattle.tables.specs.Tables.{st, setEdgeS}
 use borrow.Author.Needs.{needs}
 use Rattle.tables.proofs.edges.set_edge.Statement.{statement}
 use Rattle.tables.proofs.edges.set_edge.Tie as tie

@@ -1,5 +1,4 @@
-use Rattle.tables.proofs.Steps.{attached}
-use Rattle.tables.proofs.Steps.{insert-by}
+use Rattle.tables.proofs.Steps.{attached, insert-by}
 use Rattle.tables.specs.Tables.{ilane}
 use mathlib.Core.Path.{refl}
 use borrow.Author.Needs.{needs}

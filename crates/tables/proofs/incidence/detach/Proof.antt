@@ -1,5 +1,4 @@
-use Rattle.tables.proofs.Steps.{detached}
-use Rattle.tables.proofs.Steps.{unlink-by}
+use Rattle.tables.proofs.Steps.{detached, unlink-by}
 use Rattle.tables.specs.Tables.{ilane}
 use borrow.Author.Needs.{needs}
 use Rattle.tables.proofs.incidence.detach.Statement.{statement}

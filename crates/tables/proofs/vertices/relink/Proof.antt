@@ -1,5 +1,4 @@
-use Rattle.tables.proofs.Steps.{moved}
-use Rattle.tables.proofs.Steps.{insert-by}
+use Rattle.tables.proofs.Steps.{moved, insert-by}
 use borrow.Author.Needs.{needs}
 use Rattle.tables.proofs.vertices.relink.Statement.{statement}
 use Rattle.tables.proofs.vertices.relink.Tie as tie

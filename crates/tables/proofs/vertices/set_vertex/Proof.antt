@@ -1,5 +1,4 @@
-use Rattle.tables.specs.Tables.{st}
-use Rattle.tables.specs.Tables.{setVertexS}
+use Rattle.tables.specs.Tables.{st, setVertexS}
 use borrow.Author.Needs.{needs}
 use Rattle.tables.proofs.vertices.set_vertex.Statement.{statement}
 use Rattle.tables.proofs.vertices.set_vertex.Tie as tie

@@ -1,10 +1,9 @@
-use lib.ListN.{getD}
+use lib.ListN.{getD, length, drop}
 use Rattle.text.specs.declared.reading.Lines.{Lines}
 use borrow.Author.Needs.{needs}
 use native.Mathlib.Omega.{arith}
 use mathlib.Core.Path.{_≡_, refl, sym, ap, _∙_}
 use Prim.Native.Nat.{_≤_, _-_}
-use lib.ListN.{length, drop}
 use Rattle.text.proofs.Walks.{run-turn, run-end, ended-most}
 use Rattle.text.specs.Scan.{run, byteIn, restIn}
 use Rattle.text.proofs.reading.check_lines.Statement.{statement}

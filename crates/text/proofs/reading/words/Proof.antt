@@ -1,9 +1,8 @@
 use Rattle.text.specs.declared.reading.Number.the-variants.{Empty}
-use Prim.Native.Nat.{_<_}
+use Prim.Native.Nat.{_<_, _≤_, _-_, _+_}
 use borrow.Author.Needs.{needs}
 use native.Mathlib.Omega.{arith}
 use mathlib.Core.Path.{_≡_, refl, sym, ap, _∙_}
-use Prim.Native.Nat.{_≤_, _-_, _+_}
 use lib.ListN.{length, drop}
 use lib.Seq.{sets}
 use Rattle.text.proofs.Walks.{words-length, words-stores, words-end}

@@ -19,9 +19,9 @@ use Rattle.image.specs.declared.Verdict.the-variants.{Sound, BadHeader}
 use Rattle.image.proofs.Verdict.{the-type}
 use Rattle.image.proofs.Verdicts.{stop, then-same}
 use Rattle.image.proofs.Headers.{sound-length}
-use Rattle.image.proofs.VertexTies.{Tracks, vertex-tie, marks-tie, walk-distinct, walk-positive}
-use Rattle.image.proofs.EdgeTies.{Marked, Seen, Paired, marked-by, edge-tie, degrees-tie, owners-tie}
-use Rattle.image.proofs.ListTies.{positive, incidence-tie}
+use Rattle.image.proofs.VertexPass.{Indicator, vertex-agrees, marks-agree, walk-distinct, walk-positive}
+use Rattle.image.proofs.EdgePass.{Marked, Seen, Paired, marked-by, edge-agrees, degrees-agree, owners-agree}
+use Rattle.image.proofs.ListPass.{positive, incidence-agrees}
 
 zeros : (n i : ℕ) → _≡_ {A = ℕ} (getD (replicate n 0) i 0) 0
 zeros zero i = refl
@@ -30,14 +30,14 @@ zeros (suc n) (suc i) = zeros n i
 
 module _ (deg own : List ℕ) (deg-zero : (i : ℕ) → getD deg i 0 ≡ 0) (own-zero : (i : ℕ) → getD own i 0 ≡ 0)
     (b : Bounds) (deg-room : b .vertices < length deg) (own-room : 2 * b .edges + 1 < length own) where
-  scratch-tie : (v e : ℕ) (vs es is : List ℕ) →
+  scratch-agrees : (v e : ℕ) (vs es is : List ℕ) →
       scratchRun deg own b v e vs es is
       ≡ andThen (vertexWalk vertexSize (b .vertices) (b .types) [] v vs vertexOffset)
       (andThen (edgeWalk (b .edges) (b .types) (numbersIn vertexSize v vs) [] e es (edgeOffset v))
       (listWalk (edgesFrom e es) (numbersIn vertexSize v vs) is (incidenceOffset v e)))
   unfolding scratchRun
-  scratch-tie v e vs es is =
-      rw (vertex-tie vertexSize (b .vertices) (b .types) deg [] v vs vertexOffset deg-room deg-zero)
+  scratch-agrees v e vs es is =
+      rw (vertex-agrees vertexSize (b .vertices) (b .types) deg [] v vs vertexOffset deg-room deg-zero)
       (then-same (vertexWalk vertexSize (b .vertices) (b .types) [] v vs vertexOffset) _ _ after-vertices)
     where
       numbers : List ℕ
@@ -56,28 +56,28 @@ module _ (deg own : List ℕ) (deg-zero : (i : ℕ) → getD deg i 0 ≡ 0) (own
           andThen (edgeRun (b .edges) (b .types) marks own e es (edgeOffset v)) (incidenceRun vertexSize (edgeDegrees marks e es) (edgeOwners own e es) v vs is (incidenceOffset v e))
           ≡ andThen (edgeWalk (b .edges) (b .types) numbers [] e es (edgeOffset v)) (listWalk (edgesFrom e es) numbers is (incidenceOffset v e))
       after-vertices s =
-          rw (edge-tie (b .edges) (b .types) numbers nz marks own [] e es (edgeOffset v) own-room marked seen0)
+          rw (edge-agrees (b .edges) (b .types) numbers nz marks own [] e es (edgeOffset v) own-room marked seen0)
           (then-same (edgeWalk (b .edges) (b .types) numbers [] e es (edgeOffset v)) _ _ λ q.
-          incidence-tie vertexSize (edgesFrom e es) (edgeDegrees marks e es) (edgeOwners own e es) v vs is (incidenceOffset v e)
+          incidence-agrees vertexSize (edgesFrom e es) (edgeDegrees marks e es) (edgeOwners own e es) v vs is (incidenceOffset v e)
           (λ n h.
-          let m : getD marks n 0 ≡ 1 = tracks n ∙ ap bit h in
-          omega (arith, m, degrees-tie (b .edges) (b .types) numbers nz marks [] e es (edgeOffset v) marked q n))
+          let m : getD marks n 0 ≡ 1 = indicator n ∙ ap bit h in
+          omega (arith, m, degrees-agree (b .edges) (b .types) numbers nz marks [] e es (edgeOffset v) marked q n))
           (λ n h w.
           let p = positive n numbers nz h in
           let z : (0 == n) ≡ false = ne-eqb 0 n (λ r. omega arith) in
           let y : bit (getD own w 0 == n) ≡ 0 = rw (own-zero w, z) in
-          omega (arith, y, owners-tie (b .edges) (b .types) numbers nz own [] e es (edgeOffset v) own-room seen0 paired0 q n p w))
+          omega (arith, y, owners-agree (b .edges) (b .types) numbers nz own [] e es (edgeOffset v) own-room seen0 paired0 q n p w))
           nz
           (walk-distinct vertexSize (b .vertices) (b .types) [] v vs vertexOffset s))
         where
           nz : has 0 numbers ≡ false
           nz = walk-positive vertexSize (b .vertices) (b .types) [] v vs vertexOffset s
 
-          tracks : Tracks numbers marks
-          tracks = marks-tie vertexSize (b .vertices) (b .types) deg [] v vs vertexOffset deg-room deg-zero s
+          indicator : Indicator numbers marks
+          indicator = marks-agree vertexSize (b .vertices) (b .types) deg [] v vs vertexOffset deg-room deg-zero s
 
           marked : Marked numbers marks
-          marked = marked-by numbers marks tracks
+          marked = marked-by numbers marks indicator
 
 -- ---- the passes one by one
 
@@ -130,5 +130,5 @@ module _ (ws : List ℕ) (h : soundHeader ws ≡ true) where
   unfolding verdict
   verdict-by vcap ecap types v e lv le hv he k vs es is p q s r g =
       let k′ : soundCounts vcap ecap (vertexCount ws) (edgeCount ws) ≡ true = rw (hv, he) at k in
-      let t = scratch-tie (replicate 1001 0) (replicate 8002 0) (zeros 1001) (zeros 8002) (bounds vcap ecap types) (rw length-replicate (omega arith)) (rw length-replicate (omega arith)) v e vs es is in
+      let t = scratch-agrees (replicate 1001 0) (replicate 8002 0) (zeros 1001) (zeros 8002) (bounds vcap ecap types) (rw length-replicate (omega arith)) (rw length-replicate (omega arith)) v e vs es is in
       rw (h, k′) (rw (p ∙ part-one, q ∙ part-two, s ∙ part-three, hv, he) at (g ∙ t))

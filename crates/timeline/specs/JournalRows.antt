@@ -17,7 +17,7 @@ made t g zero = g
 made t g (suc i) = apply (rowAt t i) (made t g i)
 
 -- n rows that lead on from g, each within the bounds, of which the tables have u behind them
-pub record Tape (b : Bounds) (t : List ℕ) (g : Graph) (n : ℕ) (s : State) (u : ℕ) : Type 0 where
+pub record JournalRows (b : Bounds) (t : List ℕ) (g : Graph) (n : ℕ) (s : State) (u : ℕ) : Type 0 where
   pub sized : Sized b s
   pub sound : WellFormed g
   pub bounded : Within b g

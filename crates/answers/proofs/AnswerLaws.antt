@@ -1,6 +1,6 @@
 -- An answer from a code and a number.
 use Prim.Native.Nat.{ℕ, _+_, _-_, _^_, _*_, _/_, _≤_, _<_}
-use mathlib.Core.Path.{_≡_, refl, sym, ap, _∙_}
+use mathlib.Core.Path.{_≡_, refl, sym, _∙_}
 use mathlib.Core.Bool.{Bool, true, false, not, _||_}
 use mathlib.Core.List.{List}
 use native.Mathlib.Omega.{arith}
@@ -35,14 +35,13 @@ use Rattle.queries.proofs.Answers.{
 }
 use Rattle.checks.specs.Held.{HoldsV, HoldsE}
 use Rattle.commands.specs.Meaning.{lacksVertex, lacksEdge}
-use Rattle.answers.specs.declared.Answer.{Answer}
-use Rattle.answers.specs.Told.{Told}
+use Rattle.answers.specs.AnswerIs.{AnswerIs}
 
-pub told-refused : (code c n : ℕ) → c ≡ code → (c ≡ 0 → ⊥) → Told (record { code = c; number = 0 }) code n
-told-refused code c n e d = record { coded = e; numbered = rw (ne-eqb code 0 (λ z. d (e ∙ z))) }
+pub answer-refused : (code c n : ℕ) → c ≡ code → (c ≡ 0 → ⊥) → AnswerIs (record { code = c; number = 0 }) code n
+answer-refused code c n e d = record { coded = e; numbered = rw (ne-eqb code 0 (λ z. d (e ∙ z))) }
 
-pub told-accepted : (code c x n : ℕ) → c ≡ code → c ≡ 0 → x ≡ n → Told (record { code = 0; number = x }) code n
-told-accepted code c x n e z i = record { coded = sym z ∙ e; numbered = rw (eq-eqb code 0 (sym e ∙ z)) i }
+pub answer-accepted : (code c x n : ℕ) → c ≡ code → c ≡ 0 → x ≡ n → AnswerIs (record { code = 0; number = x }) code n
+answer-accepted code c x n e z i = record { coded = sym z ∙ e; numbered = rw (eq-eqb code 0 (sym e ∙ z)) i }
 
 module _ (g : Graph) (w : WellFormed g) where
   there-v : (t : Bool) (n : ℕ) → hasVertex g n ≡ t → _≡_ {A = ℕ} (not t ⇒ 4 else 0) 0 → VertexThere g n

@@ -4,21 +4,21 @@ use mathlib.Core.Path.{_≡_, refl, sym, ap, subst, _∙_}
 use mathlib.Core.List.{List}
 use native.Mathlib.Omega.{arith}
 use lib.ListN.{length}
-use Rattle.lists.proofs.Picks.{Same, same, differ, same?}
+use Rattle.lists.proofs.Picks.{same, differ, same?}
 use Rattle.graph.specs.declared.Edit.{Edit}
 use Rattle.graph.specs.Graph.{Graph}
 use Rattle.graph.specs.WellFormed.{Bounds, WellFormed, Within}
 use Rattle.graph.specs.Edits.{Applies, EditIn, apply, inverse}
 use Rattle.graph.proofs.Keeps.{keeps-formed}
 use Rattle.graph.proofs.EditBounds.{keeps-within}
-use Rattle.journal.specs.Rows.{rowAt, costAt, rowed, Below}
+use Rattle.journal.specs.Rows.{rowAt, rowed, Below}
 use Rattle.journal.proofs.RowLaws.{row-agree, rowed-length, rowed-below, rowed-row}
 use Rattle.tables.specs.Tables.{State}
 use Rattle.tables.specs.Holds.{Holds}
 use Rattle.tables.specs.Edits.{applyS, Can}
 use Rattle.tables.specs.Capacities.{Sized}
 use Rattle.tables.proofs.Callers.{can-apply, edited, edited-sized, can-revert, reverted, reverted-sized}
-use Rattle.timeline.specs.Tape.{made, Tape, Toward, back, on}
+use Rattle.timeline.specs.JournalRows.{made, JournalRows, Toward, back, on}
 
 -- ---- what the rows make is well formed and within the bounds
 
@@ -32,11 +32,11 @@ module _ (b : Bounds) (t : List ℕ) (g : Graph) (n : ℕ) (applies : (i : ℕ) 
   made-within i w (suc u) h = keeps-within b (rowAt t u) (made t g u) (applies u (omega arith)) (i u (omega arith)) (made-within i w u (omega arith))
 
 module _ (b : Bounds) (t : List ℕ) (g : Graph) (n : ℕ) (s : State) where
-  pub tape-sound : (u v : ℕ) → Tape b t g n s u → v ≤ n → WellFormed (made t g v)
-  tape-sound u v k h = made-sound b t g n (k .applies) (k .sound) v h
+  pub rows-sound : (u v : ℕ) → JournalRows b t g n s u → v ≤ n → WellFormed (made t g v)
+  rows-sound u v k h = made-sound b t g n (k .applies) (k .sound) v h
 
   -- other tables that hold what v rows make
-  moved : (s′ : State) (u v : ℕ) → Tape b t g n s u → Sized b s′ → v ≤ n → Holds s′ (made t g v) → Tape b t g n s′ v
+  moved : (s′ : State) (u v : ℕ) → JournalRows b t g n s u → Sized b s′ → v ≤ n → Holds s′ (made t g v) → JournalRows b t g n s′ v
   moved s′ u v k z i h = record {
     sized = z;
     sound = k .sound;
@@ -50,33 +50,33 @@ module _ (b : Bounds) (t : List ℕ) (g : Graph) (n : ℕ) (s : State) where
   }
 
   -- one row back
-  module _ (u : ℕ) (k : Tape b t g n s (suc u)) where
+  module _ (u : ℕ) (k : JournalRows b t g n s (suc u)) where
     last : u < n
     last = omega (arith, k .upto)
 
     sound : WellFormed (made t g u)
-    sound = tape-sound (suc u) u k (omega (arith, last))
+    sound = rows-sound (suc u) u k (omega (arith, last))
 
     pub can-back : Can (inverse (rowAt t u)) s
     can-back = can-revert b s (k .sized) (rowAt t u) (made t g u) sound (k .applies u last) (k .inside u last) (k .holds) _ refl
 
-    pub tape-back : (s′ : State) → s′ ≡ applyS (inverse (rowAt t u)) s → Tape b t g n s′ u
-    tape-back s′ q =
+    pub rows-back : (s′ : State) → s′ ≡ applyS (inverse (rowAt t u)) s → JournalRows b t g n s′ u
+    rows-back s′ q =
         moved s′ (suc u) u k (reverted-sized b s (k .sized) (rowAt t u) (made t g u) sound (k .applies u last) (k .inside u last) (k .holds) _ s′ refl q)
         (omega (arith, last)) (reverted b s (k .sized) (rowAt t u) (made t g u) sound (k .applies u last) (k .inside u last) (k .holds) _ s′ refl q)
 
   -- one row on
-  module _ (u : ℕ) (k : Tape b t g n s u) (l : u < n) where
+  module _ (u : ℕ) (k : JournalRows b t g n s u) (l : u < n) where
     pub can-on : Can (rowAt t u) s
     can-on = can-apply b s (k .sized) (made t g u) (k .holds) (rowAt t u) (k .applies u l) (k .inside u l)
 
-    pub tape-on : (s′ : State) → s′ ≡ applyS (rowAt t u) s → Tape b t g n s′ (suc u)
-    tape-on s′ q =
+    pub rows-on : (s′ : State) → s′ ≡ applyS (rowAt t u) s → JournalRows b t g n s′ (suc u)
+    rows-on s′ q =
         moved s′ u (suc u) k (edited-sized b s (k .sized) (made t g u) (k .holds) (rowAt t u) (k .applies u l) (k .inside u l) s′ q)
         (omega arith) (edited b s (k .sized) (made t g u) (k .holds) (rowAt t u) (k .applies u l) (k .inside u l) s′ q)
 
-  pub tape-cut : (u : ℕ) → Tape b t g n s u → Tape b t g u s u
-  tape-cut u k = record {
+  pub rows-cut : (u : ℕ) → JournalRows b t g n s u → JournalRows b t g u s u
+  rows-cut u k = record {
     sized = k .sized;
     sound = k .sound;
     bounded = k .bounded;
@@ -89,8 +89,8 @@ module _ (b : Bounds) (t : List ℕ) (g : Graph) (n : ℕ) (s : State) where
   }
 
 -- an edit that applies to what the tables hold can be carried out there
-pub tape-can : (b : Bounds) (t : List ℕ) (g : Graph) (n : ℕ) (s : State) (u : ℕ) (e : Edit) → Tape b t g n s u → Applies e (made t g u) → EditIn b e → Can e s
-tape-can b t g n s u e k a i = can-apply b s (k .sized) (made t g u) (k .holds) e a i
+pub rows-can : (b : Bounds) (t : List ℕ) (g : Graph) (n : ℕ) (s : State) (u : ℕ) (e : Edit) → JournalRows b t g n s u → Applies e (made t g u) → EditIn b e → Can e s
+rows-can b t g n s u e k a i = can-apply b s (k .sized) (made t g u) (k .holds) e a i
 
 pub made-agree : (u : ℕ) (t t′ : List ℕ) (g : Graph) → Below u t t′ → (i : ℕ) → i ≤ u → made t′ g i ≡ made t g i
 made-agree u t t′ g b zero h = refl
@@ -106,7 +106,7 @@ did-by s q h = h ∙ ap (λ (x : Edit). applyS x s) q
 
 -- ---- one row, back or on; the lower of u and v is its number
 
-module _ (b : Bounds) (t : List ℕ) (g : Graph) (n : ℕ) (s : State) (to u v : ℕ) (i : to ≤ n) (d : Toward to u v) (k : Tape b t g n s u) where
+module _ (b : Bounds) (t : List ℕ) (g : Graph) (n : ℕ) (s : State) (to u v : ℕ) (i : to ≤ n) (d : Toward to u v) (k : JournalRows b t g n s u) where
   pub row-room : 12 * (u - (u - v)) + 12 ≤ length t
   row-room = elim d [ back h q ↦ omega (arith, k .upto, k .within) | on h q ↦ omega (arith, k .within) ]
 
@@ -119,14 +119,14 @@ module _ (b : Bounds) (t : List ℕ) (g : Graph) (n : ℕ) (s : State) (to u v :
 
     pub row-can : Can e s
     row-can = elim d [
-      | back h q ↦ can-by s (back-row q) (can-back b t g n s v (subst (Tape b t g n s) q k))
+      | back h q ↦ can-by s (back-row q) (can-back b t g n s v (subst (JournalRows b t g n s) q k))
       | on h q ↦ can-by s (on-row q) (can-on b t g n s u k (omega arith))
     ]
 
-    pub row-tape : (s′ : State) → s′ ≡ applyS e s → Tape b t g n s′ v
+    pub row-tape : (s′ : State) → s′ ≡ applyS e s → JournalRows b t g n s′ v
     row-tape s′ z = elim d [
-      | back h q ↦ tape-back b t g n s v (subst (Tape b t g n s) q k) s′ (did-by s (back-row q) z)
-      | on h q ↦ subst (Tape b t g n s′) (sym q) (tape-on b t g n s u k (omega arith) s′ (did-by s (on-row q) z))
+      | back h q ↦ rows-back b t g n s v (subst (JournalRows b t g n s) q k) s′ (did-by s (back-row q) z)
+      | on h q ↦ subst (JournalRows b t g n s′) (sym q) (rows-on b t g n s u k (omega arith) s′ (did-by s (on-row q) z))
     ]
 
 -- ---- the loops
@@ -140,11 +140,11 @@ nearer to u v d = elim d [ back h q ↦ omega arith | on h q ↦ omega arith ]
 pub record Replayed (t : List ℕ) (s₀ s : State) (from to u : ℕ) : Type 0 where
   pub vlen : length (s .vt) ≡ length (s₀ .vt)
   pub elen : length (s .et) ≡ length (s₀ .et)
-  pub goes : (b : Bounds) (g : Graph) (n : ℕ) → to ≤ n → Tape b t g n s₀ from → Tape b t g n s u
+  pub goes : (b : Bounds) (g : Graph) (n : ℕ) → to ≤ n → JournalRows b t g n s₀ from → JournalRows b t g n s u
 
 -- ---- an edit is carried out and written down as the row after the last
 
-module _ (b : Bounds) (t t′ : List ℕ) (g : Graph) (s s′ : State) (u : ℕ) (e : Edit) (c : ℕ) (k : Tape b t g u s u) (room : 12 * u + 12 ≤ length t)
+module _ (b : Bounds) (t t′ : List ℕ) (g : Graph) (s s′ : State) (u : ℕ) (e : Edit) (c : ℕ) (k : JournalRows b t g u s u) (room : 12 * u + 12 ≤ length t)
     (a : Applies e (made t g u)) (i : EditIn b e) (q : t′ ≡ rowed u e c t) (d : s′ ≡ applyS e s) where
   below : Below u t t′
   below = rowed-below u e c t t′ q room
@@ -169,8 +169,8 @@ module _ (b : Bounds) (t t′ : List ℕ) (g : Graph) (s s′ : State) (u : ℕ)
   applies′ : (i : ℕ) → i < suc u → Applies (rowAt t′ i) (made t′ g i)
   applies′ i h = subst (λ (x : Graph). Applies (rowAt t′ i) x) (sym (old i (omega arith))) (by-row (λ b j. Applies b (made t g j)) (k .applies) a i h)
 
-  pub tape-more : Tape b t′ g (suc u) s′ (suc u)
-  tape-more = record {
+  pub rows-added : JournalRows b t′ g (suc u) s′ (suc u)
+  rows-added = record {
     sized = edited-sized b s (k .sized) (made t g u) (k .holds) e a i s′ d;
     sound = k .sound;
     bounded = k .bounded;

@@ -20,7 +20,7 @@ use Rattle.image.specs.declared.Verdict.the-variants.{Sound}
 use Rattle.image.proofs.Formed.{within-le}
 use Rattle.image.proofs.Ends.{words-length}
 use Rattle.image.proofs.Verdicts.{record-same, record-sound, EdgeOk, edge-ok}
-use Rattle.image.proofs.VertexTies.{Tracks}
+use Rattle.image.proofs.VertexPass.{Indicator}
 
 -- ---- the tables
 
@@ -36,7 +36,7 @@ Seen seen own = (n : ℕ) → eqb (getD own (outWord n) 0) 0 ≡ not (has n seen
 abbrev pub Paired : List ℕ → Type 0
 Paired own = (n : ℕ) → getD own (outWord n) 0 ≡ 0 → getD own (inWord n) 0 ≡ 0
 
-pub marked-by : (vs deg : List ℕ) → Tracks vs deg → Marked vs deg
+pub marked-by : (vs deg : List ℕ) → Indicator vs deg → Marked vs deg
 marked-by vs deg a m = go (has m vs) (a m)
   where
     go : (t : Bool) → getD deg m 0 ≡ bit t → ltb 0 (getD deg m 0) ≡ t
@@ -186,11 +186,11 @@ module _ (cap types : ℕ) (vs : List ℕ) where
     not-zero : (a : ℕ) → has a vs ≡ true → a ≡ 0 → ⊥
     not-zero a h e = true≢false (sym h ∙ subst (λ (v : ℕ). has v vs ≡ false) (sym e) no-zero)
 
-    pub edge-tie : (deg own seen : List ℕ) (k : ℕ) (ws : List ℕ) (at : ℕ) → 2 * cap + 1 < length own → Marked vs deg → Seen seen own →
+    pub edge-agrees : (deg own seen : List ℕ) (k : ℕ) (ws : List ℕ) (at : ℕ) → 2 * cap + 1 < length own → Marked vs deg → Seen seen own →
         edgeRun cap types deg own k ws at ≡ edgeWalk cap types vs seen k ws at
     unfolding edgeRun edgeWalk
-    edge-tie deg own seen zero ws at h m s = refl
-    edge-tie deg own seen (suc k) ws at h m s =
+    edge-agrees deg own seen zero ws at h m s = refl
+    edge-agrees deg own seen (suc k) ws at h m s =
         let n = getD ws 0 0 in
         let a = getD ws 1 0 in
         let o = getD ws 2 0 in
@@ -198,16 +198,16 @@ module _ (cap types : ℕ) (vs : List ℕ) where
         (record-same 6 at (goodEdge cap types (not (has n seen)) (has a vs) (has o vs) n (getD ws 3 0) (getD ws 4 0) (getD ws 5 0)) _ _ λ g.
         let ok = edge-ok cap types (not (has n seen)) (has a vs) (has o vs) n (getD ws 3 0) (getD ws 4 0) (getD ws 5 0) g in
         let l = within-le cap n (ok .number) in
-        edge-tie (ends a o deg) (owned n a o own) (n ∷ seen) k (drop edgeSize ws) (at + edgeSize)
+        edge-agrees (ends a o deg) (owned n a o own) (n ∷ seen) k (drop edgeSize ws) (at + edgeSize)
         (rw (length-set, length-set) h)
         (marked-ends vs deg a o (ok .starts) (ok .stops) m)
         (seen-owned own n a o seen (omega arith) (not-zero a (ok .starts)) s))
 
-    pub degrees-tie : (deg seen : List ℕ) (k : ℕ) (ws : List ℕ) (at : ℕ) → Marked vs deg → edgeWalk cap types vs seen k ws at ≡ Sound →
+    pub degrees-agree : (deg seen : List ℕ) (k : ℕ) (ws : List ℕ) (at : ℕ) → Marked vs deg → edgeWalk cap types vs seen k ws at ≡ Sound →
         (v : ℕ) → getD (edgeDegrees deg k ws) v 0 ≡ getD deg v 0 + length (wordsAt (edgesFrom k ws) v)
     unfolding edgeDegrees edgesFrom wordsAt
-    degrees-tie deg seen zero ws at m s v = omega arith
-    degrees-tie deg seen (suc k) ws at m s v =
+    degrees-agree deg seen zero ws at m s v = omega arith
+    degrees-agree deg seen (suc k) ws at m s v =
         let n = getD ws 0 0 in
         let a = getD ws 1 0 in
         let o = getD ws 2 0 in
@@ -215,7 +215,7 @@ module _ (cap types : ℕ) (vs : List ℕ) where
         let r = edge-step seen k ws at s in
         omega (
           arith,
-          degrees-tie (ends a o deg) (n ∷ seen) k (drop edgeSize ws) (at + edgeSize) (marked-ends vs deg a o (r .ok .starts) (r .ok .stops) m) (r .rest) v,
+          degrees-agree (ends a o deg) (n ∷ seen) k (drop edgeSize ws) (at + edgeSize) (marked-ends vs deg a o (r .ok .starts) (r .ok .stops) m) (r .rest) v,
           ends-at deg a o v (marked-inside vs deg a m (r .ok .starts)) (marked-inside vs deg o m (r .ok .stops)),
           length-append (wordsOf v e) (wordsAt (edgesFrom k (drop edgeSize ws)) v),
           words-length v e,
@@ -223,11 +223,11 @@ module _ (cap types : ℕ) (vs : List ℕ) where
           ap bit (eqb-sym v o),
         )
 
-    pub owners-tie : (own seen : List ℕ) (k : ℕ) (ws : List ℕ) (at : ℕ) → 2 * cap + 1 < length own → Seen seen own → Paired own → edgeWalk cap types vs seen k ws at ≡ Sound →
+    pub owners-agree : (own seen : List ℕ) (k : ℕ) (ws : List ℕ) (at : ℕ) → 2 * cap + 1 < length own → Seen seen own → Paired own → edgeWalk cap types vs seen k ws at ≡ Sound →
         (v : ℕ) → 1 ≤ v → (w : ℕ) → bit (getD (edgeOwners own k ws) w 0 == v) ≡ bit (getD own w 0 == v) + count w (wordsAt (edgesFrom k ws) v)
     unfolding edgeOwners edgesFrom wordsAt
-    owners-tie own seen zero ws at h u p s v l w = omega arith
-    owners-tie own seen (suc k) ws at h u p s v l w =
+    owners-agree own seen zero ws at h u p s v l w = omega arith
+    owners-agree own seen (suc k) ws at h u p s v l w =
         let n = getD ws 0 0 in
         let a = getD ws 1 0 in
         let o = getD ws 2 0 in
@@ -237,7 +237,7 @@ module _ (cap types : ℕ) (vs : List ℕ) where
         let z : a ≡ 0 → ⊥ = not-zero a (r .ok .starts) in
         omega (
           arith,
-          owners-tie (owned n a o own) (n ∷ seen) k (drop edgeSize ws) (at + edgeSize) (rw (length-set, length-set) h) (seen-owned own n a o seen i z u) (paired-owned own n a o i z p) (r .rest) v l w,
+          owners-agree (owned n a o own) (n ∷ seen) k (drop edgeSize ws) (at + edgeSize) (rw (length-set, length-set) h) (seen-owned own n a o seen i z u) (paired-owned own n a o i z p) (r .rest) v l w,
           owned-count own n a o v w i out (p n out) l,
           sum-append (λ x. bit (x == w)) (((v == a) ⇒ (outWord n ∷ []) else []) ++ ((v == o) ⇒ (inWord n ∷ []) else [])) (wordsAt (edgesFrom k (drop edgeSize ws)) v),
           words-count n w (v == a) (v == o),

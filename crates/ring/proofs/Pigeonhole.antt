@@ -1,5 +1,5 @@
 -- A list that is held has no more nodes than there are node numbers for the table's words.
-use Prim.Native.Nat.{ℕ, zero, suc, _+_, _-_, _≤_, _<_}
+use Prim.Native.Nat.{ℕ, zero, suc, _+_, _≤_, _<_}
 use mathlib.Core.Path.{_≡_, refl, sym, ap}
 use mathlib.Core.List.{List, [], _∷_, _++_}
 use mathlib.Core.Bool.{Bool, true, false}
@@ -24,10 +24,10 @@ lower n (x ∷ l) f h =
     (omega arith, lower n l (f .1) (h .1))
 
 -- the pigeonhole principle: there are at most n distinct numbers below n
-pub pigeon : (n : ℕ) (l : List ℕ) → Distinct l → All (λ k. k < n) l → length l ≤ n
-pigeon zero [] d h = omega arith
-pigeon zero (x ∷ l) d h = let a : x < 0 = h .0 in absurd (omega arith)
-pigeon (suc n) l d h = go (has n l) refl (pigeon n)
+pub pigeonhole : (n : ℕ) (l : List ℕ) → Distinct l → All (λ k. k < n) l → length l ≤ n
+pigeonhole zero [] d h = omega arith
+pigeonhole zero (x ∷ l) d h = let a : x < 0 = h .0 in absurd (omega arith)
+pigeonhole (suc n) l d h = go (has n l) refl (pigeonhole n)
   where
     go : (b : Bool) → has n l ≡ b → ((l : List ℕ) → Distinct l → All (λ k. k < n) l → length l ≤ n) → length l ≤ suc n
     go false e r = let a : length l ≤ n = r l d (lower n l (has-fresh n l e) h) in omega arith
@@ -45,7 +45,7 @@ pigeon (suc n) l d h = go (has n l) refl (pigeon n)
 
 -- a held list has at most m nodes, where every node in the table is below m
 pub held-length : (lane : Lane) (t : List ℕ) (e : Ends) (m : ℕ) (l : List ℕ) → ((x : ℕ) → Starts lane x → addr lane x + 1 < length t → x < m) → Held lane t e l → length l ≤ m
-held-length lane t e m l f h = pigeon m l (h .distinct .1) (go l (h .distinct .0) (h .inside))
+held-length lane t e m l f h = pigeonhole m l (h .distinct .1) (go l (h .distinct .0) (h .inside))
   where
     go : (l : List ℕ) → Fresh 0 l → All (Inside lane (length t)) l → All (λ k. k < m) l
     go [] z i = tt

@@ -21,15 +21,15 @@ pub has-self : (n : ℕ) (ns : List ℕ) → has n (n ∷ ns) ≡ true
 has-self n ns = rw (eq-eqb n n refl)
 
 -- a number has 1 in the table where it is in the list, else 0
-abbrev pub Tracks : List ℕ → List ℕ → Type 0
-Tracks seen deg = (n : ℕ) → getD deg n 0 ≡ bit (has n seen)
+abbrev pub Indicator : List ℕ → List ℕ → Type 0
+Indicator seen deg = (n : ℕ) → getD deg n 0 ≡ bit (has n seen)
 
 fresh-by : (x : ℕ) (t : Bool) → x ≡ bit t → (x == 0) ≡ not t
 fresh-by x true e = rw e
 fresh-by x false e = rw e
 
-tracks-set : (seen deg : List ℕ) (n : ℕ) → n < length deg → Tracks seen deg → Tracks (n ∷ seen) (set deg n 1)
-tracks-set seen deg n h a m = go (n == m) refl
+indicator-set : (seen deg : List ℕ) (n : ℕ) → n < length deg → Indicator seen deg → Indicator (n ∷ seen) (set deg n 1)
+indicator-set seen deg n h a m = go (n == m) refl
   where
     go : (t : Bool) → (n == m) ≡ t → getD (set deg n 1) m 0 ≡ bit (t || has m seen)
     go true e = subst (λ (k : ℕ). getD (set deg n 1) k 0 ≡ 1) (eqb-true n m e) (getD-set-same deg n 1 0 h)
@@ -46,17 +46,17 @@ or-none true = refl
 or-none false = refl
 
 module _ (size cap types : ℕ) where
-  pub vertex-tie : (deg seen : List ℕ) (k : ℕ) (ws : List ℕ) (at : ℕ) → cap < length deg → Tracks seen deg →
+  pub vertex-agrees : (deg seen : List ℕ) (k : ℕ) (ws : List ℕ) (at : ℕ) → cap < length deg → Indicator seen deg →
       vertexRun size cap types deg k ws at ≡ vertexWalk size cap types seen k ws at
   unfolding vertexRun vertexWalk
-  vertex-tie deg seen zero ws at h a = refl
-  vertex-tie deg seen (suc k) ws at h a =
+  vertex-agrees deg seen zero ws at h a = refl
+  vertex-agrees deg seen (suc k) ws at h a =
       let n = getD ws 0 0 in
       let t = getD ws 1 0 in
       rw (fresh-by (getD deg n 0) (has n seen) (a n))
       (record-same 3 at (goodVertex cap types (not (has n seen)) n t) _ _ λ g.
       let l = within-le cap n (vertex-ok cap types (not (has n seen)) n t g .number) in
-      vertex-tie (set deg n 1) (n ∷ seen) k (drop size ws) (at + size) (rw length-set h) (tracks-set seen deg n (omega arith) a))
+      vertex-agrees (set deg n 1) (n ∷ seen) k (drop size ws) (at + size) (rw length-set h) (indicator-set seen deg n (omega arith) a))
 
   -- a sound walk of one record more: the record, and the rest
   pub record VertexStep (seen : List ℕ) (k : ℕ) (ws : List ℕ) (at : ℕ) : Type 0 where
@@ -75,14 +75,14 @@ module _ (size cap types : ℕ) where
       let l = within-le cap n (o .number) in
       record { ok = o; low = l .0; high = l .1; rest = r .1 }
 
-  pub marks-tie : (deg seen : List ℕ) (k : ℕ) (ws : List ℕ) (at : ℕ) → cap < length deg → Tracks seen deg → vertexWalk size cap types seen k ws at ≡ Sound →
+  pub marks-agree : (deg seen : List ℕ) (k : ℕ) (ws : List ℕ) (at : ℕ) → cap < length deg → Indicator seen deg → vertexWalk size cap types seen k ws at ≡ Sound →
       (m : ℕ) → getD (vertexMarks size deg k ws) m 0 ≡ bit (has m seen || has m (numbersIn size k ws))
   unfolding vertexMarks numbersIn
-  marks-tie deg seen zero ws at h a s m = rw (or-none (has m seen)) (a m)
-  marks-tie deg seen (suc k) ws at h a s m =
+  marks-agree deg seen zero ws at h a s m = rw (or-none (has m seen)) (a m)
+  marks-agree deg seen (suc k) ws at h a s m =
       let n = getD ws 0 0 in
       let r = vertex-step seen k ws at s in
-      marks-tie (set deg n 1) (n ∷ seen) k (drop size ws) (at + size) (rw length-set h) (tracks-set seen deg n (omega (arith, r .high)) a) (r .rest) m
+      marks-agree (set deg n 1) (n ∷ seen) k (drop size ws) (at + size) (rw length-set h) (indicator-set seen deg n (omega (arith, r .high)) a) (r .rest) m
       ∙ ap bit (or-swap (n == m) (has m seen) (has m (numbersIn size k (drop size ws))))
 
   -- what a sound walk says of the numbers: each is new, they are distinct, none is 0

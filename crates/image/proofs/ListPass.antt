@@ -19,8 +19,8 @@ use Rattle.image.specs.Checks.{numbersIn, goodList, listWalk}
 use Rattle.image.specs.Scratch.{listRun, listOwners, incidenceRun}
 use Rattle.image.proofs.Counts.{rem-count}
 use Rattle.image.proofs.Verdicts.{list-same}
-use Rattle.image.proofs.VertexTies.{has-self}
-use Rattle.image.proofs.EdgeTies.{inside}
+use Rattle.image.proofs.VertexPass.{has-self}
+use Rattle.image.proofs.EdgePass.{inside}
 
 -- ---- one list
 
@@ -57,12 +57,12 @@ owns-set v own wanted w l k h x = go (w == x) refl
         let less′ : 0 + count x (rem wd w wanted) ≡ count x wanted = rw e at less in
         rw (getD-set-other own w x 0 0 (λ r. eqb-false w x e (sym r))) (omega (arith, k x))
 
-list-tie : (v d : ℕ) (own wanted ws : List ℕ) → 1 ≤ v → Owns v own wanted → listRun v d own ws ≡ goodList d wanted ws
+list-agrees : (v d : ℕ) (own wanted ws : List ℕ) → 1 ≤ v → Owns v own wanted → listRun v d own ws ≡ goodList d wanted ws
 unfolding listRun goodList
-list-tie v zero own wanted ws l k = refl
-list-tie v (suc d) own wanted [] l k = refl
-list-tie v (suc d) own wanted (w ∷ ws) l k =
-    rw (owns-has v own wanted k w) (go (λ e. list-tie v d (set own w 0) (rem wd w wanted) ws l (owns-set v own wanted w l k e)) (has w wanted) refl)
+list-agrees v zero own wanted ws l k = refl
+list-agrees v (suc d) own wanted [] l k = refl
+list-agrees v (suc d) own wanted (w ∷ ws) l k =
+    rw (owns-has v own wanted k w) (go (λ e. list-agrees v d (set own w 0) (rem wd w wanted) ws l (owns-set v own wanted w l k e)) (has w wanted) refl)
   where
     go : (has w wanted ≡ true → listRun v d (set own w 0) ws ≡ goodList d (rem wd w wanted) ws) → (t : Bool) → has w wanted ≡ t →
         (t ⇒ suc (listRun v d (set own w 0) ws) else 0) ≡ (t ⇒ suc (goodList d (rem wd w wanted) ws) else 0)
@@ -115,23 +115,23 @@ or-second : (a b : Bool) → (a || b) ≡ false → b ≡ false
 or-second true b e = tf e
 or-second false b e = e
 
-pub incidence-tie : (size : ℕ) (es : List Edge) (deg own : List ℕ) (k : ℕ) (vs ws : List ℕ) (at : ℕ) →
+pub incidence-agrees : (size : ℕ) (es : List Edge) (deg own : List ℕ) (k : ℕ) (vs ws : List ℕ) (at : ℕ) →
     ((v : ℕ) → has v (numbersIn size k vs) ≡ true → getD deg v 0 - 1 ≡ length (wordsAt es v)) →
     ((v : ℕ) → has v (numbersIn size k vs) ≡ true → Owns v own (wordsAt es v)) →
     has 0 (numbersIn size k vs) ≡ false → distinct (numbersIn size k vs) ≡ true →
     incidenceRun size deg own k vs ws at ≡ listWalk es (numbersIn size k vs) ws at
 unfolding incidenceRun listWalk numbersIn
-incidence-tie size es deg own zero vs ws at dg ow z ds = refl
-incidence-tie size es deg own (suc k) vs ws at dg ow z ds =
+incidence-agrees size es deg own zero vs ws at dg ow z ds = refl
+incidence-agrees size es deg own (suc k) vs ws at dg ow z ds =
     let v = getD vs 0 0 in
     let ns = numbersIn size k (drop size vs) in
     let d = length (wordsAt es v) in
     let self = has-self v ns in
     let dd = and-true (not (has v ns)) (distinct ns) ds in
-    let tie = list-tie v d own (wordsAt es v) ws (positive v (v ∷ ns) z self) (ow v self) in
+    let tie = list-agrees v d own (wordsAt es v) ws (positive v (v ∷ ns) z self) (ow v self) in
     rw (dg v self, tie)
     (list-same d at (goodList d (wordsAt es v) ws) _ _ λ g.
-    incidence-tie size es deg (listOwners d own ws) k (drop size vs) (drop d ws) (at + d)
+    incidence-agrees size es deg (listOwners d own ws) k (drop size vs) (drop d ws) (at + d)
     (λ u h. dg u (has-later u v ns h))
     (λ u h w.
     list-keeps u v d own ws (positive u (v ∷ ns) z (has-later u v ns h)) (not-has u v ns (not-true (has v ns) (dd .0)) h) (rw tie g) w
