@@ -6,7 +6,7 @@ use mathlib.Core.List.{List}
 use native.Mathlib.Omega.{arith}
 use lib.Dec.{leb, ltb}
 use lib.ListN.{length}
-use borrow.Author.Tests.{eq-eqb, ne-eqb}
+use borrow.Author.Tests.{eq-eqb, ne-eqb, not-false}
 use Rattle.lists.specs.Choice.{_⇒_else_, _==_}
 use Rattle.lists.specs.Lists.{first, after}
 use Rattle.graph.specs.Graph.{Graph, vertex, edge, hasVertex, hasEdge, vertexNumbers, edgeNumbers, edgeOf, bySide, this, that, listOf, readingKind, decimetres}
@@ -141,23 +141,19 @@ both true t k p e = absurd (omega arith)
 both false true k p e = absurd (omega arith)
 both false false k p e = (refl, refl)
 
-found : (t : Bool) → not t ≡ false → t ≡ true
-found true e = refl
-found false e = sym e
-
 module _ (g : Graph) (w : WellFormed g) where
   pub vertices-there : (a b c : ℕ) → c ≡ ((lacksVertex g a || lacksVertex g b) ⇒ 4 else 0) → c ≡ 0 → VertexThere g a
-  vertices-there a b c e z = vertex-once g a w (found (hasVertex g a) (both (lacksVertex g a) (lacksVertex g b) 4 (omega arith) (sym e ∙ z) .0))
+  vertices-there a b c e z = vertex-once g a w (not-false (hasVertex g a) (both (lacksVertex g a) (lacksVertex g b) 4 (omega arith) (sym e ∙ z) .0))
 
   pub edges-there : (a b c : ℕ) → c ≡ ((lacksEdge g a || lacksEdge g b) ⇒ 5 else 0) → c ≡ 0 → EdgeThere g a
-  edges-there a b c e z = edge-once g a w (found (hasEdge g a) (both (lacksEdge g a) (lacksEdge g b) 5 (omega arith) (sym e ∙ z) .0))
+  edges-there a b c e z = edge-once g a w (not-false (hasEdge g a) (both (lacksEdge g a) (lacksEdge g b) 5 (omega arith) (sym e ∙ z) .0))
 
   pub words-there : (a b c : ℕ) → c ≡ ((lacksEdge g (edgeOf a) || lacksEdge g (edgeOf b)) ⇒ 5 else not (this g a == this g b) ⇒ 8 else 0) → c ≡ 0 → EdgeThere g (edgeOf a)
   words-there a b c e z = go (lacksEdge g (edgeOf a)) refl (sym e ∙ z)
     where
       go : (s : Bool) → lacksEdge g (edgeOf a) ≡ s → _≡_ {A = ℕ} ((s || lacksEdge g (edgeOf b)) ⇒ 5 else not (this g a == this g b) ⇒ 8 else 0) 0 → EdgeThere g (edgeOf a)
       go true i j = absurd (omega arith)
-      go false i j = edge-once g (edgeOf a) w (found (hasEdge g (edgeOf a)) i)
+      go false i j = edge-once g (edgeOf a) w (not-false (hasEdge g (edgeOf a)) i)
 
   pub degree-there : (n a t k c : ℕ) → c ≡ (lacksVertex g a ⇒ 4 else leb n t ⇒ 6 else ltb 2 k ⇒ 15 else 0) → c ≡ 0 → VertexThere g a
   degree-there n a t k c e z = go (hasVertex g a) refl (sym e ∙ z)

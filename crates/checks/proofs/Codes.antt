@@ -1,22 +1,19 @@
 -- Codes from tests.
 use Prim.Native.Nat.{ℕ, _≤_, _<_}
 use mathlib.Core.Path.{_≡_, refl}
-use mathlib.Core.Bool.{Bool, true, false, _&&_, _||_}
+use mathlib.Core.Bool.{Bool, true, false, _||_}
 use native.Mathlib.Omega.{arith}
 use lib.Dec.{leb}
 use borrow.Author.Tests.{le-leb, lt-leb, eq-eqb, ne-eqb}
 use Rattle.lists.specs.Choice.{_⇒_else_, _==_, within}
 use Rattle.graph.specs.Graph.{isReading}
+use Rattle.lists.proofs.Bools.{and-false}
 
 pub below-range : (capacity n : ℕ) → n ≡ 0 → within 1 capacity n ≡ false
 below-range capacity n e = rw (lt-leb 1 n (omega arith))
 
 pub above-range : (capacity n : ℕ) → capacity < n → within 1 capacity n ≡ false
 above-range capacity n h = rw (lt-leb n capacity h) (and-false (leb 1 n))
-  where
-    and-false : (t : Bool) → (t && false) ≡ false
-    and-false true = refl
-    and-false false = refl
 
 pub inside-range : (capacity n : ℕ) → (n ≡ 0 → ⊥) → n ≤ capacity → within 1 capacity n ≡ true
 inside-range capacity n d h = rw (le-leb 1 n (omega arith), le-leb n capacity h)

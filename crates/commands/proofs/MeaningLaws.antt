@@ -6,9 +6,9 @@ use mathlib.Core.Bool.{Bool, true, false, not, _&&_, _||_}
 use native.Mathlib.Omega.{arith}
 use lib.Dec.{leb}
 use lib.ListN.{length}
-use borrow.Author.Tests.{eqb-true, eqb-false, leb-true, leb-false, lt-leb, le-leb, ne-eqb}
+use borrow.Author.Tests.{eqb-true, eqb-false, leb-false, lt-leb, le-leb, ne-eqb}
 use Rattle.lists.specs.Choice.{_⇒_else_, _==_, within}
-use Rattle.lists.proofs.Bools.{tf, and-true, or-true}
+use Rattle.lists.proofs.Bools.{or-true, within-range, or-false, or-none}
 use Rattle.history.specs.Machine.{Machine, present}
 use Rattle.graph.specs.declared.Change.the-variants.{
   CreateVertex,
@@ -39,10 +39,6 @@ use Rattle.commands.specs.Commands.{historyOf, questionOf, commandOf}
 use Rattle.commands.specs.Meaning.{roomCode, orElse, commandCode, commandNumber, commandNext, answerTo, stepTo}
 
 -- ---- chains of tests
-
-or-false : (t : Bool) → (t || false) ≡ t
-or-false true = refl
-or-false false = refl
 
 -- a chain of codes, and then the rest
 one : (t : Bool) (n r : ℕ) → (t ⇒ suc n else r) ≡ orElse (t ⇒ suc n else 0) r
@@ -268,12 +264,8 @@ module _ (w : Parameters) (m : Machine) (x : Call) where
       out : (lo hi : ℕ) → within lo hi (x .kind) ≡ false → lo ≤ x .kind → hi < x .kind
       out lo hi f h = leb-false (x .kind) hi (sym (ap (λ (t : Bool). t && leb (x .kind) hi) (le-leb lo (x .kind) h)) ∙ f)
 
-      nor : (s t : Bool) → (s || t) ≡ false → (s ≡ false) × (t ≡ false)
-      nor true t f = tf f
-      nor false t f = (refl, f)
-
       ranges : (within 1 22 (x .kind) ≡ false) × (within 30 54 (x .kind) ≡ false)
-      ranges = nor (within 1 22 (x .kind)) (within 30 54 (x .kind)) e
+      ranges = or-none (within 1 22 (x .kind)) (within 30 54 (x .kind)) e
 
       high : (t : Bool) → leb (x .kind) 29 ≡ t → (x .kind == 0) ≡ false → leb (x .kind) 16 ≡ false → leb (x .kind) 22 ≡ false → commandOf x ≡ Unknown
       high true f z a b = rw (z, a, b, f)
@@ -319,12 +311,9 @@ module _ (w : Parameters) (m : Machine) (x : Call) where
   meant : Meant w m x
   meant = go (known (x .kind)) refl
     where
-      in-range : (lo hi : ℕ) → within lo hi (x .kind) ≡ true → (lo ≤ x .kind) × (x .kind ≤ hi)
-      in-range lo hi h = let a = and-true (leb lo (x .kind)) (leb (x .kind) hi) h in (leb-true lo (x .kind) (a .0), leb-true (x .kind) hi (a .1))
-
       either : (within 1 22 (x .kind) ≡ true) ⊎ (within 30 54 (x .kind) ≡ true) → Meant w m x
-      either (inl h) = early (in-range 1 22 h .1) (in-range 1 22 h .0)
-      either (inr h) = late (in-range 30 54 h .1) (in-range 30 54 h .0)
+      either (inl h) = let r = within-range 1 22 (x .kind) h in early (r .1) (r .0)
+      either (inr h) = let r = within-range 30 54 (x .kind) h in late (r .1) (r .0)
 
       go : (t : Bool) → known (x .kind) ≡ t → Meant w m x
       go true e = either (or-true (within 1 22 (x .kind)) (within 30 54 (x .kind)) e)

@@ -1,12 +1,11 @@
 -- A change that no code from 2 to 9 refuses is one that the graph allows.
 use Prim.Native.Nat.{ℕ, _≤_, _<_}
-use mathlib.Core.Path.{_≡_, refl, sym}
+use mathlib.Core.Path.{_≡_, refl}
 use mathlib.Core.Bool.{Bool, true, false, not, _||_}
 use native.Mathlib.Omega.{arith}
 use lib.Dec.{leb}
-use borrow.Author.Tests.{eqb-true, eqb-false, leb-true, leb-false}
+use borrow.Author.Tests.{eqb-true, eqb-false, leb-false, not-false}
 use Rattle.lists.specs.Choice.{_⇒_else_, _==_, within}
-use Rattle.lists.proofs.Bools.{and-true}
 use Rattle.graph.specs.declared.Change.{Change}
 use Rattle.graph.specs.declared.Change.the-variants.{CreateVertex, DeleteVertex, CreateEdge, DeleteEdge, RetypeVertex, RetypeEdge, SetValue, SetReading, SetAlpha, SetOmega, VertexBefore, VertexAfter, EdgeBefore, EdgeAfter, WordBefore, WordAfter}
 use Rattle.graph.specs.Graph.{Graph, hasVertex, hasEdge, edgeOf, this, isReading}
@@ -15,46 +14,33 @@ use Rattle.graph.specs.Changes.{VertexThere, EdgeThere, Allowed}
 use Rattle.graph.proofs.Numbers.{vertex-none, edge-none, vertex-once, edge-once}
 use Rattle.commands.specs.Meaning.{lacksVertex, lacksEdge, changeCode}
 use Rattle.checks.specs.Held.{ChangeFits}
+use Rattle.lists.proofs.Bools.{within-range, or-none}
 
 -- a chain that gives 0 has passed its first row
 zero : (t : Bool) (k r : ℕ) → 1 ≤ k → _≡_ {A = ℕ} (t ⇒ k else r) 0 → (t ≡ false) × (r ≡ 0)
 zero true k r p e = absurd (omega arith)
 zero false k r p e = (refl, e)
 
-found : (t : Bool) → not t ≡ false → t ≡ true
-found true e = refl
-found false e = sym e
-
-neither : (s t : Bool) → (s || t) ≡ false → (s ≡ false) × (t ≡ false)
-neither true t e = (e, absurd-false t e)
-  where
-    absurd-false : (t : Bool) → true ≡ false → t ≡ false
-    absurd-false true i = i
-    absurd-false false i = refl
-neither false t e = (refl, e)
-
 ranged : (cap n : ℕ) → not (within 1 cap n) ≡ false → (1 ≤ n) × (n ≤ cap)
-ranged cap n e =
-    let a = and-true (leb 1 n) (leb n cap) (found (within 1 cap n) e) in
-    (leb-true 1 n (a .0), leb-true n cap (a .1))
+ranged cap n e = within-range 1 cap n (not-false (within 1 cap n) e)
 
 module _ (b : Bounds) (g : Graph) (w : WellFormed g) where
   vertex : (n : ℕ) → lacksVertex g n ≡ false → VertexThere g n
-  vertex n e = vertex-once g n w (found (hasVertex g n) e)
+  vertex n e = vertex-once g n w (not-false (hasVertex g n) e)
 
   edge : (n : ℕ) → lacksEdge g n ≡ false → EdgeThere g n
-  edge n e = edge-once g n w (found (hasEdge g n) e)
+  edge n e = edge-once g n w (not-false (hasEdge g n) e)
 
   vertices : (x y r : ℕ) → _≡_ {A = ℕ} ((lacksVertex g x || lacksVertex g y) ⇒ 4 else r) 0 → VertexThere g x × VertexThere g y × (r ≡ 0)
   vertices x y r e =
       let z = zero (lacksVertex g x || lacksVertex g y) 4 r (omega arith) e in
-      let n = neither (lacksVertex g x) (lacksVertex g y) (z .0) in
+      let n = or-none (lacksVertex g x) (lacksVertex g y) (z .0) in
       (vertex x (n .0), vertex y (n .1), z .1)
 
   edges : (x y r : ℕ) → _≡_ {A = ℕ} ((lacksEdge g x || lacksEdge g y) ⇒ 5 else r) 0 → EdgeThere g x × EdgeThere g y × (r ≡ 0)
   edges x y r e =
       let z = zero (lacksEdge g x || lacksEdge g y) 5 r (omega arith) e in
-      let n = neither (lacksEdge g x) (lacksEdge g y) (z .0) in
+      let n = or-none (lacksEdge g x) (lacksEdge g y) (z .0) in
       (edge x (n .0), edge y (n .1), z .1)
 
   type : (t : ℕ) → _≡_ {A = ℕ} (leb (b .types) t ⇒ 6 else 0) 0 → t < b .types
@@ -74,7 +60,7 @@ module _ (b : Bounds) (g : Graph) (w : WellFormed g) where
   two-words x y e =
       let z = edges (edgeOf x) (edgeOf y) _ e in
       let s = zero (not (this g x == this g y)) 8 _ (omega arith) (z .2) in
-      (z .0, z .1, eqb-true (this g x) (this g y) (found (this g x == this g y) (s .0)), apart x y (s .1))
+      (z .0, z .1, eqb-true (this g x) (this g y) (not-false (this g x == this g y) (s .0)), apart x y (s .1))
 
   pub allows : (c : Change) → ChangeFits c → changeCode b g c ≡ 0 → Allowed b g c
   allows (CreateVertex n t x) f e =
@@ -95,7 +81,7 @@ module _ (b : Bounds) (g : Graph) (w : WellFormed g) where
   allows (SetValue a x) f e = (vertex a (zero (lacksVertex g a) 4 0 (omega arith) e .0), f)
   allows (SetReading a k d) f e =
       let p = zero (lacksEdge g a) 5 _ (omega arith) e in
-      (edge a (p .0), found (isReading k d) (zero (not (isReading k d)) 7 0 (omega arith) (p .1) .0))
+      (edge a (p .0), not-false (isReading k d) (zero (not (isReading k d)) 7 0 (omega arith) (p .1) .0))
   allows (SetAlpha n v) f e =
       let p = zero (lacksVertex g v) 4 _ (omega arith) e in
       (edge n (zero (lacksEdge g n) 5 0 (omega arith) (p .1) .0), vertex v (p .0))

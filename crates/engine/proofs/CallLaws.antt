@@ -13,7 +13,7 @@ use Rattle.versions.specs.declared.Done.{Done}
 use Rattle.machine.specs.Calls.{Call, Parameters, callsOf}
 use Rattle.machine.specs.Machine.{Answer, answer, answers, step, last}
 use Rattle.machine.specs.Run.{answerWords}
-use Rattle.machine.proofs.Whole.{answered}
+use Rattle.machine.proofs.Whole.{answered, calls-length, answers-length}
 use Rattle.commands.specs.declared.Command.{Command}
 use Rattle.commands.specs.Commands.{callAt, commandOf}
 use Rattle.commands.specs.Meaning.{answerTo, stepTo}
@@ -22,15 +22,6 @@ use Rattle.engine.specs.Running.{Running, Answered}
 use Rattle.engine.specs.Calls.{AfterCalls}
 
 -- ---- the words of the calls
-
-pub calls-length : (n : ℕ) (ws : List ℕ) → 5 * n ≤ length ws → length ws < 5 * n + 5 → length (callsOf ws) ≡ n
-calls-length zero (k ∷ a ∷ b ∷ c ∷ d ∷ ws) h i = absurd (omega arith)
-calls-length (suc n) (k ∷ a ∷ b ∷ c ∷ d ∷ ws) h i = ap suc (calls-length n ws (omega arith) (omega arith))
-calls-length n [] h i = omega arith
-calls-length n (k ∷ []) h i = omega arith
-calls-length n (k ∷ a ∷ []) h i = omega arith
-calls-length n (k ∷ a ∷ b ∷ []) h i = omega arith
-calls-length n (k ∷ a ∷ b ∷ c ∷ []) h i = omega arith
 
 -- call k is the one of the five words at 5k
 pub call-at : (k : ℕ) (ws : List ℕ) (z : Call) → 5 * k + 5 ≤ length ws → getD (callsOf ws) k z ≡ callAt (take 5 (drop (5 * k) ws))
@@ -49,11 +40,6 @@ call-at n (k ∷ a ∷ b ∷ c ∷ []) z h = absurd (omega arith)
 words-append : (xs ys : List Answer) → answerWords (xs ++ ys) ≡ answerWords xs ++ answerWords ys
 words-append [] ys = refl
 words-append (x ∷ xs) ys = ap (λ (l : List ℕ). x .code ∷ x .number ∷ l) (words-append xs ys)
-
-words-length : (w : Parameters) (m : Machine) (xs : List Call) → length (answerWords (answers w m xs)) ≡ 2 * length xs
-unfolding answers
-words-length w m [] = refl
-words-length w m (x ∷ xs) = omega (arith, words-length w (step w m x) xs)
 
 -- two stores where the first list ends
 two-more : (A D : List ℕ) (x y : ℕ) → 2 ≤ length D → set (set (A ++ D) (length A) x) (suc (length A)) y ≡ (A ++ (x ∷ y ∷ [])) ++ drop 2 D
@@ -111,7 +97,7 @@ module _ (w : Parameters) (m : Machine) (x : Version) (vt et t places closed : L
         stands = subst (λ (k : Machine). Running w (d .version) vt′ et′ t′ places′ closed types k) s (g .stands);
         answered =
             (λ i. set (set (h .answered i) (2 * length xs) (d .code)) (2 * length xs + 1) (d .number))
-            ∙ over-more A slice (length xs) (d .code) (d .number) (words-length w m xs) long
+            ∙ over-more A slice (length xs) (d .code) (d .number) (answers-length w m xs) long
             ∙ (λ i. over (A ++ (code i ∷ number i ∷ [])) slice)
             ∙ ap (λ (l : List ℕ). over l slice) (sym (answers-more w m xs call));
       }

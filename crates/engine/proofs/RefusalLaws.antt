@@ -8,13 +8,12 @@ use lib.Dec.{ltb}
 use lib.ListN.{length}
 use borrow.Author.Tests.{not-false, lt-ltb, le-ltb}
 use Rattle.lists.specs.Choice.{_⇒_else_, _==_, within}
-use Rattle.lists.proofs.Bools.{and-true}
+use Rattle.lists.proofs.Bools.{and-true, within-range}
 use Rattle.types.specs.Rows.{goodRows}
-use Rattle.image.specs.Image.{loadable}
+use Rattle.image.specs.Image.{loadable, imageLength}
 use Rattle.image.specs.Checks.{bounds}
 use Rattle.machine.specs.Calls.{boundsIn}
-use Rattle.machine.specs.Run.{Lent, parametersOf, imageRoom, listRefusal}
-use Rattle.machine.proofs.Allowed.{in-range}
+use Rattle.machine.specs.Run.{Lent, parametersOf, listRefusal}
 use Rattle.engine.specs.Refusals.{inLimits, lengthsCode, Lends}
 
 -- ---- three tests first
@@ -40,7 +39,7 @@ capacities calls answers vertices edges journal e =
     let z = gone-on (not (calls % 5 == 0)) (ltb answers (2 * (calls / 5))) (not (inLimits v n k)) 0 e .0 in
     let a = and-true (within 1 1000 v && within 1 4000 n) (within 1 20000 k) (not-false _ z) in
     let b = and-true (within 1 1000 v) (within 1 4000 n) (a .0) in
-    (in-range 1 1000 v (b .0) .1, in-range 1 4000 n (b .1) .1)
+    (within-range 1 1000 v (b .0) .1, within-range 1 4000 n (b .1) .1)
 
 module _ (l : Lent) where
   lengthsOf : ℕ
@@ -63,7 +62,7 @@ module _ (l : Lent) where
       listRefusal l ≡ (
       not (goodRows (l .rows)) ⇒ 104 else
       not (loadable (boundsIn (parametersOf l)) (l .start)) ⇒ 105 else
-      ltb (length (l .end)) (imageRoom (parametersOf l)) ⇒ 106 else
+      ltb (length (l .end)) (imageLength (parametersOf l .vertices) (parametersOf l .edges)) ⇒ 106 else
       0
       )
   unfolding listRefusal lengthsOf x y z

@@ -28,7 +28,7 @@ use Rattle.engine.specs.Refusals.{Lends}
 use Rattle.engine.specs.Running.{Running}
 use Rattle.engine.specs.Calls.{AfterCalls}
 use Rattle.engine.specs.Outcomes.{lent, runResult}
-use Rattle.engine.proofs.CallLaws.{calls-length}
+use Rattle.machine.proofs.Whole.{calls-length}
 
 -- what `versions::start` ensures of the version x
 abbrev Starts : Head → Version → Type 0

@@ -1,10 +1,10 @@
 -- The rule of each history call, and of a change, says what its command does.
 use Prim.Native.Nat.{ℕ, _/_}
 use mathlib.Core.Path.{_≡_, refl, sym, ap, _∙_}
-use mathlib.Core.Bool.{Bool, true, false, not, _||_}
+use mathlib.Core.Bool.{Bool, true, false, _||_}
 use mathlib.Core.List.{List}
 use lib.ListN.{length}
-use borrow.Author.Tests.{ne-eqb}
+use borrow.Author.Tests.{ne-eqb, not-false}
 use native.Mathlib.Omega.{arith}
 use Rattle.lists.specs.Choice.{_⇒_else_, _==_}
 use Rattle.graph.specs.declared.Change.{Change}
@@ -37,10 +37,7 @@ use Rattle.checks.proofs.Codes.{stops, passes}
 use Rattle.engine.specs.Running.{Setting, Running, Answered, Priced}
 use Rattle.engine.proofs.StepLaws.{Rules, follows-answers, unchanged-answers, refused-answers}
 use Rattle.engine.proofs.Allows.{allows}
-
-or-false : (t : Bool) → (t || false) ≡ t
-or-false true = refl
-or-false false = refl
+use Rattle.lists.proofs.Bools.{or-false}
 
 module _ (w : Parameters) (m : Machine) where
   pub rules-set : (k : ℕ) → Rules w m (Recall (SetMark k)) (setting k)
@@ -137,10 +134,6 @@ module _ (w : Parameters) (m : Machine) (x : Version) (vt et t places closed : L
 
 -- ---- codes 4 and 16
 
-found : (t : Bool) → not t ≡ false → t ≡ true
-found true e = refl
-found false e = sym e
-
 module _ (g : Graph) (wf : WellFormed g) (a b c : ℕ) (e : c ≡ ((lacksVertex g a || lacksVertex g b) ⇒ 4 else 0)) where
   pub both-there : c ≡ 0 → VertexThere g a × VertexThere g b
   both-there z = go (lacksVertex g a) (lacksVertex g b) refl refl (sym e ∙ z)
@@ -148,7 +141,7 @@ module _ (g : Graph) (wf : WellFormed g) (a b c : ℕ) (e : c ≡ ((lacksVertex 
       go : (s t : Bool) → lacksVertex g a ≡ s → lacksVertex g b ≡ t → _≡_ {A = ℕ} ((s || t) ⇒ 4 else 0) 0 → VertexThere g a × VertexThere g b
       go true t i j k = absurd (omega arith)
       go false true i j k = absurd (omega arith)
-      go false false i j k = (vertex-once g a wf (found (hasVertex g a) i), vertex-once g b wf (found (hasVertex g b) j))
+      go false false i j k = (vertex-once g a wf (not-false (hasVertex g a) i), vertex-once g b wf (not-false (hasVertex g b) j))
 
   pub missing-priced : (c ≡ 0 → ⊥) → Priced g a b (record { code = c; range = 0 })
   missing-priced d =

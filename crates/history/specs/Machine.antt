@@ -1,11 +1,11 @@
 -- The state of the plain machine, and what each sort of history call makes of it.
 use Prim.Native.Nat.{ℕ, zero, suc, _+_, _-_}
 use mathlib.Core.Bool.{Bool, true, false}
-use mathlib.Core.List.{List, [], _∷_, _++_, map}
+use mathlib.Core.List.{List, [], _∷_, _++_}
 use lib.ListN.{length, take}
 use lib.Dec.{ltb}
 use Rattle.lists.specs.Choice.{_⇒_else_, _==_}
-use Rattle.lists.specs.Lists.{keep, upto, total}
+use Rattle.lists.specs.Lists.{keep, sumOf, upto}
 use Rattle.graph.specs.Graph.{Graph}
 
 -- "each G1 to Gm with the cost of the step that made it"
@@ -54,7 +54,7 @@ abbrev pub extended : Step → Timeline → Timeline
 extended s t = record { start = t .start; steps = take (t .place) (t .steps) ++ (s ∷ []); place = suc (t .place) }
 
 abbrev pub costs : List Step → ℕ
-costs ss = total (map (λ (s : Step). s .cost) ss)
+costs ss = sumOf (λ (s : Step). s .cost) ss
 
 -- "Free changes are the capacity less the costs of steps 1 to p"
 abbrev pub freeOf : ℕ → Timeline → ℕ

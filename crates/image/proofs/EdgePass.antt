@@ -17,7 +17,7 @@ use Rattle.image.specs.Image.{edgeSize, edgesFrom}
 use Rattle.image.specs.Checks.{goodEdge, edgeWalk}
 use Rattle.image.specs.Scratch.{bumped, ends, owned, edgeRun, edgeDegrees, edgeOwners}
 use Rattle.image.specs.declared.Verdict.the-variants.{Sound}
-use Rattle.image.proofs.Formed.{within-le}
+use Rattle.lists.proofs.Bools.{within-range}
 use Rattle.image.proofs.Ends.{words-length}
 use Rattle.image.proofs.Verdicts.{record-same, record-sound, EdgeOk, edge-ok}
 use Rattle.image.proofs.VertexPass.{Indicator}
@@ -180,7 +180,7 @@ module _ (cap types : ℕ) (vs : List ℕ) where
       let o = has (getD ws 2 0) vs in
       let r = record-sound 6 at (goodEdge cap types f a o n (getD ws 3 0) (getD ws 4 0) (getD ws 5 0)) (edgeWalk cap types vs (n ∷ seen) k (drop edgeSize ws) (at + edgeSize)) s in
       let q = edge-ok cap types f a o n (getD ws 3 0) (getD ws 4 0) (getD ws 5 0) (r .0) in
-      record { ok = q; high = within-le cap n (q .number) .1; rest = r .1 }
+      record { ok = q; high = within-range 1 cap n (q .number) .1; rest = r .1 }
 
   module _ (no-zero : has 0 vs ≡ false) where
     not-zero : (a : ℕ) → has a vs ≡ true → a ≡ 0 → ⊥
@@ -197,7 +197,7 @@ module _ (cap types : ℕ) (vs : List ℕ) where
         rw (s n, m a, m o)
         (record-same 6 at (goodEdge cap types (not (has n seen)) (has a vs) (has o vs) n (getD ws 3 0) (getD ws 4 0) (getD ws 5 0)) _ _ λ g.
         let ok = edge-ok cap types (not (has n seen)) (has a vs) (has o vs) n (getD ws 3 0) (getD ws 4 0) (getD ws 5 0) g in
-        let l = within-le cap n (ok .number) in
+        let l = within-range 1 cap n (ok .number) in
         edge-agrees (ends a o deg) (owned n a o own) (n ∷ seen) k (drop edgeSize ws) (at + edgeSize)
         (rw (length-set, length-set) h)
         (marked-ends vs deg a o (ok .starts) (ok .stops) m)

@@ -1,18 +1,14 @@
 -- What a well-formed graph is made of, as facts.
-use Prim.Native.Nat.{ℕ, _^_, _≤_}
+use Prim.Native.Nat.{_^_}
 use mathlib.Core.Path.{_≡_}
 use mathlib.Core.Bool.{true, _&&_}
-use lib.Dec.{leb, ltb}
-use borrow.Author.Tests.{leb-true}
+use lib.Dec.{ltb}
 use Rattle.lists.specs.Choice.{within}
 use Rattle.lists.specs.Lists.{all, distinct}
 use Rattle.lists.proofs.Bools.{and-true}
 use Rattle.lists.proofs.Sums.{Alike, same-alike}
 use Rattle.graph.specs.Graph.{Vertex, Edge, Graph, hasVertex, vertexNumbers, edgeNumbers, readingKind, decimetres, isReading}
 use Rattle.graph.specs.WellFormed.{Bounds, wordsAt, sameWords, soundVertex, soundEdge, wellFormed}
-
-pub within-le : (cap n : ℕ) → within 1 cap n ≡ true → (1 ≤ n) × (n ≤ cap)
-within-le cap n h = let a = and-true (leb 1 n) (leb n cap) h in (leb-true 1 n (a .0), leb-true n cap (a .1))
 
 pub record Formed (b : Bounds) (g : Graph) : Type 0 where
   pub vertex-numbers : distinct (vertexNumbers g) ≡ true

@@ -10,7 +10,7 @@ use lib.Seq.{take-all}
 use borrow.Author.Tests.{eq-eqb, ne-eqb, eqb-true, leb-true}
 use Rattle.lists.specs.Choice.{_==_, _⇒_else_}
 use Rattle.lists.specs.Lists.{same}
-use Rattle.lists.proofs.Bools.{and-true}
+use Rattle.lists.proofs.Bools.{and-true, and-false}
 use Rattle.image.specs.Image.{edgeOffset, incidenceOffset, imageLength, headerOf, soundHeader, vertexCount, edgeCount, part}
 use Rattle.image.specs.Checks.{soundCounts}
 use Rattle.image.proofs.RecordWords.{same-eq}
@@ -21,10 +21,6 @@ tests ws =
     && ((getD ws 3 0 == edgeOffset (vertexCount ws))
     && ((getD ws 4 0 == incidenceOffset (vertexCount ws) (edgeCount ws))
     && ((getD ws 5 0 == imageLength (vertexCount ws) (edgeCount ws)) && (length ws == imageLength (vertexCount ws) (edgeCount ws)))))
-
-and-false : (a : Bool) → (a && false) ≡ false
-and-false true = refl
-and-false false = refl
 
 regroup : (p q r s l : Bool) → ((p && (q && (r && (s && true)))) && l) ≡ (p && (q && (r && (s && l))))
 regroup true true true true l = refl

@@ -11,7 +11,7 @@ use borrow.Author.Tests.{ne-eqb, eqb-true, eqb-false, ltb-true, ltb-false, not-t
 use Rattle.lists.specs.Choice.{_==_, _⇒_else_, bit}
 use Rattle.lists.specs.Lists.{has, count, distinct}
 use Rattle.lists.specs.Keyed.{rem}
-use Rattle.lists.proofs.Bools.{tf, ft, and-true}
+use Rattle.lists.proofs.Bools.{ft, and-true, or-none}
 use Rattle.lists.proofs.Sums.{has-count, has-not, bit-le}
 use Rattle.graph.specs.Graph.{Edge, wd}
 use Rattle.graph.specs.WellFormed.{wordsAt}
@@ -111,10 +111,6 @@ pub positive : (u : ℕ) (vs : List ℕ) → has 0 vs ≡ false → has u vs ≡
 positive zero vs f h = ft (sym f ∙ h)
 positive (suc u) vs f h = omega arith
 
-or-second : (a b : Bool) → (a || b) ≡ false → b ≡ false
-or-second true b e = tf e
-or-second false b e = e
-
 pub incidence-agrees : (size : ℕ) (es : List Edge) (deg own : List ℕ) (k : ℕ) (vs ws : List ℕ) (at : ℕ) →
     ((v : ℕ) → has v (numbersIn size k vs) ≡ true → getD deg v 0 - 1 ≡ length (wordsAt es v)) →
     ((v : ℕ) → has v (numbersIn size k vs) ≡ true → Owns v own (wordsAt es v)) →
@@ -136,5 +132,5 @@ incidence-agrees size es deg own (suc k) vs ws at dg ow z ds =
     (λ u h w.
     list-keeps u v d own ws (positive u (v ∷ ns) z (has-later u v ns h)) (not-has u v ns (not-true (has v ns) (dd .0)) h) (rw tie g) w
     ∙ ow u (has-later u v ns h) w)
-    (or-second (v == 0) (has 0 ns) z)
+    (or-none (v == 0) (has 0 ns) z .1)
     (dd .1))

@@ -10,11 +10,10 @@ use borrow.Author.Tests.{eqb-true, eq-eqb}
 use Rattle.lists.specs.Choice.{_==_}
 use Rattle.lists.specs.Lists.{each, same}
 use Rattle.lists.proofs.Bools.{ft, and-true, and-both}
-use Rattle.graph.specs.declared.Reading.{Reading}
-use Rattle.graph.specs.declared.Reading.the-variants.{Untested, Silent, Heard}
-use Rattle.graph.specs.Graph.{Vertex, Edge, readingKind, decimetres, readingOf}
+use Rattle.graph.specs.Graph.{Vertex, Edge}
 use Rattle.graph.specs.WellFormed.{wordsAt}
 use Rattle.image.specs.Image.{vertexSize, vertexRecord, edgeSize, edgeRecord, incidencesOf, edgesFrom, verticesFrom}
+use Rattle.graph.proofs.Readings.{reading-back}
 
 pub same-eq : (xs ys : List ℕ) → same xs ys ≡ true → xs ≡ ys
 same-eq [] [] e = refl
@@ -35,11 +34,6 @@ vertices-length (v ∷ vs) = omega (arith, vertices-length vs)
 pub edges-length : (es : List Edge) → length (each edgeRecord es) ≡ edgeSize * length es
 edges-length [] = refl
 edges-length (e ∷ es) = omega (arith, edges-length es)
-
-reading-back : (r : Reading) → readingOf (readingKind r) (decimetres r) ≡ r
-reading-back Untested = refl
-reading-back Silent = refl
-reading-back (Heard d) = refl
 
 pub edges-back : (es : List Edge) → edgesFrom (length es) (each edgeRecord es) ≡ es
 unfolding edgesFrom

@@ -12,7 +12,8 @@ use Rattle.lists.proofs.Sums.{distinct-count, all-bool}
 use Rattle.graph.specs.Graph.{Graph, vn, en}
 use Rattle.graph.specs.WellFormed.{Bounds, soundVertex, soundEdge, wellFormed}
 use Rattle.image.specs.Image.{imageLength, save}
-use Rattle.image.proofs.Formed.{formed, within-le, vertex-facts, edge-facts}
+use Rattle.lists.proofs.Bools.{within-range}
+use Rattle.image.proofs.Formed.{formed, vertex-facts, edge-facts}
 use Rattle.image.proofs.Loads.{image-length}
 use Rattle.image.proofs.Counts.{distinct-few}
 
@@ -31,7 +32,7 @@ module _ {A : Type 0} (key : A → ℕ) (cap : ℕ) where
   keys-range (more {x = x} {xs = xs} p a) n c = go (λ i. keys-range a n i) (key x == n) refl c
     where
       go : (1 ≤ count n (map key xs) → (1 ≤ n) × (n ≤ cap)) → (t : Bool) → (key x == n) ≡ t → 1 ≤ bit t + count n (map key xs) → (1 ≤ n) × (n ≤ cap)
-      go ih true e c = let q = within-le cap (key x) p in let r = eqb-true (key x) n e in (omega (arith, r, q .0), omega (arith, r, q .1))
+      go ih true e c = let q = within-range 1 cap (key x) p in let r = eqb-true (key x) n e in (omega (arith, r, q .0), omega (arith, r, q .1))
       go ih false e c = ih (omega arith)
 
   pub few : (xs : List A) → distinct (map key xs) ≡ true → All Numbered xs → length xs ≤ cap

@@ -106,9 +106,6 @@ good-number cap types f a o n t k d h = go (leb 1 n) (leb n cap) refl h
 pub good-at : (cap types : ℕ) (deg own ws : List ℕ) (at g : ℕ) → g ≡ edgeGood cap types deg own ws at → 6 ≤ g → getD ws at 0 ≤ cap
 good-at cap types deg own ws at g e h = good-number cap types _ _ _ (getD ws at 0) _ _ _ (subst (λ (k : ℕ). 6 ≤ k) e h)
 
-pub no-bad : {k : ℕ} → BadRecord k ≡ Sound → ⊥
-no-bad e = let z : _≡_ {A = ℕ} 0 1 = cc in omega arith
-
 -- ---- one vertex's list
 
 step-at : (ws : List ℕ) (i : ℕ) → i < length ws → drop i ws ≡ getD ws i 0 ∷ drop (i + 1) ws

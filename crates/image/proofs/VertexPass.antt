@@ -10,11 +10,10 @@ use lib.Seq.{getD-set-same, getD-set-other}
 use borrow.Author.Tests.{eq-eqb, ne-eqb, eqb-true, eqb-false, not-true}
 use Rattle.lists.specs.Choice.{_==_, bit}
 use Rattle.lists.specs.Lists.{has, distinct}
-use Rattle.lists.proofs.Bools.{tf, and-both}
+use Rattle.lists.proofs.Bools.{tf, and-both, within-range, or-false}
 use Rattle.image.specs.Checks.{goodVertex, vertexWalk, numbersIn}
 use Rattle.image.specs.Scratch.{vertexRun, vertexMarks}
 use Rattle.image.specs.declared.Verdict.the-variants.{Sound}
-use Rattle.image.proofs.Formed.{within-le}
 use Rattle.image.proofs.Verdicts.{record-same, record-sound, VertexOk, vertex-ok}
 
 pub has-self : (n : ℕ) (ns : List ℕ) → has n (n ∷ ns) ≡ true
@@ -41,10 +40,6 @@ or-swap true false c = refl
 or-swap false true c = refl
 or-swap false false c = refl
 
-or-none : (a : Bool) → (a || false) ≡ a
-or-none true = refl
-or-none false = refl
-
 module _ (size cap types : ℕ) where
   pub vertex-agrees : (deg seen : List ℕ) (k : ℕ) (ws : List ℕ) (at : ℕ) → cap < length deg → Indicator seen deg →
       vertexRun size cap types deg k ws at ≡ vertexWalk size cap types seen k ws at
@@ -55,7 +50,7 @@ module _ (size cap types : ℕ) where
       let t = getD ws 1 0 in
       rw (fresh-by (getD deg n 0) (has n seen) (a n))
       (record-same 3 at (goodVertex cap types (not (has n seen)) n t) _ _ λ g.
-      let l = within-le cap n (vertex-ok cap types (not (has n seen)) n t g .number) in
+      let l = within-range 1 cap n (vertex-ok cap types (not (has n seen)) n t g .number) in
       vertex-agrees (set deg n 1) (n ∷ seen) k (drop size ws) (at + size) (rw length-set h) (indicator-set seen deg n (omega arith) a))
 
   -- a sound walk of one record more: the record, and the rest
@@ -72,13 +67,13 @@ module _ (size cap types : ℕ) where
       let t = getD ws 1 0 in
       let r = record-sound 3 at (goodVertex cap types (not (has n seen)) n t) (vertexWalk size cap types (n ∷ seen) k (drop size ws) (at + size)) s in
       let o = vertex-ok cap types (not (has n seen)) n t (r .0) in
-      let l = within-le cap n (o .number) in
+      let l = within-range 1 cap n (o .number) in
       record { ok = o; low = l .0; high = l .1; rest = r .1 }
 
   pub marks-agree : (deg seen : List ℕ) (k : ℕ) (ws : List ℕ) (at : ℕ) → cap < length deg → Indicator seen deg → vertexWalk size cap types seen k ws at ≡ Sound →
       (m : ℕ) → getD (vertexMarks size deg k ws) m 0 ≡ bit (has m seen || has m (numbersIn size k ws))
   unfolding vertexMarks numbersIn
-  marks-agree deg seen zero ws at h a s m = rw (or-none (has m seen)) (a m)
+  marks-agree deg seen zero ws at h a s m = rw (or-false (has m seen)) (a m)
   marks-agree deg seen (suc k) ws at h a s m =
       let n = getD ws 0 0 in
       let r = vertex-step seen k ws at s in

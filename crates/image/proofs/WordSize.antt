@@ -8,14 +8,14 @@ use lib.ListN.{length, getD}
 use borrow.Author.Tests.{ltb-true, eqb-true}
 use Rattle.lists.specs.Choice.{_⇒_else_, _==_}
 use Rattle.lists.specs.Lists.{any, all, each, All, done, more}
-use Rattle.lists.proofs.Bools.{ft, and-true}
+use Rattle.lists.proofs.Bools.{ft, and-true, within-range}
 use Rattle.lists.proofs.Sums.{all-append, all-bool}
 use Rattle.lists.proofs.Members.{all-counted, counted-all}
 use Rattle.graph.specs.Graph.{Vertex, Edge, Graph, isVertex, hasVertex, readingKind, decimetres, outWord, inWord}
 use Rattle.graph.specs.WellFormed.{Bounds, wordsOf, wordsAt, soundVertex, soundEdge, wellFormed}
 use Rattle.graph.proofs.Readings.{reading-range}
 use Rattle.image.specs.Image.{vertexRecord, edgeRecord, incidencesOf, vertexOffset, edgeOffset, incidenceOffset, imageLength, save}
-use Rattle.image.proofs.Formed.{formed, within-le, vertex-facts, edge-facts}
+use Rattle.image.proofs.Formed.{formed, vertex-facts, edge-facts}
 use Rattle.image.proofs.Room.{few-vertices, few-edges}
 
 -- "A word is unsigned, 32 bits."
@@ -47,7 +47,7 @@ module _ (b : Bounds) (u : InRange b) (g : Graph) (h : wellFormed b g ≡ true) 
   word-of v e s = go (v == e .alpha) (v == e .omega)
     where
       n : e .number ≤ 4000
-      n = omega (arith, within-le (b .edges) (e .number) (edge-facts b g e s .number) .1, u .edges)
+      n = omega (arith, within-range 1 (b .edges) (e .number) (edge-facts b g e s .number) .1, u .edges)
 
       out : outWord (e .number) < 2 ^ 32
       out = omega (arith, n)
@@ -69,7 +69,7 @@ module _ (b : Bounds) (u : InRange b) (g : Graph) (h : wellFormed b g ≡ true) 
   vertex-small : (v : Vertex) → soundVertex b g v ≡ true → All Word (vertexRecord v)
   vertex-small v s =
       let f = vertex-facts b g v s in
-      word (v .number) (omega (arith, within-le (b .vertices) (v .number) (f .number) .1, u .vertices))
+      word (v .number) (omega (arith, within-range 1 (b .vertices) (v .number) (f .number) .1, u .vertices))
       (word (v .type) (omega (arith, ltb-true (v .type) (b .types) (f .type), u .types)) (more (ltb-true (v .value) (2 ^ 32) (f .value)) done))
 
   list-small : (v : Vertex) → soundVertex b g v ≡ true → All Word (v .incidences)
@@ -88,14 +88,14 @@ module _ (b : Bounds) (u : InRange b) (g : Graph) (h : wellFormed b g ≡ true) 
           a = and-true (soundVertex b g v) (all (soundVertex b g) vs) s
 
           pick : (any (isVertex n) vs ≡ true → n ≤ 1000) → (t : Bool) → (v .number == n) ≡ t → (t || any (isVertex n) vs) ≡ true → n ≤ 1000
-          pick ih true q r = omega (arith, eqb-true (v .number) n q, within-le (b .vertices) (v .number) (vertex-facts b g v (a .0) .number) .1, u .vertices)
+          pick ih true q r = omega (arith, eqb-true (v .number) n q, within-range 1 (b .vertices) (v .number) (vertex-facts b g v (a .0) .number) .1, u .vertices)
           pick ih false q r = ih r
 
   edge-small : (e : Edge) → soundEdge b g e ≡ true → All Word (edgeRecord e)
   edge-small e s =
       let f = edge-facts b g e s in
       let r = reading-range (e .reading) (f .reading) in
-      word (e .number) (omega (arith, within-le (b .edges) (e .number) (f .number) .1, u .edges))
+      word (e .number) (omega (arith, within-range 1 (b .edges) (e .number) (f .number) .1, u .edges))
       (word (e .alpha) (omega (arith, vertex-known (e .alpha) (f .starts)))
       (word (e .omega) (omega (arith, vertex-known (e .omega) (f .stops)))
       (word (e .type) (omega (arith, ltb-true (e .type) (b .types) (f .type), u .types))

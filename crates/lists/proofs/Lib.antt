@@ -2,6 +2,7 @@ pub mod Bools
 pub mod Picks
 pub mod KeyedLaws
 pub mod Sums
+pub mod Stores
 pub mod Counts
 pub mod KeyedAll
 pub mod Places

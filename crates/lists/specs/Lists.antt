@@ -84,10 +84,6 @@ abbrev pub upto : ℕ → List ℕ
 upto zero = []
 upto (suc n) = upto n ++ (n ∷ [])
 
-abbrev pub total : List ℕ → ℕ
-total [] = 0
-total (x ∷ xs) = x + total xs
-
 -- what stands in a slice after words were written to its front
 abbrev pub over : List ℕ → List ℕ → List ℕ
 over ws slice = ws ++ drop (length ws) slice

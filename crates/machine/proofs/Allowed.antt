@@ -5,9 +5,9 @@ use mathlib.Core.Bool.{Bool, true, false, not, _||_}
 use native.Mathlib.Omega.{arith}
 use lib.Dec.{leb}
 use lib.ListN.{length}
-use borrow.Author.Tests.{eqb-true, eqb-false, not-false, leb-true, leb-false}
+use borrow.Author.Tests.{eqb-true, eqb-false, not-false, leb-false}
 use Rattle.lists.specs.Choice.{_⇒_else_, _==_, within}
-use Rattle.lists.proofs.Bools.{tf, and-true}
+use Rattle.lists.proofs.Bools.{tf, within-range}
 use Rattle.graph.specs.declared.Change.{Change}
 use Rattle.graph.specs.declared.Change.the-variants.{CreateVertex, DeleteVertex, CreateEdge, DeleteEdge, RetypeVertex, RetypeEdge, SetValue, SetReading, SetAlpha, SetOmega, VertexBefore, VertexAfter, EdgeBefore, EdgeAfter, WordBefore, WordAfter}
 use Rattle.graph.specs.Graph.{hasVertex, hasEdge, edgeOf, this, isReading}
@@ -37,9 +37,6 @@ nothing false e = e
 
 type-named : (n t : ℕ) → (leb n t || false) ≡ false → t < n
 type-named n t e = leb-false n t (nothing (leb n t) e)
-
-pub in-range : (lo hi n : ℕ) → within lo hi n ≡ true → (lo ≤ n) × (n ≤ hi)
-in-range lo hi n h = let a = and-true (leb lo n) (leb n hi) h in (leb-true lo n (a .0), leb-true n hi (a .1))
 
 -- the words of a call that a graph may keep have 32 bits
 pub record Words (x : Call) : Type 0 where
@@ -71,7 +68,7 @@ module _ (w : Parameters) (m : Machine) (x : Call) (fits : Words x) (ok : WellFo
   of-1 : Rows w m (ofKind 1 x) → Allowed (boundsIn w) (present m) (CreateVertex (x .a) (x .b) (x .c))
   unfolding ofKind
   of-1 r =
-      let i = in-range 1 (w .vertices) (x .a) (one-named (within 1 (w .vertices) (x .a)) (r .row2)) in
+      let i = within-range 1 (w .vertices) (x .a) (one-named (within 1 (w .vertices) (x .a)) (r .row2)) in
       (i .0, i .1, vertex-none (present m) (x .a) (nothing (hasVertex (present m) (x .a)) (r .row3)), type-named (length (w .rows)) (x .b) (r .row6), fits .c-fits)
 
   of-2 : Rows w m (ofKind 2 x) → Allowed (boundsIn w) (present m) (DeleteVertex (x .a))
@@ -82,7 +79,7 @@ module _ (w : Parameters) (m : Machine) (x : Call) (fits : Words x) (ok : WellFo
   of-3 : Rows w m (ofKind 3 x) → Allowed (boundsIn w) (present m) (CreateEdge (x .a) (x .b) (x .c) (x .d))
   unfolding ofKind
   of-3 r =
-      let i = in-range 1 (w .edges) (x .a) (not-false (within 1 (w .edges) (x .a)) (r .row2)) in
+      let i = within-range 1 (w .edges) (x .a) (not-false (within 1 (w .edges) (x .a)) (r .row2)) in
       let v = two-named (hasVertex (present m) (x .b)) (hasVertex (present m) (x .c)) (r .row4) in
       (i .0, i .1, edge-none (present m) (x .a) (r .row3), vertex-once (present m) (x .b) ok (v .0), vertex-once (present m) (x .c) ok (v .1), type-named (length (w .rows)) (x .d) (r .row6))
 
@@ -177,4 +174,4 @@ module _ (w : Parameters) (m : Machine) (x : Call) (fits : Words x) (ok : WellFo
       choose (Allowed (boundsIn w) (present m)) (x .kind == 13) _ _ (λ e. of-13 (at-kind 13 h e)) λ n13.
       choose (Allowed (boundsIn w) (present m)) (x .kind == 14) _ _ (λ e. of-14 (at-kind 14 h e)) λ n14.
       choose (Allowed (boundsIn w) (present m)) (x .kind == 15) _ _ (λ e. of-15 (at-kind 15 h e)) λ n15.
-      of-16 (as-kind 16 h (sixteen (up 15 (x .kind) (up 14 (x .kind) (up 13 (x .kind) (up 12 (x .kind) (up 11 (x .kind) (up 10 (x .kind) (up 9 (x .kind) (up 8 (x .kind) (up 7 (x .kind) (up 6 (x .kind) (up 5 (x .kind) (up 4 (x .kind) (up 3 (x .kind) (up 2 (x .kind) (up 1 (x .kind) (in-range 1 16 (x .kind) c .0) n1) n2) n3) n4) n5) n6) n7) n8) n9) n10) n11) n12) n13) n14) n15) (in-range 1 16 (x .kind) c .1)))
+      of-16 (as-kind 16 h (sixteen (up 15 (x .kind) (up 14 (x .kind) (up 13 (x .kind) (up 12 (x .kind) (up 11 (x .kind) (up 10 (x .kind) (up 9 (x .kind) (up 8 (x .kind) (up 7 (x .kind) (up 6 (x .kind) (up 5 (x .kind) (up 4 (x .kind) (up 3 (x .kind) (up 2 (x .kind) (up 1 (x .kind) (within-range 1 16 (x .kind) c .0) n1) n2) n3) n4) n5) n6) n7) n8) n9) n10) n11) n12) n13) n14) n15) (within-range 1 16 (x .kind) c .1)))

@@ -7,12 +7,12 @@ use lib.ListN.{length}
 use Rattle.lists.specs.Lists.{All}
 use Rattle.graph.specs.Graph.{Graph}
 use Rattle.history.specs.Machine.{fresh, present}
-use Rattle.image.specs.Image.{save, load}
+use Rattle.image.specs.Image.{imageLength, save, load}
 use Rattle.image.proofs.Room.{image-fits}
 use Rattle.image.proofs.WordSize.{Word, image-small}
 use Rattle.machine.specs.Calls.{Call, Parameters, boundsIn, callsOf}
 use Rattle.machine.specs.Machine.{last}
-use Rattle.machine.specs.Run.{Lent, parametersOf, Limits, imageRoom, listRefusal}
+use Rattle.machine.specs.Run.{Lent, parametersOf, Limits, listRefusal}
 use Rattle.machine.specs.Demand.{after}
 use Rattle.machine.proofs.Allowed.{Words}
 use Rattle.machine.proofs.AnswerBounds.{calls-fit}
@@ -24,7 +24,7 @@ module _ (w : Parameters) (g : Graph) (xs : List Call) (h : Formed w g) (f : All
   pub end-words-fit : Limits w → All Word (save (present (last w (fresh g) xs)))
   end-words-fit k = image-small (boundsIn w) (limits-in w k) (present (last w (fresh g) xs)) (end-formed w g xs h f)
 
-  pub end-fits : length (save (present (last w (fresh g) xs))) ≤ imageRoom w
+  pub end-fits : length (save (present (last w (fresh g) xs))) ≤ imageLength (w .vertices) (w .edges)
   end-fits = image-fits (boundsIn w) (present (last w (fresh g) xs)) (end-formed w g xs h f)
 
 -- after a list that is not refused

@@ -7,14 +7,13 @@ use lib.ListN.{length}
 use borrow.Author.Tests.{eqb-true, eq-eqb, not-false, ltb-false}
 use Rattle.lists.specs.Choice.{_==_, within}
 use Rattle.lists.specs.Lists.{all}
-use Rattle.lists.proofs.Bools.{and-true}
+use Rattle.lists.proofs.Bools.{and-true, within-range}
 use Rattle.types.specs.Rows.{rowFits, goodRows}
-use Rattle.image.specs.Image.{load, loadable}
+use Rattle.image.specs.Image.{load, loadable, imageLength}
 use Rattle.image.proofs.Loads.{loaded}
 use Rattle.image.proofs.WordSize.{InRange}
 use Rattle.machine.specs.Calls.{Parameters, boundsIn}
-use Rattle.machine.specs.Run.{Lent, parametersOf, Limits, imageRoom, listRefusal}
-use Rattle.machine.proofs.Allowed.{in-range}
+use Rattle.machine.specs.Run.{Lent, parametersOf, Limits, listRefusal}
 use Rattle.machine.proofs.CodeRows.{chain-zero}
 use Rattle.machine.proofs.Graphs.{Formed}
 
@@ -27,7 +26,7 @@ pub record Passed (l : Lent) : Type 0 where
   pub limits : Limits (parametersOf l)
   pub rows-good : goodRows (l .rows) ≡ true
   pub start-loads : loadable (boundsIn (parametersOf l)) (l .start) ≡ true
-  pub end-room : imageRoom (parametersOf l) ≤ length (l .end)
+  pub end-room : imageLength (parametersOf l .vertices) (parametersOf l .edges) ≤ length (l .end)
 
 pub passed : (l : Lent) → listRefusal l ≡ 0 → Passed l
 unfolding listRefusal goodRows
@@ -38,14 +37,14 @@ passed l e =
     let r3 = chain-zero (not (within 1 1000 (w .vertices) && within 1 4000 (w .edges) && within 1 20000 (w .changes))) 102 _ (r2 .1) in
     let r4 = chain-zero (not (goodRows (l .rows))) 103 _ (r3 .1) in
     let r5 = chain-zero (not (loadable (boundsIn w) (l .start))) 104 _ (r4 .1) in
-    let r6 = chain-zero (ltb (length (l .end)) (imageRoom w)) 105 _ (r5 .1) in
+    let r6 = chain-zero (ltb (length (l .end)) (imageLength (w .vertices) (w .edges))) 105 _ (r5 .1) in
     let a = and-true (within 1 1000 (w .vertices) && within 1 4000 (w .edges)) (within 1 20000 (w .changes)) (not-false _ (r3 .0)) in
     let b = and-true (within 1 1000 (w .vertices)) (within 1 4000 (w .edges)) (a .0) in
     let c = and-true (within 1 64 (length (l .rows))) (all (rowFits (length (l .rows))) (l .rows)) (not-false _ (r4 .0)) in
-    let v = in-range 1 1000 (w .vertices) (b .0) in
-    let n = in-range 1 4000 (w .edges) (b .1) in
-    let k = in-range 1 20000 (w .changes) (a .1) in
-    let t = in-range 1 64 (length (l .rows)) (c .0) in
+    let v = within-range 1 1000 (w .vertices) (b .0) in
+    let n = within-range 1 4000 (w .edges) (b .1) in
+    let k = within-range 1 20000 (w .changes) (a .1) in
+    let t = within-range 1 64 (length (l .rows)) (c .0) in
     record {
       calls-whole = eqb-true (length (l .calls) % 5) 0 (not-false _ (r1 .0));
       answers-room = ltb-false _ _ (r2 .0);

@@ -10,7 +10,7 @@ use lib.ListN.{length}
 use borrow.Author.Tests.{ltb-false, eqb-true, eqb-false}
 use Rattle.lists.specs.Choice.{_==_, within}
 use Rattle.lists.specs.Lists.{any}
-use Rattle.lists.proofs.Bools.{tf, ft, and-true}
+use Rattle.lists.proofs.Bools.{tf, ft, and-true, or-none}
 use Rattle.graph.specs.Graph.{Graph}
 use Rattle.history.specs.Machine.{Machine, Standing, gone, at, placeOr, graphAt, distance, fresh, present}
 use Rattle.history.proofs.Timelines.{length-cut, graph-kept}
@@ -19,7 +19,7 @@ use Rattle.machine.specs.Codes.{refusal}
 use Rattle.machine.specs.Machine.{Sort, changes, sets, drops, undoes, redoes, goes, commits, asks, sortOf, answer, step, last, nextBy, numberBy}
 use Rattle.machine.specs.Marks.{eventOf, events, setsBy, setsMark, endsBy, endsMark, Kept, set-here, set-later, goTo, MarkSentence}
 use Rattle.machine.proofs.Sorts.{code-is, accepted-step, refused-step, not-refused, Kind, kind-of, ofKind, call-is}
-use Rattle.machine.proofs.Stands.{gone-at, cut-at, set-to, drop-to, KeptOrStanding, no-head, no-tail, last-to, kept-from}
+use Rattle.machine.proofs.Stands.{gone-at, cut-at, set-to, drop-to, KeptOrStanding, last-to, kept-from}
 
 -- ---- the places stay within the graphs, and a kept place keeps its graph
 
@@ -171,8 +171,8 @@ unfolding last events
 stay-graph w m [] k q g h i e = i
 stay-graph w m (x ∷ xs) k q g h i e =
     stay-graph w (step w m x) xs k q g (places-step w m x h)
-    (holds-ends w m x k q g h i (no-head (endsMark k q (eventOf w m x)) _ e))
-    (no-tail (endsMark k q (eventOf w m x)) _ e)
+    (holds-ends w m x k q g h i (or-none (endsMark k q (eventOf w m x)) _ e .0))
+    (or-none (endsMark k q (eventOf w m x)) _ e .1)
 
 kept-graph : (w : Parameters) (m : Machine) (xs : List Call) (k q : ℕ) (g : Graph) → PlacesInRange m → Kept k q g (events w m xs) → Holds (last w m xs) q g
 unfolding last events Holds

@@ -8,7 +8,7 @@ use native.Mathlib.Omega.{arith}
 use lib.Dec.{ltb}
 use Rattle.lists.specs.Choice.{_⇒_else_, _==_}
 use Rattle.lists.specs.Lists.{any}
-use Rattle.lists.proofs.Bools.{tf, ft}
+use Rattle.lists.proofs.Bools.{tf, ft, or-none}
 use Rattle.graph.specs.Graph.{Graph}
 use Rattle.history.specs.Machine.{Machine, Standing, gone, at, cut, present}
 use Rattle.machine.specs.Calls.{Call, Parameters}
@@ -116,14 +116,6 @@ KeptOrStanding w m xs k q =
 no-more : {a b : Bool} → a ≡ false → b ≡ false → (a || b) ≡ false
 no-more e f = rw e f
 
-pub no-head : (a b : Bool) → (a || b) ≡ false → a ≡ false
-no-head true b e = e
-no-head false b e = refl
-
-pub no-tail : (a b : Bool) → (a || b) ≡ false → b ≡ false
-no-tail true b e = tf e
-no-tail false b e = e
-
 pub last-to : (w : Parameters) (m : Machine) (xs : List Call) (k q : ℕ) → last w m xs .marks k ≡ at q → KeptOrStanding w m xs k q
 unfolding last events KeptOrStanding AfterCall
 last-to w m [] k q e = inr (e, refl)
@@ -143,8 +135,8 @@ unfolding last events AfterCall
 stay-from w m [] k q e nz = e
 stay-from w m (x ∷ xs) k q e nz =
     stay-from w (step w m x) xs k q
-    (step-from w m x k q (inr (e, no-head (endsMark k q (eventOf w m x)) _ nz)))
-    (no-tail (endsMark k q (eventOf w m x)) _ nz)
+    (step-from w m x k q (inr (e, or-none (endsMark k q (eventOf w m x)) _ nz .0)))
+    (or-none (endsMark k q (eventOf w m x)) _ nz .1)
 
 pub kept-from : (w : Parameters) (m : Machine) (xs : List Call) (k q : ℕ) (h : Graph) → Kept k q h (events w m xs) → last w m xs .marks k ≡ at q
 unfolding last events AfterCall

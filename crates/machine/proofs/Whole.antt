@@ -1,5 +1,5 @@
 -- Every list that is not refused meets demand 3.
-use Prim.Native.Nat.{ℕ, zero, suc, _*_, _/_, _≤_}
+use Prim.Native.Nat.{ℕ, zero, suc, _*_, _/_, _≤_, _+_, _<_}
 use mathlib.Core.Path.{_≡_, refl, ap, _∙_}
 use mathlib.Core.List.{List, [], _∷_, _++_, map}
 use native.Mathlib.Omega.{arith}
@@ -53,22 +53,21 @@ demand-3 l e = record {
 over-length : (ws slice : List ℕ) → length ws ≤ length slice → length (over ws slice) ≡ length slice
 over-length ws slice h = rw (length-append, length-drop) (omega arith)
 
-calls-length : (n : ℕ) (ws : List ℕ) → length ws ≡ 5 * n → length (callsOf ws) ≡ n
-calls-length zero [] e = refl
-calls-length zero (k ∷ ws) e = absurd (omega arith)
-calls-length (suc n) (k ∷ a ∷ b ∷ c ∷ d ∷ ws) e = ap suc (calls-length n ws (omega arith))
-calls-length (suc n) [] e = absurd (omega arith)
-calls-length (suc n) (k ∷ []) e = absurd (omega arith)
-calls-length (suc n) (k ∷ a ∷ []) e = absurd (omega arith)
-calls-length (suc n) (k ∷ a ∷ b ∷ []) e = absurd (omega arith)
-calls-length (suc n) (k ∷ a ∷ b ∷ c ∷ []) e = absurd (omega arith)
+pub calls-length : (n : ℕ) (ws : List ℕ) → 5 * n ≤ length ws → length ws < 5 * n + 5 → length (callsOf ws) ≡ n
+calls-length zero (k ∷ a ∷ b ∷ c ∷ d ∷ ws) h i = absurd (omega arith)
+calls-length (suc n) (k ∷ a ∷ b ∷ c ∷ d ∷ ws) h i = ap suc (calls-length n ws (omega arith) (omega arith))
+calls-length n [] h i = omega arith
+calls-length n (k ∷ []) h i = omega arith
+calls-length n (k ∷ a ∷ []) h i = omega arith
+calls-length n (k ∷ a ∷ b ∷ []) h i = omega arith
+calls-length n (k ∷ a ∷ b ∷ c ∷ []) h i = omega arith
 
 pub done-is : (l : Lent) → listRefusal l ≡ 0 → run l .done ≡ length (l .calls) / 5
 done-is l e =
     let p = passed l e .calls-whole in
-    demand-3 l e .done ∙ calls-length (length (l .calls) / 5) (l .calls) (omega arith)
+    demand-3 l e .done ∙ calls-length (length (l .calls) / 5) (l .calls) (omega arith) (omega arith)
 
-answers-length : (w : Parameters) (m : Machine) (xs : List Call) → length (answerWords (answers w m xs)) ≡ 2 * length xs
+pub answers-length : (w : Parameters) (m : Machine) (xs : List Call) → length (answerWords (answers w m xs)) ≡ 2 * length xs
 unfolding answers
 answers-length w m [] = refl
 answers-length w m (x ∷ xs) = omega (arith, answers-length w (step w m x) xs)

@@ -1,5 +1,5 @@
 -- A run: what is lent, the refusals of a list, the result and the lent words after it.
-use Prim.Native.Nat.{ℕ, _+_, _*_, _/_, _%_, _≤_}
+use Prim.Native.Nat.{ℕ, _*_, _/_, _%_, _≤_}
 use mathlib.Core.Bool.{not, _&&_}
 use mathlib.Core.List.{List, [], _∷_}
 use lib.ListN.{length}
@@ -7,7 +7,7 @@ use lib.Dec.{ltb}
 use Rattle.lists.specs.Choice.{_⇒_else_, _==_, within}
 use Rattle.lists.specs.Lists.{over}
 use Rattle.types.specs.Rows.{goodRows}
-use Rattle.image.specs.Image.{save, load, loadable}
+use Rattle.image.specs.Image.{imageLength, save, load, loadable}
 use Rattle.history.specs.Machine.{fresh, present}
 use Rattle.machine.specs.Calls.{Parameters, boundsIn, callsOf}
 use Rattle.machine.specs.Codes.{Row, row, lowest}
@@ -47,11 +47,7 @@ pub record Limits (w : Parameters) : Type 0 where
   pub some-types : 1 ≤ length (w .rows)
   pub few-types : length (w .rows) ≤ 64
 
--- 106 asks for "6 + 3 × vertices + 8 × edges of capacity"
-abbrev pub imageRoom : Parameters → ℕ
-imageRoom w = 6 + 3 * w .vertices + 8 * w .edges
-
--- 101 to 106
+-- 101 to 106; 106 asks for "6 + 3 × vertices + 8 × edges of capacity", the length of an image with as many
 unfoldable pub listTable : Lent → List Row
 unfolding goodRows loadable
 listTable l =
@@ -60,7 +56,7 @@ listTable l =
     row 103 (not (within 1 1000 (w .vertices) && within 1 4000 (w .edges) && within 1 20000 (w .changes))) ∷
     row 104 (not (goodRows (l .rows))) ∷
     row 105 (not (loadable (boundsIn w) (l .start))) ∷
-    row 106 (ltb (length (l .end)) (imageRoom w)) ∷
+    row 106 (ltb (length (l .end)) (imageLength (w .vertices) (w .edges))) ∷
     []
   where
     w : Parameters

@@ -12,7 +12,6 @@ use Rattle.ring.specs.declared.Lane.{Lane}
 use Rattle.ring.specs.declared.Ends.{Ends}
 use Rattle.ring.specs.Links.{ValidLane, Side, prv, nxt, word, linkOf, Held, HeldAt, nodes}
 use Rattle.ring.specs.Lists.{All}
-use Rattle.ring.proofs.ListLaws.{lastOr}
 use Rattle.ring.proofs.Model.{held-last, held-nodes}
 use Rattle.ring.proofs.Walks.{next-first}
 use Rattle.ring.proofs.Counted.{ordered, inside-is, prev-is, next-is, has-is}
@@ -33,17 +32,10 @@ use Rattle.tables.proofs.Refines.{word-in}
 
 -- ---- a held list
 
-last-or : (a : ℕ) (l : List ℕ) → lastOr a l ≡ lastBy wd a l
-last-or a [] = refl
-last-or a (x ∷ l) = last-or x l
-
 module _ (lane : Lane) (t : List ℕ) (e : Ends) (l : List ℕ) (valid : ValidLane lane) (h : Held lane t e l) where
   pub first-is : e .first ≡ first l
   unfolding linkOf
   first-is = next-first lane t e l h
-
-  pub last-is : e .last ≡ lastBy wd 0 l
-  last-is = held-last lane t e l h ∙ last-or 0 l
 
   module _ (x : ℕ) (c : 1 ≤ countBy wd x l) where
     real : 0 ≢ x
@@ -75,10 +67,10 @@ module _ (s : State) (g : Graph) (h : Holds s g) where
   first-edge = first-is elane (s .et) (eends (s .head)) (edgeNumbers g) valid-e (h .core .eseq)
 
   pub last-vertex : s .head .vlast ≡ lastBy vn 0 (g .vseq)
-  last-vertex = last-is vlane (s .vt) (vends (s .head)) (vertexNumbers g) valid-v (h .core .vseq) ∙ keys-last vn 0 (g .vseq)
+  last-vertex = held-last vlane (s .vt) (vends (s .head)) (vertexNumbers g) (h .core .vseq) ∙ keys-last vn 0 (g .vseq)
 
   pub last-edge : s .head .elast ≡ lastBy en 0 (g .eseq)
-  last-edge = last-is elane (s .et) (eends (s .head)) (edgeNumbers g) valid-e (h .core .eseq) ∙ keys-last en 0 (g .eseq)
+  last-edge = held-last elane (s .et) (eends (s .head)) (edgeNumbers g) (h .core .eseq) ∙ keys-last en 0 (g .eseq)
 
   module _ (v : ℕ) (c : VertexThere g v) where
     pub vertex-row : VIn (s .vt) v
@@ -95,7 +87,7 @@ module _ (s : State) (g : Graph) (h : Holds s g) where
     first-word = first-is ilane (s .et) (endsAt (s .vt) v) (listOf g v) valid-i (h .core .lists v (vertex-row .0))
 
     pub last-word : vlast (s .vt) v ≡ lastBy wd 0 (listOf g v)
-    last-word = last-is ilane (s .et) (endsAt (s .vt) v) (listOf g v) valid-i (h .core .lists v (vertex-row .0))
+    last-word = held-last ilane (s .et) (endsAt (s .vt) v) (listOf g v) (h .core .lists v (vertex-row .0))
 
     listed-v : 1 ≤ countBy wd v (vertexNumbers g)
     listed-v = omega (arith, keys-count vn v (g .vseq))

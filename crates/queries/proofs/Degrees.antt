@@ -2,7 +2,7 @@
 use Prim.Native.Nat.{ℕ, _+_, _/_, _%_, _≤_}
 use mathlib.Core.Path.{_≡_, refl, sym, ap, subst, _∙_}
 use mathlib.Core.Logic.{_≢_}
-use mathlib.Core.Bool.{Bool, true, false, not, _&&_, _||_}
+use mathlib.Core.Bool.{Bool, true, false, not, _&&_}
 use mathlib.Core.List.{List, [], _∷_}
 use native.Mathlib.Omega.{arith}
 use lib.ListN.{length}
@@ -25,15 +25,12 @@ use Rattle.tables.proofs.Frames.{valid-i}
 use Rattle.queries.specs.Walks.{degreeAt}
 use Rattle.queries.proofs.ListWalks.{Walk}
 use Rattle.queries.proofs.Answers.{vertex-row, edge-type, listed-edge}
+use Rattle.lists.proofs.Bools.{or-false}
 
 -- ---- one word
 
-or-false : (b : Bool) → b ≡ (b || false)
-or-false true = refl
-or-false false = refl
-
 pub side-out : (c w : ℕ) → c ≡ 1 → (w % 2 == 0) ≡ onSide c w
-side-out c w e = subst (λ (x : ℕ). (w % 2 == 0) ≡ onSide x w) (sym e) (or-false (w % 2 == 0))
+side-out c w e = subst (λ (x : ℕ). (w % 2 == 0) ≡ onSide x w) (sym e) (sym (or-false (w % 2 == 0)))
 
 pub side-in : (c w : ℕ) → c ≡ 2 → not (w % 2 == 0) ≡ onSide c w
 side-in c w e = subst (λ (x : ℕ). not (w % 2 == 0) ≡ onSide x w) (sym e) refl

@@ -9,13 +9,8 @@ use lib.ListN.{getD, drop}
 use lib.Seq.{getD-drop}
 use Rattle.lists.specs.Choice.{_⇒_else_, is}
 use Rattle.lists.specs.Lists.{All, done, more, keep}
-use Rattle.lists.specs.Keyed.{countBy, lastBy}
+use Rattle.lists.specs.Keyed.{countBy}
 use Rattle.lists.proofs.Picks.{is-yes}
-use Rattle.ring.specs.declared.Lane.{Lane}
-use Rattle.ring.specs.declared.Ends.{Ends}
-use Rattle.ring.specs.Links.{Held}
-use Rattle.ring.proofs.ListLaws.{lastOr}
-use Rattle.ring.proofs.Model.{held-last}
 
 module _ {A : Type 0} (key : A → ℕ) where
   pub count-append : (k : ℕ) (u v : List A) → countBy key k (u ++ v) ≡ countBy key k u + countBy key k v
@@ -70,11 +65,3 @@ module _ (p : ℕ → Bool) where
       go : (t : Bool) → countBy (λ w. w) k (keep p xs) ≤ countBy (λ w. w) k xs → countBy (λ w. w) k (t ⇒ (x ∷ keep p xs) else keep p xs) ≤ is x k + countBy (λ w. w) k xs
       go true e = omega arith
       go false e = omega arith
-
--- the last node of a held list is its last number
-last-or : (a : ℕ) (l : List ℕ) → lastOr a l ≡ lastBy (λ k. k) a l
-last-or a [] = refl
-last-or a (x ∷ l) = last-or x l
-
-pub last-is : (lane : Lane) (t : List ℕ) (e : Ends) (l : List ℕ) → Held lane t e l → e .last ≡ lastBy (λ k. k) 0 l
-last-is lane t e l h = held-last lane t e l h ∙ last-or 0 l

@@ -27,7 +27,8 @@ use Rattle.tables.proofs.Frames.{valid-i, row-v}
 use Rattle.tables.proofs.Refines.{word-in}
 use Rattle.tables.proofs.WordLaws.{can-attach, core-attach}
 use Rattle.store.specs.Filling.{filled, wordS, CanWord, CanLoad}
-use Rattle.store.proofs.Cuts.{count-append, count-here, count-map, map-same, keep-append, keep-all, keep-none, count-keep, read-first, last-is}
+use Rattle.store.proofs.Cuts.{count-append, count-here, count-map, map-same, keep-append, keep-all, keep-none, count-keep, read-first}
+use Rattle.ring.proofs.Model.{held-last}
 use Rattle.store.proofs.Parts.{given}
 use Rattle.store.proofs.Fills.{Fill, Turn, fill-next}
 
@@ -180,7 +181,7 @@ module _ (g : Graph) (wf : WellFormed g) where
     free u = omega (arith, count-filled (g .eseq) ws w u (g .vseq), count-append wd w ws (w ∷ rest), is-yes w w refl, ap (countBy wd w) q, word-once w)
 
     last : vlast (s .vt) v ≡ lastBy wd 0 (listIn vs v)
-    last = last-is ilane (s .et) (endsAt (s .vt) v) (listIn vs v) (c .lists v real)
+    last = held-last ilane (s .et) (endsAt (s .vt) v) (listIn vs v) (c .lists v real)
 
     place : 1 ≤ is 0 (vlast (s .vt) v) + countBy wd (vlast (s .vt) v) (listIn vs v)
     place = rw last (last-in wd 0 (listIn vs v))

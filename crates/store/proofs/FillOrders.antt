@@ -29,7 +29,8 @@ use Rattle.tables.proofs.Callers.{vertex-in, edge-in}
 use Rattle.tables.proofs.VertexLaws.{can-put-vertex, core-insert-vertex}
 use Rattle.tables.proofs.EdgeLaws.{can-put-edge, core-place-edge}
 use Rattle.store.specs.Filling.{withoutList, vertexS, edgeS, CanLoad}
-use Rattle.store.proofs.Cuts.{count-append, count-map, all-at, read, read-first, last-is}
+use Rattle.store.proofs.Cuts.{count-append, count-map, all-at, read, read-first}
+use Rattle.ring.proofs.Model.{held-last}
 use Rattle.store.proofs.Parts.{given, most-vertices, most-edges, sized-by}
 use Rattle.store.proofs.Fills.{Fill, Turn, fill-room, fill-next}
 
@@ -55,7 +56,7 @@ module _ {A : Type 0} (key : A → ℕ) (lane : Lane) (t : List ℕ) (e : Ends) 
   order-once n = omega (arith, ordered lane t e (map key l) valid h n, keys-count key n l)
 
   order-last : e .last ≡ lastBy key 0 l
-  order-last = last-is lane t e (map key l) h ∙ keys-last key 0 l
+  order-last = held-last lane t e (map key l) h ∙ keys-last key 0 l
 
   order-there : 1 ≤ is 0 (e .last) + countBy key (e .last) l
   order-there = rw order-last (last-in key 0 l)

@@ -19,7 +19,8 @@ use Rattle.tables.specs.Holds.{Holds}
 use Rattle.tables.specs.Read.{vertexAt, edgeAt, graphOf}
 use Rattle.tables.proofs.GraphRead.{graph-is}
 use Rattle.store.specs.Words.{vertexPart, edgePart, incidencePart, Some, CanSave}
-use Rattle.store.proofs.Stores.{then-by, sets-front}
+use Rattle.store.proofs.Stores.{then-by}
+use Rattle.lists.proofs.Stores.{sets-over}
 
 -- ---- the words
 
@@ -113,6 +114,6 @@ saved-by s out k out₁ out₂ out₃ out₄ a b r p q u w g h =
     let e₃ : out₄ ≡ sets out₂ a (ep ++ ip) = then-by out₂ a b ep ip (u .0) (u .1) (w .0) in
     let e₂ : out₄ ≡ sets out₁ 6 (vp ++ (ep ++ ip)) = then-by out₁ 6 a vp (ep ++ ip) (q .0) (q .1) e₃ in
     let e₁ : out₄ ≡ sets out 0 (imageOf s) = then-by out 0 6 (headerOf (s .head .vertices) (s .head .edges)) (vp ++ (ep ++ ip)) p refl e₂ in (
-      e₁ ∙ sets-front (imageOf s) out (image-fits s (length out) k) ∙ ap (λ (x : List ℕ). over x out) (image-is s g h),
+      e₁ ∙ sets-over (imageOf s) out (image-fits s (length out) k) ∙ ap (λ (x : List ℕ). over x out) (image-is s g h),
       omega (arith, q .1, u .1, w .1, length-append vp (ep ++ ip), length-append ep ip, ap length (image-is s g h)),
     )

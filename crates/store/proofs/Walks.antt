@@ -13,7 +13,7 @@ use Rattle.ring.specs.Links.{ValidLane, prv, nxt, Inside, linkOf, Chain, Held, 
 use Rattle.ring.proofs.Pigeonhole.{held-length}
 use Rattle.ring.proofs.Model.{nodes-chain, node-below, held-nodes}
 use Rattle.store.specs.Words.{Some}
-use Rattle.store.proofs.Stores.{sets-append}
+use Rattle.lists.proofs.Stores.{sets-append}
 
 pub each-one : (l : List ℕ) → each (λ x. x ∷ []) l ≡ l
 each-one [] = refl
@@ -91,7 +91,7 @@ module _ (f : ℕ → List ℕ) (lane : Lane) (t : List ℕ) (e : Ends) (out₀ 
                   inside = o .inside .1;
                   few = omega (arith, o .few);
                 };
-                same = rw (p, q) (sym (sets-append (f x) (each f l) out at) ∙ s′);
+                same = rw (p, q) (sets-append out (f x) (each f l) at ∙ s′);
                 size = omega (arith, q, n′, length-append (f x) (each f l));
               };
               less = λ y r.

@@ -16,7 +16,8 @@ use Rattle.text.specs.declared.reading.Number.the-variants.{Empty, Value
 use Rattle.text.specs.declared.reading.Line.{Line}
 use Rattle.text.specs.Scan.{run, moreDigit, addDigit, digitIn, isValue, blank, freshLine, spaceIn, lineIn, lineGood, lineBlank}
 use Rattle.text.proofs.Pieces.{Free, Parts, rest, cut, parts, pieces-rest, pieces-cut, NonEmpty, nonempty, pieces-nonempty}
-use Rattle.text.proofs.Numbers.{and-false, and-true-right, run-append, bad-digit, number-good}
+use Rattle.text.proofs.Numbers.{and-true-right, run-append, bad-digit, number-good}
+use Rattle.lists.proofs.Bools.{and-false}
 
 abbrev pub line : ℕ → Number → Line
 line k n = record { fields = k; number = n }

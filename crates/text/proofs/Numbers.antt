@@ -9,15 +9,11 @@ use lib.Dec.{ltb}
 use borrow.Author.Tests.{lt-ltb, le-ltb, ltb-true, ltb-false, leb-true, eqb-true, eqb-false, ne-eqb}
 use Rattle.lists.specs.Choice.{_⇒_else_, _==_}
 use Rattle.lists.specs.Lists.{all}
-use Rattle.lists.proofs.Bools.{and-true, ft}
+use Rattle.lists.proofs.Bools.{and-true, ft, and-false}
 use Rattle.text.specs.Reading.{digit, valueOf, goodNumber}
 use Rattle.text.specs.declared.reading.Number.{Number}
 use Rattle.text.specs.declared.reading.Number.the-variants.{Empty, Value, Bad}
 use Rattle.text.specs.Scan.{run, moreDigit, addDigit, digitIn, isValue}
-
-pub and-false : (a : Bool) → (a && false) ≡ false
-and-false true = refl
-and-false false = refl
 
 pub and-true-right : (a : Bool) → (a && true) ≡ a
 and-true-right true = refl

@@ -1,25 +1,17 @@
 -- Stores one after another.
-use Prim.Native.Nat.{ℕ, suc, _+_, _≤_}
+use Prim.Native.Nat.{ℕ, _+_, _≤_}
 use mathlib.Core.Path.{_≡_, refl, ap, _∙_, subst}
 use mathlib.Core.List.{List, [], _∷_, _++_}
 use native.Mathlib.Omega.{arith}
-use lib.ListN.{length, drop, set, length-append}
-use lib.Seq.{sets, sets-eq}
+use lib.ListN.{length, set, length-append}
+use lib.Seq.{sets}
 use Rattle.lists.specs.Lists.{over}
 use Rattle.text.specs.Writing.{Stored}
-
-pub sets-append : (l xs ys : List ℕ) (at : ℕ) → sets (sets l at xs) (at + length xs) ys ≡ sets l at (xs ++ ys)
-sets-append l [] ys at = let e : at + 0 ≡ at = omega arith in rw e
-sets-append l (x ∷ xs) ys at =
-    let e : at + suc (length xs) ≡ suc at + length xs = omega arith in
-    rw e (sets-append _ xs ys (suc at))
+use Rattle.lists.proofs.Stores.{sets-append, sets-over}
 
 -- what is left to write after xs, as one list of stores
 pub then : (l l′ xs ys zs : List ℕ) (at at′ : ℕ) → l′ ≡ sets l at xs → at′ ≡ at + length xs → xs ++ ys ≡ zs → sets l′ at′ ys ≡ sets l at zs
 then l l′ xs ys zs at at′ p q r = ap (λ (k : List ℕ). sets k at′ ys) p ∙ ap (λ (k : ℕ). sets (sets l at xs) k ys) q ∙ sets-append l xs ys at ∙ ap (sets l at) r
-
-pub sets-over : (ws l : List ℕ) → length ws ≤ length l → sets l 0 ws ≡ over ws l
-sets-over ws l h = let e : 0 + length ws ≡ length ws = omega arith in sets-eq ws l 0 (omega arith) ∙ ap (λ (k : ℕ). ws ++ drop k l) e
 
 -- ---- texts
 

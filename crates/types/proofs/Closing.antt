@@ -2,7 +2,7 @@
 use Prim.Native.Nat.{ℕ, zero, suc, _+_, _*_, _/_, _%_, _^_, _≤_, _<_}
 use mathlib.Core.Path.{_≡_, refl, sym, ap, ap₂, _∙_}
 use mathlib.Core.Logic.{_⊎_, inl, inr}
-use mathlib.Core.Bool.{Bool, true, false, _&&_, _||_}
+use mathlib.Core.Bool.{Bool, true, false, _&&_}
 use mathlib.Core.List.{List, [], _∷_, _++_, map, map-append}
 use native.Mathlib.Omega.{arith}
 use native.Mathlib.Nat.{one-mul, mod-eq-of-lt}
@@ -22,6 +22,7 @@ use Rattle.types.specs.Closure.{wordOf, wordsOf, closureWords}
 use Rattle.types.proofs.Least.{only-types, below-types}
 use Rattle.types.proofs.RowLaws.{good-facts}
 use Rattle.types.proofs.Words.{bit-test, none-word, one-word, word-ext, or-word, bit-word, word-digits}
+use Rattle.lists.proofs.Bools.{or-false}
 
 -- ---- a list of words by its places
 
@@ -127,15 +128,11 @@ module _ (rows : List ℕ) where
       in
       ap (λ (b : Bool). b ⇒ bitOr w v else w) test ∙ go (belowBy rows k s k) refl
     where
-      or-false : (b : Bool) → b ≡ (b || false)
-      or-false true = refl
-      or-false false = refl
-
       go : (b : Bool) → belowBy rows k s k ≡ b →
           (b ⇒ bitOr (wordOf (length rows) (belowBy rows k s)) (wordOf (length rows) (belowBy rows k k)) else wordOf (length rows) (belowBy rows k s))
           ≡ wordOf (length rows) (belowBy rows (suc k) s)
       go true e = or-word _ _ (length rows) ∙ word-ext _ _ (length rows) (λ t i. rw e)
-      go false e = word-ext _ _ (length rows) (λ t i. rw e (or-false (belowBy rows k s t)))
+      go false e = word-ext _ _ (length rows) (λ t i. rw e (sym (or-false (belowBy rows k s t))))
 
 -- words of which those before s have the chains over k
 abbrev pub Chaining : List ℕ → ℕ → ℕ → List ℕ → Type 0

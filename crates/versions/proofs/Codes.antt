@@ -5,10 +5,9 @@ use mathlib.Core.Logic.{_≢_}
 use mathlib.Core.Bool.{Bool, true, false, not, _||_}
 use mathlib.Core.List.{List, [], _∷_}
 use native.Mathlib.Omega.{arith}
-use lib.Dec.{leb}
-use borrow.Author.Tests.{le-leb, lt-leb, leb-true}
+use borrow.Author.Tests.{le-leb, lt-leb}
 use Rattle.lists.specs.Choice.{_⇒_else_, within}
-use Rattle.lists.proofs.Bools.{tf, and-true}
+use Rattle.lists.proofs.Bools.{tf, within-range}
 use Rattle.history.specs.Machine.{Machine, stands}
 use Rattle.history.specs.Rules.{outside, markCode}
 use Rattle.marks.specs.Marked.{inSet, Marked}
@@ -30,7 +29,7 @@ range-of : (a : ℕ) → outside (a ∷ []) ≡ false → (1 ≤ a) × (a ≤ 64
 range-of a e = go (within 1 64 a) refl
   where
     go : (t : Bool) → within 1 64 a ≡ t → (1 ≤ a) × (a ≤ 64)
-    go true f = let s = and-true (leb 1 a) (leb a 64) f in (leb-true 1 a (s .0), leb-true a 64 (s .1))
+    go true f = within-range 1 64 a f
     go false f = tf (sym (ap (λ (t : Bool). not t || false) f) ∙ e)
 
 -- ---- the ways out of `named` and `unnamed`

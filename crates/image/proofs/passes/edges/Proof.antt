@@ -6,9 +6,10 @@ use native.Mathlib.Omega.{arith}
 use borrow.Author.Needs.{needs}
 use lib.ListN.{length, drop}
 use Rattle.image.specs.Scratch.{Below, edgeRun, edgeDegrees, edgeOwners}
-use Rattle.image.proofs.Turns.{edge-stop, edge-go, degrees-go, owners-go, edge-end, good-at, below-ends, below-more, no-bad}
+use Rattle.image.proofs.Turns.{edge-stop, edge-go, degrees-go, owners-go, edge-end, good-at, below-ends, below-more}
 use Rattle.image.proofs.passes.edges.Statement.{statement}
 use Rattle.image.proofs.passes.edges.Tie as tie
+use Rattle.image.proofs.Verdicts.{record-not}
 
 abbrev Inv-loop : tie.InvT-loop
 Inv-loop part count from deg₀ own₀ cap types i₀ at₀ deg own i at =
@@ -50,7 +51,7 @@ returns c =
     let a = c .before .before .before .before .before .before .before .before .before .args in
     let l = c .before .before .before .before .before .loop in
     let g = c .before .edge-good in
-    (edge-stop (a .count) (l .i) (a .part .now) (a .from) (l .at) (omega arith) (a .cap) (a .types) (l .deg) (l .own) (g .result) (g .ensures) (c .if1 .taken) ∙ l .inv .5, λ e. absurd (no-bad e))
+    (edge-stop (a .count) (l .i) (a .part .now) (a .from) (l .at) (omega arith) (a .cap) (a .types) (l .deg) (l .own) (g .result) (g .ensures) (c .if1 .taken) ∙ l .inv .5, λ e. absurd (record-not e))
 
 edge-enter-requires : tie.Need-edge-enter-requires Inv-loop μ-loop
 edge-enter-requires c κs =

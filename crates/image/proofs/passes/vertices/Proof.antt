@@ -5,9 +5,10 @@ use native.Mathlib.Omega.{arith}
 use borrow.Author.Needs.{needs}
 use lib.ListN.{length, drop}
 use Rattle.image.specs.Scratch.{vertexRun, vertexMarks}
-use Rattle.image.proofs.Turns.{vertex-stop, vertex-go, marks-go, vertex-end, vertex-by, put-by, no-bad}
+use Rattle.image.proofs.Turns.{vertex-stop, vertex-go, marks-go, vertex-end, vertex-by, put-by}
 use Rattle.image.proofs.passes.vertices.Statement.{statement}
 use Rattle.image.proofs.passes.vertices.Tie as tie
+use Rattle.image.proofs.Verdicts.{record-not}
 
 abbrev Inv-loop : tie.InvT-loop
 Inv-loop part size count deg₀ cap types i₀ at₀ deg i at =
@@ -61,7 +62,7 @@ returns c =
     let f = c .before .before .get3 in
     let g = c .before .good-vertex in
     let good = vertex-by (a .cap) (a .types) (l .deg) (a .part .now) (l .at) (n .result) (w .result) (f .result) (t .result) (g .result) (n .ensures) (w .ensures .0) (f .ensures) (t .ensures) (g .ensures) in
-    (vertex-stop (a .count) (l .i) (a .part .now) 6 (l .at) (omega arith) (a .size) (a .cap) (a .types) (l .deg) (g .result) good (c .if1 .taken) ∙ l .inv .3, λ e. absurd (no-bad e))
+    (vertex-stop (a .count) (l .i) (a .part .now) 6 (l .at) (omega arith) (a .size) (a .cap) (a .types) (l .deg) (g .result) good (c .if1 .taken) ∙ l .inv .3, λ e. absurd (record-not e))
 
 wide-requires-2 : tie.Need-wide-requires-2 Inv-loop μ-loop
 wide-requires-2 c κs = search needs

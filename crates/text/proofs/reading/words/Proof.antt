@@ -6,7 +6,7 @@ use mathlib.Core.Path.{_≡_, refl, sym, ap, _∙_}
 use lib.ListN.{length, drop}
 use lib.Seq.{sets}
 use Rattle.text.proofs.Walks.{words-length, words-stores, words-end}
-use Rattle.text.proofs.Stores.{sets-over}
+use Rattle.lists.proofs.Stores.{sets-over}
 use Rattle.text.specs.Scan.{wordsFrom}
 use Rattle.text.proofs.reading.words.Statement.{statement}
 use Rattle.text.proofs.reading.words.Tie as tie
