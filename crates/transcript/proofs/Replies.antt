@@ -1,6 +1,6 @@
 -- The list that chartrun runs is never refused, and what the run leaves is what the reply shows.
 use Prim.Native.Nat.{ℕ, _*_, _/_, _%_, _≤_}
-use mathlib.Core.Path.{_≡_, refl, sym, ap, subst, _∙_}
+use mathlib.Core.Path.{_≡_, sym, ap, subst, _∙_}
 use mathlib.Core.List.{List, [], _∷_}
 use native.Mathlib.Omega.{arith}
 use lib.ListN.{length, length-append, take, drop}
@@ -8,11 +8,11 @@ use store.Seg.{take-pre}
 use borrow.Author.Tests.{le-ltb}
 use Rattle.lists.specs.Lists.{over}
 use Rattle.image.specs.Image.{load, save}
-use Rattle.history.specs.Machine.{Machine, present}
-use Rattle.machine.specs.Calls.{Call, Parameters, callsOf}
-use Rattle.machine.specs.Machine.{answers, step, last}
+use Rattle.history.specs.Machine.{present}
+use Rattle.machine.specs.Calls.{callsOf}
+use Rattle.machine.specs.Machine.{answers, last}
 use Rattle.machine.specs.Run.{Lent, RunResult, listRefusal, run, answerWords}
-use Rattle.machine.proofs.Whole.{demand-3}
+use Rattle.machine.proofs.Whole.{demand-3, answers-length}
 use Rattle.text.specs.declared.reading.ReadVerdict.{ReadVerdict}
 use Rattle.text.specs.declared.reading.ReadVerdict.the-variants.{Calls, Unreadable}
 use Rattle.text.specs.Reading.{readText, wordsOf, answered}
@@ -35,11 +35,6 @@ lends calls answers end = record {
   answers = answers;
   end = end;
 }
-
-answers-length : (w : Parameters) (m : Machine) (xs : List Call) → length (answerWords (answers w m xs)) ≡ 2 * length xs
-unfolding answers
-answers-length w m [] = refl
-answers-length w m (x ∷ xs) = omega (arith, answers-length w (step w m x) xs)
 
 -- words written over a slice are its front
 front : (A slice slice′ : List ℕ) (n : ℕ) → n ≡ length A → slice′ ≡ over A slice → take n slice′ ≡ A
