@@ -22,16 +22,15 @@ use Rattle.graph.proofs.PlanBounds.{removal-in, plan-in}
 use Rattle.graph.proofs.ChangeLaws.{deleted-step, deleted-last}
 use Rattle.history.specs.Machine.{Timeline, current, extended}
 use Rattle.history.specs.Rules.{stepOf}
-use Rattle.journal.specs.Rows.{rowed}
 use Rattle.tables.specs.Tables.{State, VIn, EIn, vfirst}
 use Rattle.tables.specs.Holds.{Holds}
-use Rattle.tables.specs.Edits.{applyS, Can}
 use Rattle.queries.specs.Plans.{Short, planRemoveEdge, planRemoveVertex}
 use Rattle.queries.proofs.Answers.{first-word, vertex-row, edge-row}
 use Rattle.queries.proofs.PlanLaws.{removal-is, plan-is}
 use Rattle.timeline.specs.declared.Position.{Position}
+use Rattle.timeline.specs.JournalRows.{Ready, Added}
 use Rattle.timeline.specs.Steps.{Journal}
-use Rattle.timeline.proofs.Steps.{stepWith, holds-current, open-start, open-within, open-can, open-more, open-holds, open-close}
+use Rattle.timeline.proofs.Steps.{stepWith, holds-current, open-start, open-within, open-ready, open-more, open-holds, open-close}
 use Rattle.changes.specs.Deleting.{Deleting}
 
 -- a list and its first word
@@ -97,17 +96,17 @@ module _ (a : ℕ) (b : Bounds) (j : Position) (s₀ : State) (t₀ : List ℕ) 
       inside = subst (EditIn b) (sym is-removal)
           (removal-in b (k .graph) (open-within b j s₀ t₀ l c s t u (k .opened) (k .graph) (k .holds)) (edgeOf w) edge-there)
 
-      pub edge-can : Can e s
-      edge-can = open-can b j s₀ t₀ l c s t u (k .opened) (k .graph) e (k .holds) applies inside
+      pub edge-ready : Ready e u s t
+      edge-ready = open-ready b j s₀ t₀ l c s t u (k .opened) (k .graph) e (k .holds) applies inside
 
-      module _ (f : 12 * u + 12 ≤ length t) (s′ : State) (t′ : List ℕ) (u′ : ℕ) (d : t′ ≡ rowed u e c t) (p : s′ ≡ applyS e s) (o : u′ ≡ suc u) where
+      module _ (f : 12 * u + 12 ≤ length t) (s′ : State) (t′ : List ℕ) (u′ : ℕ) (d : Added e c u s t s′ t′) (o : u′ ≡ suc u) where
         left-graph : Graph
         left-graph = apply (removal (edgeOf w) (k .graph)) (k .graph)
 
         left-holds : Holds s′ left-graph
         unfolding left-graph
         left-holds = subst (λ (x : Edit). Holds s′ (apply x (k .graph))) is-removal
-            (open-holds b j s₀ t₀ l c s t u (k .opened) (k .graph) e (k .holds) applies inside f s′ t′ u′ d p o)
+            (open-holds b j s₀ t₀ l c s t u (k .opened) (k .graph) e (k .holds) applies inside f s′ t′ u′ d o)
 
         left-there : VertexThere left-graph a
         unfolding left-graph
@@ -121,7 +120,7 @@ module _ (a : ℕ) (b : Bounds) (j : Position) (s₀ : State) (t₀ : List ℕ) 
         deleting-turn w′ r = record {
           graph = left-graph;
           holds = left-holds;
-          opened = open-more b j s₀ t₀ l c s t u (k .opened) (k .graph) e (k .holds) applies inside f s′ t′ u′ d p o;
+          opened = open-more b j s₀ t₀ l c s t u (k .opened) (k .graph) e (k .holds) applies inside f s′ t′ u′ d o;
           there = left-there;
           word = r ∙ first-word s′ left-graph left-holds a left-there;
           same = k .same ∙ deleted-step (k .graph) (k .holds .sound) a w (starts .0) (starts .1);
@@ -153,17 +152,17 @@ module _ (a : ℕ) (b : Bounds) (j : Position) (s₀ : State) (t₀ : List ℕ) 
     inside-last = subst (EditIn b) (sym is-plan)
         (plan-in b (k .graph) (open-within b j s₀ t₀ l c s t u (k .opened) (k .graph) (k .holds)) (DeleteVertex a) (k .there))
 
-    pub vertex-can : Can e s
-    vertex-can = open-can b j s₀ t₀ l c s t u (k .opened) (k .graph) e (k .holds) applies-last inside-last
+    pub vertex-ready : Ready e u s t
+    vertex-ready = open-ready b j s₀ t₀ l c s t u (k .opened) (k .graph) e (k .holds) applies-last inside-last
 
     -- the step is made
-    pub deleted : c ≡ cost (DeleteVertex a) (current l) → 12 * u + 12 ≤ length t → (j′ : Position) (s′ : State) (t′ : List ℕ) → t′ ≡ rowed u e c t → s′ ≡ applyS e s
+    pub deleted : c ≡ cost (DeleteVertex a) (current l) → 12 * u + 12 ≤ length t → (j′ : Position) (s′ : State) (t′ : List ℕ) → Added e c u s t s′ t′
         → j′ .place ≡ j .place + 1 → j′ .steps ≡ j .place + 1 → j′ .used ≡ j .used + c → Journal b j′ s′ t′ (extended (stepOf (DeleteVertex a) (current l)) l)
     unfolding stepOf
-    deleted z f j′ s′ t′ d p x y v =
+    deleted z f j′ s′ t′ d x y v =
         let n : u + 1 ≡ suc u = omega arith in
-        let o = open-more b j s₀ t₀ l c s t u (k .opened) (k .graph) e (k .holds) applies-last inside-last f s′ t′ (u + 1) d p n in
-        let h = open-holds b j s₀ t₀ l c s t u (k .opened) (k .graph) e (k .holds) applies-last inside-last f s′ t′ (u + 1) d p n in
+        let o = open-more b j s₀ t₀ l c s t u (k .opened) (k .graph) e (k .holds) applies-last inside-last f s′ t′ (u + 1) d n in
+        let h = open-holds b j s₀ t₀ l c s t u (k .opened) (k .graph) e (k .holds) applies-last inside-last f s′ t′ (u + 1) d n in
         let r : apply e (k .graph) ≡ changed (DeleteVertex a) (current l) =
         ap (λ (i : Edit). apply i (k .graph)) is-last ∙ sym (deleted-last (k .graph) (k .holds .sound) a empty) ∙ sym (k .same) in
         let m : u + 1 ≡ j .used + c = omega (arith, k .left, z, ap length (edges-none (k .graph) (k .holds .sound) a empty)) in

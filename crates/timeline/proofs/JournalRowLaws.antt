@@ -88,10 +88,6 @@ module _ (b : Bounds) (t : List ℕ) (g : Graph) (n : ℕ) (s : State) where
     holds = k .holds;
   }
 
--- an edit that applies to what the tables hold can be carried out there
-pub rows-can : (b : Bounds) (t : List ℕ) (g : Graph) (n : ℕ) (s : State) (u : ℕ) (e : Edit) → JournalRows b t g n s u → Applies e (made t g u) → EditIn b e → Can e s
-rows-can b t g n s u e k a i = can-apply b s (k .sized) (made t g u) (k .holds) e a i
-
 pub made-agree : (u : ℕ) (t t′ : List ℕ) (g : Graph) → Below u t t′ → (i : ℕ) → i ≤ u → made t′ g i ≡ made t g i
 made-agree u t t′ g b zero h = refl
 made-agree u t t′ g b (suc i) h = rw (row-agree u i t t′ b (omega arith), made-agree u t t′ g b i (omega arith))
@@ -142,10 +138,10 @@ pub record Replayed (t : List ℕ) (s₀ s : State) (from to u : ℕ) : Type 0 w
   pub elen : length (s .et) ≡ length (s₀ .et)
   pub goes : (b : Bounds) (g : Graph) (n : ℕ) → to ≤ n → JournalRows b t g n s₀ from → JournalRows b t g n s u
 
--- ---- an edit is carried out and written down as the row after the last
+-- ---- an edit is written down as the row after the last
 
-module _ (b : Bounds) (t t′ : List ℕ) (g : Graph) (s s′ : State) (u : ℕ) (e : Edit) (c : ℕ) (k : JournalRows b t g u s u) (room : 12 * u + 12 ≤ length t)
-    (a : Applies e (made t g u)) (i : EditIn b e) (q : t′ ≡ rowed u e c t) (d : s′ ≡ applyS e s) where
+module _ (b : Bounds) (t t′ : List ℕ) (g : Graph) (s : State) (u : ℕ) (e : Edit) (c : ℕ) (k : JournalRows b t g u s u) (room : 12 * u + 12 ≤ length t)
+    (a : Applies e (made t g u)) (i : EditIn b e) (q : t′ ≡ rowed u e c t) where
   below : Below u t t′
   below = rowed-below u e c t t′ q room
 
@@ -169,9 +165,10 @@ module _ (b : Bounds) (t t′ : List ℕ) (g : Graph) (s s′ : State) (u : ℕ)
   applies′ : (i : ℕ) → i < suc u → Applies (rowAt t′ i) (made t′ g i)
   applies′ i h = subst (λ (x : Graph). Applies (rowAt t′ i) x) (sym (old i (omega arith))) (by-row (λ b j. Applies b (made t g j)) (k .applies) a i h)
 
-  pub rows-added : JournalRows b t′ g (suc u) s′ (suc u)
+  -- it is still to be carried out
+  pub rows-added : JournalRows b t′ g (suc u) s u
   rows-added = record {
-    sized = edited-sized b s (k .sized) (made t g u) (k .holds) e a i s′ d;
+    sized = k .sized;
     sound = k .sound;
     bounded = k .bounded;
     applies = applies′;
@@ -179,5 +176,5 @@ module _ (b : Bounds) (t t′ : List ℕ) (g : Graph) (s s′ : State) (u : ℕ)
     within = omega (arith, rowed-length u e c t t′ q room);
     short = rw (rowed-length u e c t t′ q room) (k .short);
     upto = omega arith;
-    holds = subst (λ (x : Graph). Holds s′ x) (sym made-more) (edited b s (k .sized) (made t g u) (k .holds) e a i s′ d);
+    holds = subst (λ (x : Graph). Holds s x) (sym (old u (omega arith))) (k .holds);
   }

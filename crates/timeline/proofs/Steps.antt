@@ -11,18 +11,17 @@ use Rattle.graph.specs.WellFormed.{Bounds, WellFormed, Within}
 use Rattle.graph.specs.Edits.{Applies, EditIn, apply}
 use Rattle.history.specs.Machine.{Step, Timeline, begun, graphAt, current, placed, extended, costs, freeOf}
 use Rattle.history.proofs.Timelines.{length-cut}
-use Rattle.journal.specs.Rows.{costAt, rowed, Below}
+use Rattle.journal.specs.Rows.{costAt, Below}
 use Rattle.journal.proofs.RowLaws.{below-less, cost-agree, rowed-below, rowed-cost, rowed-length}
 use Rattle.tables.specs.Tables.{State, st}
 use Rattle.tables.specs.Holds.{Holds}
-use Rattle.tables.specs.Edits.{applyS, Can}
 use Rattle.tables.specs.Capacities.{Sized}
 use Rattle.tables.proofs.GraphRead.{holds-one}
 use Rattle.timeline.specs.declared.Position.{Position}
 use Rattle.timeline.specs.declared.Current.{Current}
-use Rattle.timeline.specs.JournalRows.{made, JournalRows, Toward, back, on}
+use Rattle.timeline.specs.JournalRows.{made, JournalRows, Toward, back, on, Ready, Added}
 use Rattle.timeline.specs.Steps.{rowsTo, StepAt, StepsAt, Behind, Journal, Open}
-use Rattle.timeline.proofs.JournalRowLaws.{rows-can, made-within, made-agree, rows-cut, made-more, rows-added}
+use Rattle.timeline.proofs.JournalRowLaws.{made-within, made-agree, rows-cut, made-more}
 
 abbrev pub stepWith : ℕ → Graph → Step
 stepWith c g = record { cost = c; graph = g }
@@ -79,8 +78,9 @@ module _ (b : Bounds) (j : Position) (s : State) (t : List ℕ) (l : Timeline) (
       subst (Within b) (sym current-made)
       (made-within b t (l .start) _ (k .rows .applies) (k .rows .inside) (k .rows .bounded) (j .used) (k .rows .upto))
 
-  pub can-current : (e : Edit) → Applies e (current l) → EditIn b e → Can e s
-  can-current e a i = rows-can b t (l .start) _ s (j .used) e (k .rows) (subst (Applies e) current-made a) i
+  -- an edit that applies to Gp can be the next row
+  pub ready-current : (e : Edit) → Applies e (current l) → EditIn b e → Ready e (j .used) s t
+  ready-current e a i = (b, l .start, i, subst (Applies e) current-made a, rows-cut b t (l .start) _ s (j .used) (k .rows))
 
 -- two timelines of the same words have the same present graph
 pub same-current : (b b′ : Bounds) (j : Position) (s : State) (t : List ℕ) (l l′ : Timeline) → Journal b j s t l → Journal b′ j s t l′ → current l ≡ current l′
@@ -256,30 +256,32 @@ module _ (b : Bounds) (j : Position) (s₀ : State) (t₀ : List ℕ) (l : Timel
         subst (Within b) (sym (open-now g h))
         (made-within b t (l .start) u (k .rows .applies) (k .rows .inside) (k .rows .bounded) u (k .rows .upto))
 
-    pub open-can : (g : Graph) (e : Edit) → Holds s g → Applies e g → EditIn b e → Can e s
-    open-can g e h a i = rows-can b t (l .start) u s u e (k .rows) (subst (Applies e) (open-now g h) a) i
+    pub open-ready : (g : Graph) (e : Edit) → Holds s g → Applies e g → EditIn b e → Ready e u s t
+    open-ready g e h a i = (b, l .start, i, subst (Applies e) (open-now g h) a, k .rows)
 
     -- one row more
     module _ (g : Graph) (e : Edit) (h : Holds s g) (a : Applies e g) (i : EditIn b e) (f : 12 * u + 12 ≤ length t) (s′ : State) (t′ : List ℕ) (u′ : ℕ)
-        (q : t′ ≡ rowed u e c t) (d : s′ ≡ applyS e s) (n : u′ ≡ suc u) where
+        (d : Added e c u s t s′ t′) (n : u′ ≡ suc u) where
+      open-tape : JournalRows b t′ (l .start) (suc u) s′ (suc u)
+      open-tape = d .rows b (l .start) i (subst (Applies e) (open-now g h) a) (k .rows)
+
       pub open-more : Open b j s₀ t₀ l c s′ t′ u′
       open-more = subst (Open b j s₀ t₀ l c s′ t′) (sym n) (record {
         journal = k .journal;
-        below = λ x y. rowed-below u e c t t′ q f x (omega (arith, k .low)) ∙ k .below x y;
-        rows = rows-added b t t′ (l .start) s s′ u e c (k .rows) f (subst (Applies e) (open-now g h) a) i q d;
+        below = λ x y. rowed-below u e c t t′ (d .row) f x (omega (arith, k .low)) ∙ k .below x y;
+        rows = open-tape;
         low = omega (arith, k .low);
         costs = λ x o y. elim (same? x u) [
-          | same v w ↦ subst (λ (z : ℕ). costAt t′ z ≡ c) w (rowed-cost u e c t t′ q f)
-          | differ v w ↦ cost-agree u x t t′ (rowed-below u e c t t′ q f) (omega arith) ∙ k .costs x o (omega arith)
+          | same v w ↦ subst (λ (z : ℕ). costAt t′ z ≡ c) w (rowed-cost u e c t t′ (d .row) f)
+          | differ v w ↦ cost-agree u x t t′ (rowed-below u e c t t′ (d .row) f) (omega arith) ∙ k .costs x o (omega arith)
         ];
-        size = rowed-length u e c t t′ q f ∙ k .size;
+        size = rowed-length u e c t t′ (d .row) f ∙ k .size;
       })
 
       pub open-holds : Holds s′ (apply e g)
       open-holds =
-          let x = rows-added b t t′ (l .start) s s′ u e c (k .rows) f (subst (Applies e) (open-now g h) a) i q d .holds in
           subst (λ (y : Graph). Holds s′ y)
-          (made-more b t t′ (l .start) s s′ u e c (k .rows) f (subst (Applies e) (open-now g h) a) i q d ∙ ap (apply e) (sym (open-now g h))) x
+          (made-more b t t′ (l .start) s u e c (k .rows) f (subst (Applies e) (open-now g h) a) i (d .row) ∙ ap (apply e) (sym (open-now g h))) (open-tape .holds)
 
     pub open-close : (j′ : Position) (g : Graph) → 1 ≤ c → u ≡ j .used + c → Holds s g → j′ .place ≡ j .place + 1 → j′ .steps ≡ j .place + 1 → j′ .used ≡ u
         → Journal b j′ s t (extended (stepWith c g) l)
@@ -295,15 +297,15 @@ module _ (b : Bounds) (j : Position) (s₀ : State) (t₀ : List ℕ) (l : Timel
 
 -- an edit is a step of one row
 pub journal-step : (b : Bounds) (j j′ : Position) (s s′ : State) (t t′ : List ℕ) (l : Timeline) (e : Edit) → Journal b j s t l → Applies e (current l) → EditIn b e
-    → 12 * j .used + 12 ≤ length t → t′ ≡ rowed (j .used) e 1 t → s′ ≡ applyS e s
+    → 12 * j .used + 12 ≤ length t → Added e 1 (j .used) s t s′ t′
     → j′ .place ≡ j .place + 1 → j′ .steps ≡ j .place + 1 → j′ .used ≡ j .used + 1 → Journal b j′ s′ t′ (extended (stepWith 1 (apply e (current l))) l)
-journal-step b j j′ s s′ t t′ l e k a i f q d x y z =
+journal-step b j j′ s s′ t t′ l e k a i f d x y z =
     let u = j .used in
     let o = open-start b j s t l 1 u refl k in
     let n : u + 1 ≡ suc u = omega arith in
     let h = holds-current b j s t l k in
-    open-close b j s t l 1 s′ t′ (u + 1) (open-more b j s t l 1 s t u o (current l) e h a i f s′ t′ (u + 1) q d n) j′ (apply e (current l)) (omega arith) refl
-    (open-holds b j s t l 1 s t u o (current l) e h a i f s′ t′ (u + 1) q d n) x y z
+    open-close b j s t l 1 s′ t′ (u + 1) (open-more b j s t l 1 s t u o (current l) e h a i f s′ t′ (u + 1) d n) j′ (apply e (current l)) (omega arith) refl
+    (open-holds b j s t l 1 s t u o (current l) e h a i f s′ t′ (u + 1) d n) x y z
 
 -- ---- a start, commit, and free changes
 

@@ -3,10 +3,11 @@ use Prim.Native.Nat.{ℕ, zero, suc, _*_, _^_, _≤_, _<_}
 use mathlib.Core.Path.{_≡_}
 use mathlib.Core.List.{List}
 use lib.ListN.{length}
+use Rattle.graph.specs.declared.Edit.{Edit}
 use Rattle.graph.specs.Graph.{Graph}
 use Rattle.graph.specs.WellFormed.{Bounds, WellFormed, Within}
 use Rattle.graph.specs.Edits.{Applies, EditIn, apply}
-use Rattle.journal.specs.Rows.{rowAt}
+use Rattle.journal.specs.Rows.{rowAt, rowed}
 use Rattle.tables.specs.Tables.{State}
 use Rattle.tables.specs.Holds.{Holds}
 use Rattle.tables.specs.Capacities.{Sized}
@@ -32,3 +33,12 @@ pub record JournalRows (b : Bounds) (t : List ℕ) (g : Graph) (n : ℕ) (s : St
 pub data Toward (to u v : ℕ) : Type 0 where
   back : to < u → u ≡ suc v → Toward to u v
   on : u < to → v ≡ suc u → Toward to u v
+
+-- u rows lie behind the tables and no more are left, and the edit applies there
+abbrev pub Ready : Edit → ℕ → State → List ℕ → Type 0
+Ready e u s t = (b : Bounds) × (g : Graph) × EditIn b e × Applies e (made t g u) × JournalRows b t g u s u
+
+-- the edit is row u, of a step of cost c, and the tables have it behind them
+pub record Added (e : Edit) (c u : ℕ) (s : State) (t : List ℕ) (s′ : State) (t′ : List ℕ) : Type 0 where
+  pub row : t′ ≡ rowed u e c t
+  pub rows : (b : Bounds) (g : Graph) → EditIn b e → Applies e (made t g u) → JournalRows b t g u s u → JournalRows b t′ g (suc u) s′ (suc u)

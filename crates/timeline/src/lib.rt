@@ -12,12 +12,11 @@ ghost use Rattle.graph.specs.Graph.{Graph};
 ghost use Rattle.graph.specs.WellFormed.{Bounds, Within};
 ghost use Rattle.graph.specs.Edits.{Applies, EditIn, apply, inverse};
 ghost use Rattle.history.specs.Machine.{Step, Timeline, begun, current, placed, extended, freeOf, distance};
-ghost use Rattle.journal.specs.Rows.{rowAt, rowed};
+ghost use Rattle.journal.specs.Rows.{rowAt};
 ghost use Rattle.tables.specs.Tables.{State, st};
-ghost use Rattle.tables.specs.Edits.{applyS, Can};
 ghost use Rattle.tables.specs.Capacities.{Sized};
 ghost use Rattle.tables.specs.Holds.{Holds};
-ghost use Rattle.timeline.specs.JournalRows.{JournalRows, Toward};
+ghost use Rattle.timeline.specs.JournalRows.{JournalRows, Toward, Ready, Added};
 ghost use Rattle.timeline.specs.Steps.{Journal, Behind};
 
 // The place p, the number of steps m, and the rows of steps 1 to p.
@@ -151,7 +150,7 @@ pub fn redo(x: Current, vt: &mut [u32], et: &mut [u32], t: &[u32]) -> Current
     placed_at(x, vt, et, t, x.position.place + 1)
 }
 
-// Carries an edit out and writes it down as row i.
+// Writes an edit down as row i and carries that row out.
 pub fn add_row(
     head: Head,
     vt: &mut [u32],
@@ -162,12 +161,11 @@ pub fn add_row(
     cost: u32,
 ) -> Head
     requires { ⌜ 12 * i + 12 ≤ length (now t) ⌝ }
-    requires { ⌜ Can edit (st head (now vt) (now et)) ⌝ }
-    ensures { λ r. ⌜ now (t .exit) ≡ rowed i edit cost (now (t .entry)) ⌝ }
-    ensures { λ r. ⌜ st r (now (vt .exit)) (now (et .exit)) ≡ applyS edit (st head (now (vt .entry)) (now (et .entry))) ⌝ }
+    requires { ⌜ Ready edit i (st head (now vt) (now et)) (now t) ⌝ }
+    ensures { λ r. ⌜ Added edit cost i (st head (now (vt .entry)) (now (et .entry))) (now (t .entry)) (st r (now (vt .exit)) (now (et .exit))) (now (t .exit)) ⌝ }
 {
     journal::put_row(t, i, edit, cost);
-    tables::edits::apply_edit(head, vt, et, edit)
+    replay(head, vt, et, t, i, i + 1)
 }
 
 // An edit as a step of its own: what lies after p is cut, the edit is carried out and written down.

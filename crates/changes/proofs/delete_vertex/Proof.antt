@@ -4,7 +4,7 @@ use Rattle.graph.specs.declared.Change.the-variants.{DeleteVertex}
 use Rattle.graph.specs.Changes.{cost}
 use Rattle.tables.specs.Tables.{st}
 use Rattle.timeline.proofs.Steps.{place-short, same-current, at-record}
-use Rattle.changes.proofs.Deletion.{vertex-here, row-room, vertex-can, deleted}
+use Rattle.changes.proofs.Deletion.{vertex-here, row-room, vertex-ready, deleted}
 use borrow.Author.Needs.{needs}
 use Rattle.changes.proofs.delete_vertex.Statement.{statement}
 use Rattle.changes.proofs.delete_vertex.Tie as tie
@@ -35,7 +35,7 @@ add-row-requires c κs =
     let t₁ = r .last .1 .1 .1 .0 in
     let k = r .ensures (p .0) (p .1) (p .5) in
     let e = c .before .before .before .plan-remove-vertex in
-    (row-room (a .a) (p .0) (a .x .position) s₀ (a .t .now) (p .1) (a .rows) s₁ t₁ (r .result .used) 0 k (p .3) (p .4), vertex-can (a .a) (p .0) (a .x .position) s₀ (a .t .now) (p .1) (a .rows) s₁ t₁ (r .result .used) k (e .result) (e .ensures))
+    (row-room (a .a) (p .0) (a .x .position) s₀ (a .t .now) (p .1) (a .rows) s₁ t₁ (r .result .used) 0 k (p .3) (p .4), vertex-ready (a .a) (p .0) (a .x .position) s₀ (a .t .now) (p .1) (a .rows) s₁ t₁ (r .result .used) k (e .result) (e .ensures))
 
 stepped-requires : tie.Need-stepped-requires
 stepped-requires c κs =
@@ -71,7 +71,7 @@ returns c =
     λ b l j.
     at-record b _ _ _ _ _ _ (c .stepped .ensures)
     (deleted (a .a) b (a .x .position) s₀ (a .t .now) l (a .rows) s₁ t₁ (r .result .used) (r .ensures b l j) (e .result) (e .ensures)
-    (p .3 ∙ ap (cost (DeleteVertex (a .a))) (same-current (p .0) b (a .x .position) s₀ (a .t .now) (p .1) l (p .5) j)) (row-room (a .a) (p .0) (a .x .position) s₀ (a .t .now) (p .1) (a .rows) s₁ t₁ (r .result .used) 0 k (p .3) (p .4)) _ _ _ (m .ensures .0) (m .ensures .1) refl refl refl)
+    (p .3 ∙ ap (cost (DeleteVertex (a .a))) (same-current (p .0) b (a .x .position) s₀ (a .t .now) (p .1) l (p .5) j)) (row-room (a .a) (p .0) (a .x .position) s₀ (a .t .now) (p .1) (a .rows) s₁ t₁ (r .result .used) 0 k (p .3) (p .4)) _ _ _ (m .ensures) refl refl refl)
 
 pub delete-vertex-spec : {M : Type 1} → statement M
 delete-vertex-spec =

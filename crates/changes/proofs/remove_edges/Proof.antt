@@ -7,7 +7,7 @@ use Rattle.history.specs.Machine.{current}
 use Rattle.tables.specs.Tables.{st}
 use Rattle.queries.proofs.Answers.{vertex-row}
 use Rattle.timeline.proofs.Steps.{holds-current, same-current}
-use Rattle.changes.proofs.Deletion.{RemovalLoop, deleting-start, row-room, row-short, row-before, edge-here, edge-can, vertex-still, deleting-turn, deleting-end}
+use Rattle.changes.proofs.Deletion.{RemovalLoop, deleting-start, row-room, row-short, row-before, edge-here, edge-ready, vertex-still, deleting-turn, deleting-end}
 use Rattle.changes.proofs.remove_edges.Statement.{statement}
 use Rattle.changes.proofs.remove_edges.Tie as tie
 
@@ -57,7 +57,7 @@ add-row-requires c κs =
     let l = c .before .before .before .before .before .before .loop in
     let k = l .inv .goes (a .x .position) (p .0) (p .1) refl (p .5) (p .2) in
     let e = c .before .before .before .plan-remove-edge in
-    (row-room (a .a) (p .0) (a .x .position) s₀ (a .t .now) (p .1) (a .rows) (st (l .h) (l .vt) (l .et)) (l .t) (l .u) (l .w) k (p .3) (p .4), edge-can (a .a) (p .0) (a .x .position) s₀ (a .t .now) (p .1) (a .rows) (st (l .h) (l .vt) (l .et)) (l .t) (l .u) (l .w) k (c .before .before .before .before .before .loop-test .taken) (e .result) (e .ensures))
+    (row-room (a .a) (p .0) (a .x .position) s₀ (a .t .now) (p .1) (a .rows) (st (l .h) (l .vt) (l .et)) (l .t) (l .u) (l .w) k (p .3) (p .4), edge-ready (a .a) (p .0) (a .x .position) s₀ (a .t .now) (p .1) (a .rows) (st (l .h) (l .vt) (l .et)) (l .t) (l .u) (l .w) k (c .before .before .before .before .before .loop-test .taken) (e .result) (e .ensures))
 
 add-u : tie.Need-add-u Inv-loop μ-loop
 add-u c =
@@ -81,7 +81,7 @@ first-word-requires-2 c κs =
     let s′ = st (m .result) (m .last .1 .0) (m .last .1 .1 .0) in
     let t′ = m .last .1 .1 .1 .0 in
     let e = c .before .before .before .before .before .before .before .before .before .before .before .plan-remove-edge in
-    vertex-still (a .a) (p .0) (a .x .position) s₀ (a .t .now) (p .1) (a .rows) (st (l .h) (l .vt) (l .et)) (l .t) (l .u) (l .w) k (c .before .before .before .before .before .before .before .before .before .before .before .before .before .loop-test .taken) (e .result) (e .ensures) (row-room (a .a) (p .0) (a .x .position) s₀ (a .t .now) (p .1) (a .rows) (st (l .h) (l .vt) (l .et)) (l .t) (l .u) (l .w) k (p .3) (p .4)) s′ t′ (l .u + 1) (m .ensures .0) (m .ensures .1) (omega arith)
+    vertex-still (a .a) (p .0) (a .x .position) s₀ (a .t .now) (p .1) (a .rows) (st (l .h) (l .vt) (l .et)) (l .t) (l .u) (l .w) k (c .before .before .before .before .before .before .before .before .before .before .before .before .before .loop-test .taken) (e .result) (e .ensures) (row-room (a .a) (p .0) (a .x .position) s₀ (a .t .now) (p .1) (a .rows) (st (l .h) (l .vt) (l .et)) (l .t) (l .u) (l .w) k (p .3) (p .4)) s′ t′ (l .u + 1) (m .ensures) (omega arith)
 
 loop-less : tie.Need-loop-less Inv-loop μ-loop
 loop-less c =
@@ -110,7 +110,7 @@ loop-again c =
       tlen = m .kept .1 .1 .1 .0 ∙ l .inv .tlen;
       goes = λ j b l′ q i v.
           let k = l .inv .goes j b l′ q i v in
-          deleting-turn (a .a) b j s₀ (a .t .now) l′ (a .rows) (st (l .h) (l .vt) (l .et)) (l .t) (l .u) (l .w) k (c .before .before .before .before .before .before .before .before .before .before .before .before .before .before .loop-test .taken) (e .result) (e .ensures) (row-room (a .a) (p .0) (a .x .position) s₀ (a .t .now) (p .1) (a .rows) (st (l .h) (l .vt) (l .et)) (l .t) (l .u) (l .w) (l .inv .goes (a .x .position) (p .0) (p .1) refl (p .5) (p .2)) (p .3) (p .4)) s′ t′ (l .u + 1) (m .ensures .0) (m .ensures .1) (omega arith) _ (c .first-word2 .ensures);
+          deleting-turn (a .a) b j s₀ (a .t .now) l′ (a .rows) (st (l .h) (l .vt) (l .et)) (l .t) (l .u) (l .w) k (c .before .before .before .before .before .before .before .before .before .before .before .before .before .before .loop-test .taken) (e .result) (e .ensures) (row-room (a .a) (p .0) (a .x .position) s₀ (a .t .now) (p .1) (a .rows) (st (l .h) (l .vt) (l .et)) (l .t) (l .u) (l .w) (l .inv .goes (a .x .position) (p .0) (p .1) refl (p .5) (p .2)) (p .3) (p .4)) s′ t′ (l .u + 1) (m .ensures) (omega arith) _ (c .first-word2 .ensures);
     }
 
 same-length : tie.Need-same-length Inv-loop μ-loop
