@@ -1,2 +1,2 @@
-pub mod Deletion
+pub mod Rows
 pub mod Singles

@@ -1,6 +1,7 @@
 -- A row that was written is read back, and the rows before it stand.
 use Prim.Native.Nat.{ℕ, zero, suc, _+_, _*_, _≤_, _<_}
 use mathlib.Core.Path.{_≡_, refl, ap, _∙_}
+use mathlib.Core.Bool.{Bool}
 use mathlib.Core.List.{List, [], _∷_}
 use native.Mathlib.Omega.{arith}
 use lib.ListN.{length, getD, set, length-set}
@@ -10,7 +11,7 @@ use Rattle.graph.specs.declared.Edit.{Edit}
 use Rattle.graph.specs.declared.Edit.the-variants.{InsertVertex, RemoveVertex, InsertEdge, RemoveEdge, SetVertex, SetEdge, MoveVertex, MoveEdge, MoveWord}
 use Rattle.graph.specs.Graph.{readingKind, decimetres, readingOf}
 use Rattle.graph.proofs.Readings.{reading-back}
-use Rattle.journal.specs.Rows.{wordsOf, editOf, editAt, storeFrom, rowAt, costAt, rowed, Below}
+use Rattle.journal.specs.Rows.{wordsOf, editOf, editAt, storeFrom, rowAt, costAt, rowed, Below, turned}
 
 -- ---- words stored one after another
 
@@ -114,9 +115,9 @@ module _ (u : ℕ) (e : Edit) (c : ℕ) (t t′ : List ℕ) (q : t′ ≡ rowed 
 
 -- ---- the calls
 
-pub row-read : (t : List ℕ) (i w : ℕ) (e : Edit) → e ≡ editAt t (12 * w) → w ≡ i → e ≡ rowAt t i
+pub row-read : (t : List ℕ) (i w : ℕ) (e : Edit) (back : Bool) → e ≡ turned back (editAt t (12 * w)) → w ≡ i → e ≡ turned back (rowAt t i)
 unfolding rowAt
-row-read t i w e a b = a ∙ ap (λ (x : ℕ). editAt t (12 * x)) b
+row-read t i w e back a b = a ∙ ap (λ (x : ℕ). turned back (editAt t (12 * x))) b
 
 pub cost-read : (t : List ℕ) (i w c : ℕ) → c ≡ getD t (12 * w + 10) 0 → w ≡ i → c ≡ costAt t i
 unfolding costAt

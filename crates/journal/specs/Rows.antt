@@ -1,11 +1,13 @@
 -- A row of the journal: an edit as ten words of twelve, word 10 the cost of its step, word 11 spare.
 use Prim.Native.Nat.{ℕ, _+_, _*_, _<_}
 use mathlib.Core.Path.{_≡_}
+use mathlib.Core.Bool.{Bool, true, false}
 use mathlib.Core.List.{List, [], _∷_}
 use lib.ListN.{getD, set}
 use Rattle.lists.specs.Choice.{_⇒_else_, _==_}
 use Rattle.graph.specs.declared.Edit.{Edit}
 use Rattle.graph.specs.declared.Edit.the-variants.{InsertVertex, RemoveVertex, InsertEdge, RemoveEdge, SetVertex, SetEdge, MoveVertex, MoveEdge, MoveWord}
+use Rattle.graph.specs.Edits.{inverse}
 use Rattle.graph.specs.Graph.{readingKind, decimetres, readingOf}
 
 -- the ten words of an edit: which of the nine it is, and its parts in their order, a reading as kind and decimetres
@@ -32,6 +34,11 @@ editOf k a b c d e f g h i =
     else (k == 7) ⇒ MoveVertex a b c
     else (k == 8) ⇒ MoveEdge a b c
     else MoveWord a b c d e
+
+-- an edit, or what undoes it
+abbrev pub turned : Bool → Edit → Edit
+turned true e = inverse e
+turned false e = e
 
 -- the edit that stands at word q
 abbrev pub editAt : List ℕ → ℕ → Edit

@@ -7,7 +7,8 @@ ghost use mathlib.Core.Path.{_≡_};
 ghost use mathlib.Core.List.{[], _∷_};
 ghost use Prim.Native.Nat.{_+_, _*_, _≤_};
 ghost use lib.ListN.{length};
-ghost use Rattle.journal.specs.Rows.{wordsOf, editOf, editAt, storeFrom, rowAt, costAt, rowed};
+ghost use Rattle.graph.specs.Edits.{inverse};
+ghost use Rattle.journal.specs.Rows.{wordsOf, editOf, turned, editAt, storeFrom, rowAt, costAt, rowed};
 
 // Five words, half of an edit.
 pub struct Five {
@@ -248,10 +249,46 @@ fn decode(k: u32, x: Five, f: u32, g: u32, h: u32, i: u32) -> Edit
     }
 }
 
-// The edit that stands at word q.
-fn get_edit(t: &[u32], q: usize) -> Edit
+// What undoes the edit, read off the same words: one choice by the kind instead of two.
+fn decode_back(k: u32, x: Five, f: u32, g: u32, h: u32, i: u32) -> Edit
+    ensures { λ r. ⌜ r ≡ inverse (editOf k (x .a) (x .b) (x .c) (x .d) (x .e) f g h i) ⌝ }
+{
+    match k {
+        1 => Edit::RemoveVertex(x.a, x.b, x.c, x.d),
+        2 => Edit::InsertVertex(x.a, x.b, x.c, x.d),
+        3 => {
+            let r = reading_of(x.e, f);
+            Edit::RemoveEdge(x.a, x.b, x.c, x.d, r, g, h, i)
+        }
+        4 => {
+            let r = reading_of(x.e, f);
+            Edit::InsertEdge(x.a, x.b, x.c, x.d, r, g, h, i)
+        }
+        5 => Edit::SetVertex(x.a, x.d, x.e, x.b, x.c),
+        6 => {
+            let r = reading_of(x.c, x.d);
+            let s = reading_of(f, g);
+            Edit::SetEdge(x.a, x.e, s, x.b, r)
+        }
+        7 => Edit::MoveVertex(x.a, x.c, x.b),
+        8 => Edit::MoveEdge(x.a, x.c, x.b),
+        _ => Edit::MoveWord(x.a, x.d, x.e, x.b, x.c),
+    }
+}
+
+fn decode_turned(k: u32, x: Five, f: u32, g: u32, h: u32, i: u32, back: bool) -> Edit
+    ensures { λ r. ⌜ r ≡ turned back (editOf k (x .a) (x .b) (x .c) (x .d) (x .e) f g h i) ⌝ }
+{
+    if back {
+        return decode_back(k, x, f, g, h, i);
+    }
+    decode(k, x, f, g, h, i)
+}
+
+// The edit that stands at word q, or what undoes it.
+fn get_edit(t: &[u32], q: usize, back: bool) -> Edit
     requires { ⌜ q + 10 ≤ length (now t) ⌝ }
-    ensures { λ r. ⌜ r ≡ editAt (now (t .entry)) q ⌝ }
+    ensures { λ r. ⌜ r ≡ turned back (editAt (now (t .entry)) q) ⌝ }
 {
     let k = t[q + 0];
     let a = t[q + 1];
@@ -263,7 +300,7 @@ fn get_edit(t: &[u32], q: usize) -> Edit
     let g = t[q + 7];
     let h = t[q + 8];
     let i = t[q + 9];
-    decode(k, Five { a, b, c, d, e }, f, g, h, i)
+    decode_turned(k, Five { a, b, c, d, e }, f, g, h, i, back)
 }
 
 fn wide(x: u32) -> usize
@@ -272,12 +309,12 @@ fn wide(x: u32) -> usize
     x as usize
 }
 
-// The edit of row i.
-pub fn row_at(t: &[u32], i: u32) -> Edit
+// The edit of row i, or what undoes it.
+pub fn row_at(t: &[u32], i: u32, back: bool) -> Edit
     requires { ⌜ 12 * i + 12 ≤ length (now t) ⌝ }
-    ensures { λ r. ⌜ r ≡ rowAt (now (t .entry)) i ⌝ }
+    ensures { λ r. ⌜ r ≡ turned back (rowAt (now (t .entry)) i) ⌝ }
 {
-    get_edit(t, 12 * wide(i))
+    get_edit(t, 12 * wide(i), back)
 }
 
 // The cost of row i's step.

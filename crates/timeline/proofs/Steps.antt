@@ -78,14 +78,6 @@ module _ (b : Bounds) (j : Position) (s : State) (t : List ℕ) (l : Timeline) (
       subst (Within b) (sym current-made)
       (made-within b t (l .start) _ (k .rows .applies) (k .rows .inside) (k .rows .bounded) (j .used) (k .rows .upto))
 
-  -- an edit that applies to Gp can be the next row
-  pub ready-current : (e : Edit) → Applies e (current l) → EditIn b e → Ready e (j .used) s t
-  ready-current e a i = (b, l .start, i, subst (Applies e) current-made a, rows-cut b t (l .start) _ s (j .used) (k .rows))
-
--- two timelines of the same words have the same present graph
-pub same-current : (b b′ : Bounds) (j : Position) (s : State) (t : List ℕ) (l l′ : Timeline) → Journal b j s t l → Journal b′ j s t l′ → current l ≡ current l′
-same-current b b′ j s t l l′ k k′ = holds-one s (current l) (current l′) (holds-current b j s t l k) (holds-current b′ j s t l′ k′)
-
 -- ---- cut at place p, and one step more
 
 step-agree : (t t′ : List ℕ) (g : Graph) (i : ℕ) (x : Step) → Below (i + x .cost) t t′ → StepAt t g i x → StepAt t′ g i x
@@ -294,18 +286,6 @@ module _ (b : Bounds) (j : Position) (s₀ : State) (t₀ : List ℕ) (l : Timel
           makes = open-now g h ∙ ap (made t (l .start)) n;
         })
         (subst (λ (i : ℕ). JournalRows b t (l .start) i s i) n (k .rows)) x y (z ∙ n)
-
--- an edit is a step of one row
-pub journal-step : (b : Bounds) (j j′ : Position) (s s′ : State) (t t′ : List ℕ) (l : Timeline) (e : Edit) → Journal b j s t l → Applies e (current l) → EditIn b e
-    → 12 * j .used + 12 ≤ length t → Added e 1 (j .used) s t s′ t′
-    → j′ .place ≡ j .place + 1 → j′ .steps ≡ j .place + 1 → j′ .used ≡ j .used + 1 → Journal b j′ s′ t′ (extended (stepWith 1 (apply e (current l))) l)
-journal-step b j j′ s s′ t t′ l e k a i f d x y z =
-    let u = j .used in
-    let o = open-start b j s t l 1 u refl k in
-    let n : u + 1 ≡ suc u = omega arith in
-    let h = holds-current b j s t l k in
-    open-close b j s t l 1 s′ t′ (u + 1) (open-more b j s t l 1 s t u o (current l) e h a i f s′ t′ (u + 1) d n) j′ (apply e (current l)) (omega arith) refl
-    (open-holds b j s t l 1 s t u o (current l) e h a i f s′ t′ (u + 1) d n) x y z
 
 -- ---- a start, commit, and free changes
 

@@ -10,8 +10,8 @@ ghost use Prim.Native.Nat.{ℕ, suc, _+_, _-_, _*_, _^_, _≤_, _<_};
 ghost use lib.ListN.{length};
 ghost use Rattle.graph.specs.Graph.{Graph};
 ghost use Rattle.graph.specs.WellFormed.{Bounds, Within};
-ghost use Rattle.graph.specs.Edits.{Applies, EditIn, apply, inverse};
-ghost use Rattle.history.specs.Machine.{Step, Timeline, begun, current, placed, extended, freeOf, distance};
+ghost use Rattle.graph.specs.Edits.{inverse};
+ghost use Rattle.history.specs.Machine.{Step, Timeline, begun, current, placed, freeOf, distance};
 ghost use Rattle.journal.specs.Rows.{rowAt};
 ghost use Rattle.tables.specs.Tables.{State, st};
 ghost use Rattle.tables.specs.Capacities.{Sized};
@@ -60,11 +60,7 @@ fn edit_between(t: &[u32], u: u32, v: u32) -> Edit
     ensures { λ r. ⌜ (u ≤ v → r ≡ rowAt (now (t .entry)) (u - (u - v))) ⌝ }
 {
     let i = lower(u, v);
-    let e = journal::row_at(t, i);
-    if v < u {
-        return tables::edits::inverse_of(e);
-    }
-    e
+    journal::row_at(t, i, v < u)
 }
 
 // Takes one row back or carries it out: from u rows behind to v.
@@ -166,16 +162,6 @@ pub fn add_row(
 {
     journal::put_row(t, i, edit, cost);
     replay(head, vt, et, t, i, i + 1)
-}
-
-// An edit as a step of its own: what lies after p is cut, the edit is carried out and written down.
-pub fn add_step(x: Current, vt: &mut [u32], et: &mut [u32], t: &mut [u32], edit: Edit) -> Current
-    requires { ⌜ 12 * x .position .used + 12 ≤ length (now t) ⌝ }
-    requires { ⌜ ((b : Bounds) × (l : Timeline) × EditIn b edit × Applies edit (current l) × Journal b (x .position) (st (x .head) (now vt) (now et)) (now t) l) ⌝ }
-    ensures { λ r. ⌜ ((b : Bounds) → (l : Timeline) → EditIn b edit → Journal b (x .position) (st (x .head) (now (vt .entry)) (now (et .entry))) (now (t .entry)) l → Journal b (r .position) (st (r .head) (now (vt .exit)) (now (et .exit))) (now (t .exit)) (extended (record { cost = 1; graph = apply edit (current l) }) l)) ⌝ }
-{
-    let h = add_row(x.head, vt, et, t, x.position.used, edit, 1);
-    lent::stepped(x, h, 1)
 }
 
 // The head and the position at a place that is gone to, and how many steps lay between.

@@ -15,7 +15,7 @@ get-edit-requires c κs = search needs
 returns : tie.Need-returns
 returns c =
     let s = c .before .before .before in
-    row-read (s .args .t .now) (s .args .i) _ _ (c .get-edit .ensures) (c .before .wide .ensures)
+    row-read (s .args .t .now) (s .args .i) _ _ (s .args .back) (c .get-edit .ensures) (c .before .wide .ensures)
 
 pub row-at-spec : {M : Type 1} → statement M
 row-at-spec = tie.close (tie.spec wide-requires mul-get-edit get-edit-requires returns)
