@@ -10,6 +10,7 @@ use borrow.Author.Tests.{eqb-true, eqb-false, leb-false, lt-leb, le-leb, ne-eqb}
 use Rattle.lists.specs.Choice.{_⇒_else_, _==_, within}
 use Rattle.lists.proofs.Bools.{or-true, within-range, or-false, or-none}
 use Rattle.history.specs.Machine.{Machine, present}
+use Rattle.history.specs.Rules.{stepOf, changing}
 use Rattle.graph.specs.declared.Change.the-variants.{
   CreateVertex,
   DeleteVertex,
@@ -29,14 +30,14 @@ use Rattle.graph.specs.declared.Change.the-variants.{
   WordAfter,
 }
 use Rattle.graph.specs.Graph.{hasVertex, hasEdge, edgeOf, this, isReading}
-use Rattle.graph.specs.Changes.{cost}
 use Rattle.machine.specs.Calls.{Call, Parameters, known, changeOf}
 use Rattle.machine.specs.Codes.{free, refusal, noRoom, nothingToRange}
 use Rattle.machine.specs.Machine.{sortOf, numberBy, asked, nextBy, stepBy, answer, step}
 use Rattle.machine.proofs.Sorts.{ofKind, call-is}
+use Rattle.commands.specs.declared.Command.{Command}
 use Rattle.commands.specs.declared.Command.the-variants.{Unknown}
 use Rattle.commands.specs.Commands.{historyOf, questionOf, commandOf}
-use Rattle.commands.specs.Meaning.{roomCode, orElse, commandCode, commandNumber, commandNext, answerTo, stepTo}
+use Rattle.commands.specs.Meaning.{orElse, ruleOf, answerTo, stepTo}
 
 -- ---- chains of tests
 
@@ -62,82 +63,82 @@ four false u v s n k l j r = three u v s k l j r
 
 -- what is shown of a call
 record Meant (w : Parameters) (m : Machine) (x : Call) : Type 0 where
-  code : refusal w m x ≡ commandCode w m (commandOf x)
-  number : (refusal w m x == 0) ≡ true → numberBy (sortOf (present m) x) w m x ≡ commandNumber w m (commandOf x)
-  next : (refusal w m x == 0) ≡ true → nextBy (sortOf (present m) x) m x ≡ commandNext m (commandOf x)
+  code : refusal w m x ≡ ruleOf w (commandOf x) .code m
+  number : (refusal w m x == 0) ≡ true → numberBy (sortOf (present m) x) w m x ≡ ruleOf w (commandOf x) .number m
+  next : (refusal w m x == 0) ≡ true → nextBy (sortOf (present m) x) m x ≡ ruleOf w (commandOf x) .next m
 
 module _ (w : Parameters) (m : Machine) (x : Call) where
   of-1 : Meant w m (ofKind 1 x)
-  unfolding ofKind refusal noRoom nothingToRange sortOf numberBy asked nextBy stepBy changeOf historyOf questionOf commandOf
-  of-1 = record { code = simp or-false (three (not (within 1 (w .vertices) (x .a))) (hasVertex (present m) (x .a)) (leb (length (w .rows)) (x .b)) 1 2 5 (roomCode (free w m) (cost (CreateVertex (x .a) (x .b) (x .c)) (present m)))); number = λ z. refl; next = λ z. refl }
+  unfolding ofKind refusal free noRoom nothingToRange sortOf numberBy asked nextBy stepBy changeOf historyOf questionOf commandOf stepOf
+  of-1 = record { code = simp or-false (three (not (within 1 (w .vertices) (x .a))) (hasVertex (present m) (x .a)) (leb (length (w .rows)) (x .b)) 1 2 5 (changing (w .changes) (CreateVertex (x .a) (x .b) (x .c)) .code m)); number = λ z. refl; next = λ z. refl }
 
   of-2 : Meant w m (ofKind 2 x)
-  unfolding ofKind refusal noRoom nothingToRange sortOf numberBy asked nextBy stepBy changeOf historyOf questionOf commandOf
-  of-2 = record { code = simp or-false (one (not (hasVertex (present m) (x .a))) 3 (roomCode (free w m) (cost (DeleteVertex (x .a)) (present m)))); number = λ z. refl; next = λ z. refl }
+  unfolding ofKind refusal free noRoom nothingToRange sortOf numberBy asked nextBy stepBy changeOf historyOf questionOf commandOf stepOf
+  of-2 = record { code = simp or-false (one (not (hasVertex (present m) (x .a))) 3 (changing (w .changes) (DeleteVertex (x .a)) .code m)); number = λ z. refl; next = λ z. refl }
 
   of-3 : Meant w m (ofKind 3 x)
-  unfolding ofKind refusal noRoom nothingToRange sortOf numberBy asked nextBy stepBy changeOf historyOf questionOf commandOf
-  of-3 = record { code = simp or-false (four (not (within 1 (w .edges) (x .a))) (hasEdge (present m) (x .a)) (not (hasVertex (present m) (x .b)) || not (hasVertex (present m) (x .c))) (leb (length (w .rows)) (x .d)) 1 2 3 5 (roomCode (free w m) (cost (CreateEdge (x .a) (x .b) (x .c) (x .d)) (present m)))); number = λ z. refl; next = λ z. refl }
+  unfolding ofKind refusal free noRoom nothingToRange sortOf numberBy asked nextBy stepBy changeOf historyOf questionOf commandOf stepOf
+  of-3 = record { code = simp or-false (four (not (within 1 (w .edges) (x .a))) (hasEdge (present m) (x .a)) (not (hasVertex (present m) (x .b)) || not (hasVertex (present m) (x .c))) (leb (length (w .rows)) (x .d)) 1 2 3 5 (changing (w .changes) (CreateEdge (x .a) (x .b) (x .c) (x .d)) .code m)); number = λ z. refl; next = λ z. refl }
 
   of-4 : Meant w m (ofKind 4 x)
-  unfolding ofKind refusal noRoom nothingToRange sortOf numberBy asked nextBy stepBy changeOf historyOf questionOf commandOf
-  of-4 = record { code = simp or-false (one (not (hasEdge (present m) (x .a))) 4 (roomCode (free w m) (cost (DeleteEdge (x .a)) (present m)))); number = λ z. refl; next = λ z. refl }
+  unfolding ofKind refusal free noRoom nothingToRange sortOf numberBy asked nextBy stepBy changeOf historyOf questionOf commandOf stepOf
+  of-4 = record { code = simp or-false (one (not (hasEdge (present m) (x .a))) 4 (changing (w .changes) (DeleteEdge (x .a)) .code m)); number = λ z. refl; next = λ z. refl }
 
   of-5 : Meant w m (ofKind 5 x)
-  unfolding ofKind refusal noRoom nothingToRange sortOf numberBy asked nextBy stepBy changeOf historyOf questionOf commandOf
-  of-5 = record { code = simp or-false (two (not (hasVertex (present m) (x .a))) (leb (length (w .rows)) (x .b)) 3 5 (roomCode (free w m) (cost (RetypeVertex (x .a) (x .b)) (present m)))); number = λ z. refl; next = λ z. refl }
+  unfolding ofKind refusal free noRoom nothingToRange sortOf numberBy asked nextBy stepBy changeOf historyOf questionOf commandOf stepOf
+  of-5 = record { code = simp or-false (two (not (hasVertex (present m) (x .a))) (leb (length (w .rows)) (x .b)) 3 5 (changing (w .changes) (RetypeVertex (x .a) (x .b)) .code m)); number = λ z. refl; next = λ z. refl }
 
   of-6 : Meant w m (ofKind 6 x)
-  unfolding ofKind refusal noRoom nothingToRange sortOf numberBy asked nextBy stepBy changeOf historyOf questionOf commandOf
-  of-6 = record { code = simp or-false (two (not (hasEdge (present m) (x .a))) (leb (length (w .rows)) (x .b)) 4 5 (roomCode (free w m) (cost (RetypeEdge (x .a) (x .b)) (present m)))); number = λ z. refl; next = λ z. refl }
+  unfolding ofKind refusal free noRoom nothingToRange sortOf numberBy asked nextBy stepBy changeOf historyOf questionOf commandOf stepOf
+  of-6 = record { code = simp or-false (two (not (hasEdge (present m) (x .a))) (leb (length (w .rows)) (x .b)) 4 5 (changing (w .changes) (RetypeEdge (x .a) (x .b)) .code m)); number = λ z. refl; next = λ z. refl }
 
   of-7 : Meant w m (ofKind 7 x)
-  unfolding ofKind refusal noRoom nothingToRange sortOf numberBy asked nextBy stepBy changeOf historyOf questionOf commandOf
-  of-7 = record { code = simp or-false (one (not (hasVertex (present m) (x .a))) 3 (roomCode (free w m) (cost (SetValue (x .a) (x .b)) (present m)))); number = λ z. refl; next = λ z. refl }
+  unfolding ofKind refusal free noRoom nothingToRange sortOf numberBy asked nextBy stepBy changeOf historyOf questionOf commandOf stepOf
+  of-7 = record { code = simp or-false (one (not (hasVertex (present m) (x .a))) 3 (changing (w .changes) (SetValue (x .a) (x .b)) .code m)); number = λ z. refl; next = λ z. refl }
 
   of-8 : Meant w m (ofKind 8 x)
-  unfolding ofKind refusal noRoom nothingToRange sortOf numberBy asked nextBy stepBy changeOf historyOf questionOf commandOf
-  of-8 = record { code = simp or-false (two (not (hasEdge (present m) (x .a))) (not (isReading (x .b) (x .c))) 4 6 (roomCode (free w m) (cost (SetReading (x .a) (x .b) (x .c)) (present m)))); number = λ z. refl; next = λ z. refl }
+  unfolding ofKind refusal free noRoom nothingToRange sortOf numberBy asked nextBy stepBy changeOf historyOf questionOf commandOf stepOf
+  of-8 = record { code = simp or-false (two (not (hasEdge (present m) (x .a))) (not (isReading (x .b) (x .c))) 4 6 (changing (w .changes) (SetReading (x .a) (x .b) (x .c)) .code m)); number = λ z. refl; next = λ z. refl }
 
   of-9 : Meant w m (ofKind 9 x)
-  unfolding ofKind refusal noRoom nothingToRange sortOf numberBy asked nextBy stepBy changeOf historyOf questionOf commandOf
-  of-9 = record { code = simp or-false (two (not (hasVertex (present m) (x .b))) (not (hasEdge (present m) (x .a))) 3 4 (roomCode (free w m) (cost (SetAlpha (x .a) (x .b)) (present m)))); number = λ z. refl; next = λ z. refl }
+  unfolding ofKind refusal free noRoom nothingToRange sortOf numberBy asked nextBy stepBy changeOf historyOf questionOf commandOf stepOf
+  of-9 = record { code = simp or-false (two (not (hasVertex (present m) (x .b))) (not (hasEdge (present m) (x .a))) 3 4 (changing (w .changes) (SetAlpha (x .a) (x .b)) .code m)); number = λ z. refl; next = λ z. refl }
 
   of-10 : Meant w m (ofKind 10 x)
-  unfolding ofKind refusal noRoom nothingToRange sortOf numberBy asked nextBy stepBy changeOf historyOf questionOf commandOf
-  of-10 = record { code = simp or-false (two (not (hasVertex (present m) (x .b))) (not (hasEdge (present m) (x .a))) 3 4 (roomCode (free w m) (cost (SetOmega (x .a) (x .b)) (present m)))); number = λ z. refl; next = λ z. refl }
+  unfolding ofKind refusal free noRoom nothingToRange sortOf numberBy asked nextBy stepBy changeOf historyOf questionOf commandOf stepOf
+  of-10 = record { code = simp or-false (two (not (hasVertex (present m) (x .b))) (not (hasEdge (present m) (x .a))) 3 4 (changing (w .changes) (SetOmega (x .a) (x .b)) .code m)); number = λ z. refl; next = λ z. refl }
 
   of-11 : Meant w m (ofKind 11 x)
-  unfolding ofKind refusal noRoom nothingToRange sortOf numberBy asked nextBy stepBy changeOf historyOf questionOf commandOf
-  of-11 = record { code = simp or-false (two (not (hasVertex (present m) (x .a)) || not (hasVertex (present m) (x .b))) (x .a == x .b) 3 8 (roomCode (free w m) (cost (VertexBefore (x .a) (x .b)) (present m)))); number = λ z. refl; next = λ z. refl }
+  unfolding ofKind refusal free noRoom nothingToRange sortOf numberBy asked nextBy stepBy changeOf historyOf questionOf commandOf stepOf
+  of-11 = record { code = simp or-false (two (not (hasVertex (present m) (x .a)) || not (hasVertex (present m) (x .b))) (x .a == x .b) 3 8 (changing (w .changes) (VertexBefore (x .a) (x .b)) .code m)); number = λ z. refl; next = λ z. refl }
 
   of-12 : Meant w m (ofKind 12 x)
-  unfolding ofKind refusal noRoom nothingToRange sortOf numberBy asked nextBy stepBy changeOf historyOf questionOf commandOf
-  of-12 = record { code = simp or-false (two (not (hasVertex (present m) (x .a)) || not (hasVertex (present m) (x .b))) (x .a == x .b) 3 8 (roomCode (free w m) (cost (VertexAfter (x .a) (x .b)) (present m)))); number = λ z. refl; next = λ z. refl }
+  unfolding ofKind refusal free noRoom nothingToRange sortOf numberBy asked nextBy stepBy changeOf historyOf questionOf commandOf stepOf
+  of-12 = record { code = simp or-false (two (not (hasVertex (present m) (x .a)) || not (hasVertex (present m) (x .b))) (x .a == x .b) 3 8 (changing (w .changes) (VertexAfter (x .a) (x .b)) .code m)); number = λ z. refl; next = λ z. refl }
 
   of-13 : Meant w m (ofKind 13 x)
-  unfolding ofKind refusal noRoom nothingToRange sortOf numberBy asked nextBy stepBy changeOf historyOf questionOf commandOf
-  of-13 = record { code = simp or-false (two (not (hasEdge (present m) (x .a)) || not (hasEdge (present m) (x .b))) (x .a == x .b) 4 8 (roomCode (free w m) (cost (EdgeBefore (x .a) (x .b)) (present m)))); number = λ z. refl; next = λ z. refl }
+  unfolding ofKind refusal free noRoom nothingToRange sortOf numberBy asked nextBy stepBy changeOf historyOf questionOf commandOf stepOf
+  of-13 = record { code = simp or-false (two (not (hasEdge (present m) (x .a)) || not (hasEdge (present m) (x .b))) (x .a == x .b) 4 8 (changing (w .changes) (EdgeBefore (x .a) (x .b)) .code m)); number = λ z. refl; next = λ z. refl }
 
   of-14 : Meant w m (ofKind 14 x)
-  unfolding ofKind refusal noRoom nothingToRange sortOf numberBy asked nextBy stepBy changeOf historyOf questionOf commandOf
-  of-14 = record { code = simp or-false (two (not (hasEdge (present m) (x .a)) || not (hasEdge (present m) (x .b))) (x .a == x .b) 4 8 (roomCode (free w m) (cost (EdgeAfter (x .a) (x .b)) (present m)))); number = λ z. refl; next = λ z. refl }
+  unfolding ofKind refusal free noRoom nothingToRange sortOf numberBy asked nextBy stepBy changeOf historyOf questionOf commandOf stepOf
+  of-14 = record { code = simp or-false (two (not (hasEdge (present m) (x .a)) || not (hasEdge (present m) (x .b))) (x .a == x .b) 4 8 (changing (w .changes) (EdgeAfter (x .a) (x .b)) .code m)); number = λ z. refl; next = λ z. refl }
 
   of-15 : Meant w m (ofKind 15 x)
-  unfolding ofKind refusal noRoom nothingToRange sortOf numberBy asked nextBy stepBy changeOf historyOf questionOf commandOf
-  of-15 = record { code = simp or-false (three (not (hasEdge (present m) (edgeOf (x .a))) || not (hasEdge (present m) (edgeOf (x .b)))) (not (this (present m) (x .a) == this (present m) (x .b))) (x .a == x .b) 4 7 8 (roomCode (free w m) (cost (WordBefore (x .a) (x .b)) (present m)))); number = λ z. refl; next = λ z. refl }
+  unfolding ofKind refusal free noRoom nothingToRange sortOf numberBy asked nextBy stepBy changeOf historyOf questionOf commandOf stepOf
+  of-15 = record { code = simp or-false (three (not (hasEdge (present m) (edgeOf (x .a))) || not (hasEdge (present m) (edgeOf (x .b)))) (not (this (present m) (x .a) == this (present m) (x .b))) (x .a == x .b) 4 7 8 (changing (w .changes) (WordBefore (x .a) (x .b)) .code m)); number = λ z. refl; next = λ z. refl }
 
   of-16 : Meant w m (ofKind 16 x)
-  unfolding ofKind refusal noRoom nothingToRange sortOf numberBy asked nextBy stepBy changeOf historyOf questionOf commandOf
-  of-16 = record { code = simp or-false (three (not (hasEdge (present m) (edgeOf (x .a))) || not (hasEdge (present m) (edgeOf (x .b)))) (not (this (present m) (x .a) == this (present m) (x .b))) (x .a == x .b) 4 7 8 (roomCode (free w m) (cost (WordAfter (x .a) (x .b)) (present m)))); number = λ z. refl; next = λ z. refl }
+  unfolding ofKind refusal free noRoom nothingToRange sortOf numberBy asked nextBy stepBy changeOf historyOf questionOf commandOf stepOf
+  of-16 = record { code = simp or-false (three (not (hasEdge (present m) (edgeOf (x .a))) || not (hasEdge (present m) (edgeOf (x .b)))) (not (this (present m) (x .a) == this (present m) (x .b))) (x .a == x .b) 4 7 8 (changing (w .changes) (WordAfter (x .a) (x .b)) .code m)); number = λ z. refl; next = λ z. refl }
 
   of-17 : Meant w m (ofKind 17 x)
   unfolding ofKind refusal noRoom nothingToRange sortOf numberBy asked nextBy stepBy changeOf historyOf questionOf commandOf
-  of-17 = record { code = simp or-false; number = λ z. refl; next = λ z. refl }
+  of-17 = record { code = refl; number = λ z. refl; next = λ z. refl }
 
   of-18 : Meant w m (ofKind 18 x)
   unfolding ofKind refusal noRoom nothingToRange sortOf numberBy asked nextBy stepBy changeOf historyOf questionOf commandOf
-  of-18 = record { code = simp or-false; number = λ z. refl; next = λ z. refl }
+  of-18 = record { code = refl; number = λ z. refl; next = λ z. refl }
 
   of-19 : Meant w m (ofKind 19 x)
   unfolding ofKind refusal noRoom nothingToRange sortOf numberBy asked nextBy stepBy changeOf historyOf questionOf commandOf
@@ -149,7 +150,7 @@ module _ (w : Parameters) (m : Machine) (x : Call) where
 
   of-21 : Meant w m (ofKind 21 x)
   unfolding ofKind refusal noRoom nothingToRange sortOf numberBy asked nextBy stepBy changeOf historyOf questionOf commandOf
-  of-21 = record { code = simp or-false; number = λ z. refl; next = λ z. refl }
+  of-21 = record { code = refl; number = λ z. refl; next = λ z. refl }
 
   of-22 : Meant w m (ofKind 22 x)
   unfolding ofKind refusal noRoom nothingToRange sortOf numberBy asked nextBy stepBy changeOf historyOf questionOf commandOf
@@ -233,14 +234,14 @@ module _ (w : Parameters) (m : Machine) (x : Call) where
 
   of-49 : Meant w m (ofKind 49 x)
   unfolding ofKind refusal noRoom nothingToRange sortOf numberBy asked nextBy stepBy changeOf historyOf questionOf commandOf
-  of-49 = record { code = simp or-false; number = λ z. refl; next = λ z. refl }
+  of-49 = record { code = refl; number = λ z. refl; next = λ z. refl }
 
   of-50 : Meant w m (ofKind 50 x)
   unfolding ofKind refusal noRoom nothingToRange sortOf numberBy asked nextBy stepBy changeOf historyOf questionOf commandOf
   of-50 = record { code = refl; number = λ z. refl; next = λ z. refl }
 
   of-51 : Meant w m (ofKind 51 x)
-  unfolding ofKind refusal noRoom nothingToRange sortOf numberBy asked nextBy stepBy changeOf historyOf questionOf commandOf
+  unfolding ofKind refusal free noRoom nothingToRange sortOf numberBy asked nextBy stepBy changeOf historyOf questionOf commandOf
   of-51 = record { code = refl; number = λ z. refl; next = λ z. refl }
 
   of-52 : Meant w m (ofKind 52 x)
@@ -318,7 +319,7 @@ module _ (w : Parameters) (m : Machine) (x : Call) where
       go : (t : Bool) → known (x .kind) ≡ t → Meant w m x
       go true e = either (or-true (within 1 22 (x .kind)) (within 30 54 (x .kind)) e)
       go false e = record {
-        code = refused-1 e ∙ ap (commandCode w m) (sym (unknown e));
+        code = refused-1 e ∙ ap (λ (c : Command). ruleOf w c .code m) (sym (unknown e));
         number = λ z. absurd (omega (arith, eqb-true (refusal w m x) 0 z, refused-1 e));
         next = λ z. absurd (omega (arith, eqb-true (refusal w m x) 0 z, refused-1 e));
       }
@@ -330,7 +331,7 @@ module _ (w : Parameters) (m : Machine) (x : Call) where
     where
       go : (t : Bool) → (refusal w m x == 0) ≡ t →
           (t ⇒ record { code = 0; number = numberBy (sortOf (present m) x) w m x } else record { code = refusal w m x; number = 0 }) ≡ answerTo w m (commandOf x)
-      go true e = rw (meant .number e, ← meant .code, e)
+      go true e = rw (meant .number e, ← meant .code, e, eqb-true (refusal w m x) 0 e)
       go false e = rw (← meant .code, e)
 
   pub step-means : step w m x ≡ stepTo w m (commandOf x)

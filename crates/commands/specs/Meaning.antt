@@ -1,6 +1,6 @@
--- What the plain machine says of a command: the code, the number and the machine after it. proofs/MeaningLaws shows that it
--- is what the table of codes says of the call.
-use Prim.Native.Nat.{ℕ, suc, _-_}
+-- The rule of each command: the code, the number and the machine after it. proofs/MeaningLaws shows that it is what the plain
+-- machine says of the call.
+use Prim.Native.Nat.{ℕ}
 use mathlib.Core.List.{List}
 use mathlib.Core.Bool.{Bool, not, _||_}
 use lib.Dec.{leb, ltb}
@@ -29,12 +29,11 @@ use Rattle.graph.specs.declared.Change.the-variants.{
 }
 use Rattle.graph.specs.Graph.{Graph, vertex, edge, hasVertex, hasEdge, vertexNumbers, edgeNumbers, edgeOf, this, that, listOf, isReading, readingKind, decimetres}
 use Rattle.graph.specs.WellFormed.{Bounds}
-use Rattle.graph.specs.Changes.{changed, cost}
 use Rattle.graph.specs.Questions.{degree}
-use Rattle.history.specs.Machine.{Machine, changes, moves, sets, drops, commits, stands, placeOr, distance, standing, present}
+use Rattle.history.specs.Machine.{Machine, present}
+use Rattle.history.specs.Rules.{Rule, answered, followed, changing, setting, dropping, undoing, redoing, going, committing, measuring, counting, freeing}
 use Rattle.pricing.specs.Prices.{nothingHeard, twoWay, grade}
 use Rattle.machine.specs.Calls.{Parameters, boundsIn}
-use Rattle.machine.specs.Codes.{free}
 use Rattle.machine.specs.Machine.{Answer}
 use Rattle.commands.specs.declared.HistoryCall.{HistoryCall}
 use Rattle.commands.specs.declared.HistoryCall.the-variants.{SetMark, DropMark, Undo, Redo, GoTo, Commit, Between, Standing, Free}
@@ -97,57 +96,19 @@ changeCode b g (EdgeAfter x y) = (lacksEdge g x || lacksEdge g y) ⇒ 5 else (x 
 changeCode b g (WordBefore x y) = (lacksEdge g (edgeOf x) || lacksEdge g (edgeOf y)) ⇒ 5 else not (this g x == this g y) ⇒ 8 else (x == y) ⇒ 9 else 0
 changeCode b g (WordAfter x y) = (lacksEdge g (edgeOf x) || lacksEdge g (edgeOf y)) ⇒ 5 else not (this g x == this g y) ⇒ 8 else (x == y) ⇒ 9 else 0
 
--- 10 "cost above free changes": a change that the graph allows is refused only for that
-abbrev pub roomCode : ℕ → ℕ → ℕ
-roomCode room needed = ltb room needed ⇒ 10 else 0
-
 -- ---- history
 
--- 13 "other than 17: a mark named does not stand"
-abbrev pub lacksMark : Machine → ℕ → Bool
-lacksMark m k = not (stands (m .marks k))
-
--- 11 "a mark named is not 1 to 64"
-abbrev pub noMark : ℕ → Bool
-noMark k = not (within 1 64 k)
-
--- 11, 12 "17: mark already stands", 13, 14 "p is 0 (undo), p is m (redo)"
-abbrev pub historyCode : Machine → HistoryCall → ℕ
-historyCode m (SetMark k) = noMark k ⇒ 11 else stands (m .marks k) ⇒ 12 else 0
-historyCode m (DropMark k) = noMark k ⇒ 11 else lacksMark m k ⇒ 13 else 0
-historyCode m Undo = (m .line .place == 0) ⇒ 14 else 0
-historyCode m Redo = (m .line .place == length (m .line .steps)) ⇒ 14 else 0
-historyCode m (GoTo k) = noMark k ⇒ 11 else lacksMark m k ⇒ 13 else 0
-historyCode m Commit = 0
-historyCode m (Between j k) = (noMark j || noMark k) ⇒ 11 else (lacksMark m j || lacksMark m k) ⇒ 13 else 0
-historyCode m Standing = 0
-historyCode m Free = 0
-
--- "undo, redo 1; go to mark the number of steps moved; kind 49 the distance of the two places, 50 the number of standing marks,
--- 51 the free changes; commit the old p; set and drop 0"
-abbrev pub historyNumber : ℕ → Machine → HistoryCall → ℕ
-historyNumber room m (SetMark k) = 0
-historyNumber room m (DropMark k) = 0
-historyNumber room m Undo = 1
-historyNumber room m Redo = 1
-historyNumber room m (GoTo k) = distance (m .line .place) (placeOr (m .line .place) (m .marks k))
-historyNumber room m Commit = m .line .place
-historyNumber room m (Between j k) = distance (placeOr 0 (m .marks j)) (placeOr 0 (m .marks k))
-historyNumber room m Standing = standing (m .marks)
-historyNumber room m Free = room
-
--- "Undo and redo move p by 1. Set mark records p. Go to mark sets p. Commit keeps Gp alone, as G0, p = 0, no marks. All else
--- changes nothing."
-abbrev pub historyNext : Machine → HistoryCall → Machine
-historyNext m (SetMark k) = sets k m
-historyNext m (DropMark k) = drops k m
-historyNext m Undo = moves (m .line .place - 1) m
-historyNext m Redo = moves (suc (m .line .place)) m
-historyNext m (GoTo k) = moves (placeOr (m .line .place) (m .marks k)) m
-historyNext m Commit = commits m
-historyNext m (Between j k) = m
-historyNext m Standing = m
-historyNext m Free = m
+-- kinds 17 to 22 and 49 to 51, of a run with this capacity for changes
+abbrev pub historyRule : ℕ → HistoryCall → Rule
+historyRule capacity (SetMark k) = setting k
+historyRule capacity (DropMark k) = dropping k
+historyRule capacity Undo = undoing
+historyRule capacity Redo = redoing
+historyRule capacity (GoTo k) = going k
+historyRule capacity Commit = committing
+historyRule capacity (Between j k) = measuring j k
+historyRule capacity Standing = counting
+historyRule capacity Free = freeing capacity
 
 -- ---- questions and prices, of the graph alone
 
@@ -213,34 +174,30 @@ priceNumber g (Grade a b) = grade g a b
 abbrev pub orElse : ℕ → ℕ → ℕ
 orElse r s = (r == 0) ⇒ s else r
 
+-- codes 2 to 9, and of a change that the graph allows, 10
+abbrev pub altering : Parameters → Change → Rule
+altering w c = record {
+  code = λ m. orElse (changeCode (boundsIn w) (present m) c) (changing (w .changes) c .code m);
+  number = changing (w .changes) c .number;
+  next = changing (w .changes) c .next;
+}
+
+-- "All else changes nothing."
+abbrev pub asking : (Graph → ℕ) → (Graph → ℕ) → Rule
+asking code number = record { code = λ m. code (present m); number = λ m. number (present m); next = λ m. m }
+
 -- of Unknown, 1 "kind not named above"
-abbrev pub commandCode : Parameters → Machine → Command → ℕ
-commandCode w m (Alter c) = orElse (changeCode (boundsIn w) (present m) c) (roomCode (free w m) (cost c (present m)))
-commandCode w m (Recall h) = historyCode m h
-commandCode w m (Ask q) = questionCode (length (w .rows)) (present m) q
-commandCode w m (Quote p) = priceCode (present m) p
-commandCode w m Unknown = 1
+abbrev pub ruleOf : Parameters → Command → Rule
+ruleOf w (Alter c) = altering w c
+ruleOf w (Recall h) = historyRule (w .changes) h
+ruleOf w (Ask q) = asking (λ g. questionCode (length (w .rows)) g q) (λ g. questionNumber (w .rows) g q)
+ruleOf w (Quote p) = asking (λ g. priceCode g p) (λ g. priceNumber g p)
+ruleOf w Unknown = asking (λ g. 1) (λ g. 0)
 
--- "The number answered: a change its cost"; the others as above
-abbrev pub commandNumber : Parameters → Machine → Command → ℕ
-commandNumber w m (Alter c) = cost c (present m)
-commandNumber w m (Recall h) = historyNumber (free w m) m h
-commandNumber w m (Ask q) = questionNumber (w .rows) (present m) q
-commandNumber w m (Quote p) = priceNumber (present m) p
-commandNumber w m Unknown = 0
-
--- "An accepted change f cuts the charts after p and the marks whose place is above p, adds f(Gp), and p grows by 1."
-abbrev pub commandNext : Machine → Command → Machine
-commandNext m (Alter c) = changes (record { cost = cost c (present m); graph = changed c (present m) }) m
-commandNext m (Recall h) = historyNext m h
-commandNext m (Ask q) = m
-commandNext m (Quote p) = m
-commandNext m Unknown = m
-
--- "A refused call answers its code and 0."
+-- the answer to a command
 unfoldable pub answerTo : Parameters → Machine → Command → Answer
-answerTo w m c = (commandCode w m c == 0) ⇒ record { code = 0; number = commandNumber w m c } else record { code = commandCode w m c; number = 0 }
+answerTo w m c = record { code = ruleOf w c .code m; number = answered (ruleOf w c) m }
 
--- the machine after a command; a refused one changes nothing
+-- the machine after a command
 unfoldable pub stepTo : Parameters → Machine → Command → Machine
-stepTo w m c = (commandCode w m c == 0) ⇒ commandNext m c else m
+stepTo w m c = followed (ruleOf w c) m

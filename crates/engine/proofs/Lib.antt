@@ -3,5 +3,4 @@ pub mod CallLaws
 pub mod RunLaws
 pub mod Demand
 pub mod StepLaws
-pub mod StepRules
 pub mod Allows

@@ -1,132 +1,167 @@
--- From the rule of a history call, the answer to a question and the code of a change to the machine's answer to a command.
+-- The machine's answer to a command, from what the crates below say of its rule, code, reply or price.
 use Prim.Native.Nat.{ℕ, _/_}
 use mathlib.Core.Path.{_≡_, refl, sym, ap, _∙_, subst}
-use mathlib.Core.Bool.{Bool, true, false}
+use mathlib.Core.Bool.{Bool, true, false, _||_}
 use mathlib.Core.List.{List}
 use lib.ListN.{length}
-use borrow.Author.Tests.{eqb-true, ne-eqb}
+use borrow.Author.Tests.{ne-eqb, not-false}
+use native.Mathlib.Omega.{arith}
 use Rattle.lists.specs.Choice.{_⇒_else_, _==_}
-use Rattle.graph.specs.WellFormed.{Bounds}
-use Rattle.history.specs.Machine.{Machine}
-use Rattle.history.specs.Rules.{Rule, Obeys, answered, followed}
+use Rattle.graph.specs.declared.Change.{Change}
+use Rattle.graph.specs.Graph.{Graph, hasVertex}
+use Rattle.graph.specs.WellFormed.{Bounds, WellFormed}
+use Rattle.graph.specs.Changes.{VertexThere, Allowed}
+use Rattle.graph.proofs.Numbers.{vertex-once}
+use Rattle.tables.specs.Tables.{st}
+use Rattle.tables.specs.Holds.{Holds}
+use Rattle.tables.specs.Capacities.{Sized, boundsOf}
+use Rattle.pricing.specs.Prices.{nothingHeard, twoWay, gradeOf, grade}
+use Rattle.prices.specs.declared.Price.{Price}
+use Rattle.prices.specs.Ways.{priceOf}
 use Rattle.versions.specs.declared.Version.{Version}
 use Rattle.versions.specs.Represents.{Represents, Follows}
-use Rattle.versions.proofs.Present.{sized-present}
+use Rattle.versions.proofs.Present.{holds-present, sound-present, sized-present}
+use Rattle.answers.specs.declared.Answer.{Answer as Reply}
+use Rattle.answers.specs.AnswerIs.{AnswerIs}
+use Rattle.history.specs.Machine.{Machine, present}
+use Rattle.history.specs.Rules.{Obeys, followed, changing}
 use Rattle.machine.specs.Calls.{Parameters, boundsIn}
-use Rattle.machine.specs.Machine.{Answer}
+use Rattle.commands.specs.declared.Question.{Question}
+use Rattle.commands.specs.declared.PriceCall.the-variants.{Range, Grade}
 use Rattle.commands.specs.declared.Command.{Command}
-use Rattle.commands.specs.Meaning.{commandCode, commandNumber, commandNext, answerTo, stepTo}
-use Rattle.engine.specs.Running.{Setting, Running, Answered}
-
-module _ (w : Parameters) (m : Machine) (c : Command) where
-  pub answer-code : answerTo w m c .code ≡ commandCode w m c
-  unfolding answerTo
-  answer-code = go (commandCode w m c == 0) refl
-    where
-      go : (t : Bool) → (commandCode w m c == 0) ≡ t →
-          (_⇒_else_ {A = Answer} t (record { code = 0; number = commandNumber w m c }) (record { code = commandCode w m c; number = 0 })) .code ≡ commandCode w m c
-      go true e = sym (eqb-zero (commandCode w m c) e)
-        where
-          eqb-zero : (n : ℕ) → (n == 0) ≡ true → n ≡ 0
-          eqb-zero n e = eqb-true n 0 e
-      go false e = refl
-
-  pub answer-number : answerTo w m c .number ≡ ((commandCode w m c == 0) ⇒ commandNumber w m c else 0)
-  unfolding answerTo
-  answer-number = go (commandCode w m c == 0)
-    where
-      go : (t : Bool) →
-          (_⇒_else_ {A = Answer} t (record { code = 0; number = commandNumber w m c }) (record { code = commandCode w m c; number = 0 })) .number ≡ (t ⇒ commandNumber w m c else 0)
-      go true = refl
-      go false = refl
-
-  -- a refused command leaves the machine
-  pub refused-step : (commandCode w m c ≡ 0 → ⊥) → stepTo w m c ≡ m
-  unfolding stepTo
-  refused-step d = rw (ne-eqb (commandCode w m c) 0 d)
-
--- a rule that says of m what the command does
-pub record Rules (w : Parameters) (m : Machine) (c : Command) (r : Rule) : Type 0 where
-  pub code : r .code m ≡ commandCode w m c
-  pub number : r .number m ≡ commandNumber w m c
-  pub next : r .next m ≡ commandNext m c
-
-module _ (w : Parameters) (m : Machine) (c : Command) (r : Rule) (k : Rules w m c r) where
-  pub rule-number : answered r m ≡ answerTo w m c .number
-  rule-number = rw (answer-number w m c, k .code, k .number)
-
-  pub rule-next : followed r m ≡ stepTo w m c
-  unfolding stepTo
-  rule-next = rw (k .code, k .next)
+use Rattle.commands.specs.declared.Command.the-variants.{Alter, Ask, Quote}
+use Rattle.commands.specs.Meaning.{lacksVertex, changeCode, questionCode, questionNumber, priceCode, ruleOf, answerTo, stepTo}
+use Rattle.checks.specs.Held.{HoldsVE, ChangeFits}
+use Rattle.checks.proofs.Codes.{stops, passes}
+use Rattle.engine.specs.Running.{Setting, Running, Answered, Priced}
+use Rattle.engine.proofs.Allows.{allows}
 
 -- the capacities stand with the tables
-pub setting-of : (w : Parameters) (b : Bounds) (x : Version) (vt et t vt′ et′ t′ places closed : List ℕ) (types : ℕ) (m : Machine) → b ≡ boundsIn w → Setting w vt et t closed types →
-    length t′ ≡ length t → Represents b x vt′ et′ t′ places m → Setting w vt′ et′ t′ closed types
-setting-of w b x vt et t vt′ et′ t′ places closed types m e s l h =
-    let z = sized-present b x vt′ et′ t′ places m h in
+setting-of : (w : Parameters) (x : Version) (vt et t vt′ et′ t′ places closed : List ℕ) (types : ℕ) (m : Machine) → Setting w vt et t closed types →
+    length t′ ≡ length t → Represents (boundsIn w) x vt′ et′ t′ places m → Setting w vt′ et′ t′ closed types
+setting-of w x vt et t vt′ et′ t′ places closed types m s l h =
+    let z = sized-present (boundsIn w) x vt′ et′ t′ places m h in
     record {
       limits = s .limits;
-      vertices = ap (λ (k : Bounds). k .vertices) (sym e) ∙ z .vertices;
-      edges = ap (λ (k : Bounds). k .edges) (sym e) ∙ z .edges;
+      vertices = z .vertices;
+      edges = z .edges;
       changes = s .changes ∙ ap (λ (n : ℕ). n / 12) (sym l);
       rows = s .rows;
       closed-rows = s .closed-rows;
       types-in = s .types-in;
     }
 
--- a function that follows the rule answers the command
-pub follows-answers : (w : Parameters) (m : Machine) (c : Command) (r : Rule) → Rules w m c r →
-    (x x′ : Version) (code number : ℕ) (vt et t vt′ et′ t′ places places′ closed : List ℕ) (types : ℕ) → length t′ ≡ length t →
-    Running w x vt et t places closed types m → Follows r m (boundsIn w) x′ code number vt′ et′ t′ places′ →
-    Answered w m c x′ code number vt′ et′ t′ places′ closed types
-follows-answers w m c r k x x′ code number vt et t vt′ et′ t′ places places′ closed types l h f = record {
-  coded = f .obeys .coded ∙ k .code ∙ sym (answer-code w m c);
-  numbered = f .obeys .numbered ∙ rule-number w m c r k;
-  stands = record {
-    setting = setting-of w (boundsIn w) x′ vt et t vt′ et′ t′ places′ closed types (followed r m) refl (h .setting) l (f .stands);
-    represents = subst (λ (n : Machine). Represents (boundsIn w) x′ vt′ et′ t′ places′ n) (rule-next w m c r k) (f .stands);
-  };
-}
+-- the capacities of the tables are those of the run
+bounds-are : (w : Parameters) (vt et t closed : List ℕ) (types : ℕ) → Setting w vt et t closed types → boundsOf vt et types ≡ boundsIn w
+bounds-are w vt et t closed types s = λ i. record { vertices = sym (s .vertices) i; edges = sym (s .edges) i; types = s .types-in i }
 
--- a function that only answers, by a rule whose machine stays
-pub obeys-answers : (w : Parameters) (m : Machine) (c : Command) (r : Rule) → Rules w m c r → r .next m ≡ m →
-    (x : Version) (code number : ℕ) (vt et t places closed : List ℕ) (types : ℕ) →
-    Running w x vt et t places closed types m → Obeys r m code number → Answered w m c x code number vt et t places closed types
-obeys-answers w m c r k i x code number vt et t places closed types h o = record {
-  coded = o .coded ∙ k .code ∙ sym (answer-code w m c);
-  numbered = o .numbered ∙ rule-number w m c r k;
-  stands = subst (λ (n : Machine). Running w x vt et t places closed types n) (sym stay ∙ rule-next w m c r k) h;
-}
-  where
-    pick : (t : Bool) → (t ⇒ r .next m else m) ≡ m
-    pick true = i
-    pick false = refl
+module _ (w : Parameters) (m : Machine) (x : Version) (vt et t places closed : List ℕ) (types : ℕ) (h : Running w x vt et t places closed types m) where
+  pub holds : Holds (st (x .current .head) vt et) (present m)
+  holds = holds-present (boundsIn w) x vt et t places m (h .represents)
 
-    stay : followed r m ≡ m
-    stay = pick (r .code m == 0)
+  pub sound : WellFormed (present m)
+  sound = sound-present (boundsIn w) x vt et t places m (h .represents)
 
--- an answer to a command that never changes the machine
-pub unchanged-answers : (w : Parameters) (m : Machine) (c : Command) → commandNext m c ≡ m →
-    (x : Version) (code number : ℕ) (vt et t places closed : List ℕ) (types : ℕ) → Running w x vt et t places closed types m →
-    code ≡ commandCode w m c → number ≡ ((commandCode w m c == 0) ⇒ commandNumber w m c else 0) → Answered w m c x code number vt et t places closed types
-unfolding stepTo
-unchanged-answers w m c i x code number vt et t places closed types h e f = record {
-  coded = e ∙ sym (answer-code w m c);
-  numbered = f ∙ sym (answer-number w m c);
-  stands = subst (λ (n : Machine). Running w x vt et t places closed types n) (sym (pick (commandCode w m c == 0))) h;
-}
-  where
-    pick : (t : Bool) → (t ⇒ commandNext m c else m) ≡ m
-    pick true = i
-    pick false = refl
+  pub sized : Sized (boundsIn w) (st (x .current .head) vt et)
+  sized = sized-present (boundsIn w) x vt et t places m (h .represents)
 
--- a command that is refused by a code, whatever it is
-pub refused-answers : (w : Parameters) (m : Machine) (c : Command) (x : Version) (code : ℕ) (vt et t places closed : List ℕ) (types : ℕ) → Running w x vt et t places closed types m →
-    code ≡ commandCode w m c → (code ≡ 0 → ⊥) → Answered w m c x code 0 vt et t places closed types
-refused-answers w m c x code vt et t places closed types h e d =
-    let z : commandCode w m c ≡ 0 → ⊥ = λ i. d (e ∙ i) in
-    record {
-      coded = e ∙ sym (answer-code w m c);
-      numbered = sym (answer-number w m c ∙ rw (ne-eqb (commandCode w m c) 0 z));
-      stands = subst (λ (n : Machine). Running w x vt et t places closed types n) (sym (refused-step w m c z)) h;
-    }
+  -- ---- any command
+
+  -- a function that follows the command's rule answers it
+  pub follows-answers : (c : Command) (x′ : Version) (code number : ℕ) (vt′ et′ t′ places′ : List ℕ) → length t′ ≡ length t →
+      Follows (ruleOf w c) m (boundsIn w) x′ code number vt′ et′ t′ places′ → Answered w m c x′ code number vt′ et′ t′ places′ closed types
+  unfolding answerTo stepTo
+  follows-answers c x′ code number vt′ et′ t′ places′ l f = record {
+    coded = f .obeys .coded;
+    numbered = f .obeys .numbered;
+    stands = record {
+      setting = setting-of w x′ vt et t vt′ et′ t′ places′ closed types (followed (ruleOf w c) m) (h .setting) l (f .stands);
+      represents = f .stands;
+    };
+  }
+
+  -- a function that only answers, by a rule whose machine stays
+  pub obeys-answers : (c : Command) (code number : ℕ) → ruleOf w c .next m ≡ m → Obeys (ruleOf w c) m code number → Answered w m c x code number vt et t places closed types
+  unfolding answerTo stepTo
+  obeys-answers c code number i o = record {
+    coded = o .coded;
+    numbered = o .numbered;
+    stands = subst (λ (n : Machine). Running w x vt et t places closed types n) (sym (pick (ruleOf w c .code m == 0))) h;
+  }
+    where
+      pick : (t : Bool) → (t ⇒ ruleOf w c .next m else m) ≡ m
+      pick true = i
+      pick false = refl
+
+  -- a command that is refused by a code, whatever it is
+  refused-answers : (c : Command) (code : ℕ) → code ≡ ruleOf w c .code m → (code ≡ 0 → ⊥) → Answered w m c x code 0 vt et t places closed types
+  unfolding answerTo stepTo
+  refused-answers c code e d = let z = ne-eqb code 0 d in record { coded = e; numbered = rw (← e, z); stands = rw (← e, z) h }
+
+  -- ---- a change, from its code on
+
+  module _ (c : Change) (k : ℕ) (e : (g : Graph) → HoldsVE vt et g → k ≡ changeCode (boundsOf vt et types) g c) where
+    code-of : k ≡ changeCode (boundsIn w) (present m) c
+    code-of = e (present m) (x .current .head, holds) ∙ ap (λ (b : Bounds). changeCode b (present m) c) (bounds-are w vt et t closed types (h .setting))
+
+    pub alter-refused : (k ≡ 0 → ⊥) → Answered w m (Alter c) x k 0 vt et t places closed types
+    alter-refused d = refused-answers (Alter c) k (rw (← code-of, ne-eqb k 0 d)) d
+
+    pub alter-allowed : k ≡ 0 → ChangeFits c → Allowed (boundsIn w) (present m) c
+    alter-allowed z f = allows (boundsIn w) (present m) sound c f (sym code-of ∙ z)
+
+    pub alter-made : k ≡ 0 → (x′ : Version) (code number : ℕ) (vt′ et′ t′ : List ℕ) → length t′ ≡ length t →
+        Follows (changing (length t / 12) c) m (boundsIn w) x′ code number vt′ et′ t′ places → Answered w m (Alter c) x′ code number vt′ et′ t′ places closed types
+    alter-made z x′ code number vt′ et′ t′ l f =
+        let i = sym code-of ∙ z in
+        let j : Follows (changing (w .changes) c) m (boundsIn w) x′ code number vt′ et′ t′ places = rw (h .setting .changes) f in
+        follows-answers (Alter c) x′ code number vt′ et′ t′ places l
+        (record { obeys = record { coded = rw i (j .obeys .coded); numbered = rw i (j .obeys .numbered) }; stands = rw i (j .stands) })
+
+  -- ---- a question
+
+  pub ask-answers : (q : Question) (r : Reply) → AnswerIs r (questionCode types (present m) q) (questionNumber (w .rows) (present m) q) →
+      Answered w m (Ask q) x (r .code) (r .number) vt et t places closed types
+  ask-answers q r d =
+      let e = rw (h .setting .types-in) at d in
+      obeys-answers (Ask q) (r .code) (r .number) refl (record { coded = e .coded; numbered = e .numbered })
+
+  -- ---- the price list
+
+  pub range-answers : (a b : ℕ) (r : Price) → Priced (present m) a b r → Answered w m (Quote (Range a b)) x (r .code) (r .range) vt et t places closed types
+  range-answers a b r d = obeys-answers (Quote (Range a b)) (r .code) (r .range) refl (record { coded = d .coded; numbered = d .ranged })
+
+  pub grade-answers : (a b n : ℕ) (r : Price) → Priced (present m) a b r → n ≡ gradeOf (r .range) → Answered w m (Quote (Grade a b)) x (r .code) n vt et t places closed types
+  unfolding grade
+  grade-answers a b n r d e =
+      obeys-answers (Quote (Grade a b)) (r .code) n refl
+      (record { coded = d .coded; numbered = e ∙ ap gradeOf (d .ranged) ∙ pick (priceCode (present m) (Range a b) == 0) })
+    where
+      pick : (t : Bool) → gradeOf (t ⇒ twoWay (present m) a b else 0) ≡ (t ⇒ gradeOf (twoWay (present m) a b) else 0)
+      pick true = refl
+      pick false = refl
+
+-- ---- codes 4 and 16
+
+module _ (g : Graph) (wf : WellFormed g) (a b c : ℕ) (e : c ≡ ((lacksVertex g a || lacksVertex g b) ⇒ 4 else 0)) where
+  pub both-there : c ≡ 0 → VertexThere g a × VertexThere g b
+  both-there z = go (lacksVertex g a) (lacksVertex g b) refl refl (sym e ∙ z)
+    where
+      go : (s t : Bool) → lacksVertex g a ≡ s → lacksVertex g b ≡ t → _≡_ {A = ℕ} ((s || t) ⇒ 4 else 0) 0 → VertexThere g a × VertexThere g b
+      go true t i j k = absurd (omega arith)
+      go false true i j k = absurd (omega arith)
+      go false false i j k = (vertex-once g a wf (not-false (hasVertex g a) i), vertex-once g b wf (not-false (hasVertex g b) j))
+
+  pub missing-priced : (c ≡ 0 → ⊥) → Priced g a b (record { code = c; range = 0 })
+  missing-priced d =
+      let i = stops (lacksVertex g a || lacksVertex g b) 4 c (nothingHeard g a b ⇒ 16 else 0) e d in
+      record { coded = i; ranged = rw (← i, ne-eqb c 0 d) }
+
+  pub there-priced : c ≡ 0 → (r : Price) → r ≡ priceOf g a b → Priced g a b r
+  there-priced z r q =
+      let i = passes (lacksVertex g a || lacksVertex g b) 4 c (nothingHeard g a b ⇒ 16 else 0) e (omega arith) z in
+      record { coded = ap (λ (p : Price). p .code) q ∙ sym i; ranged = rw i (ap (λ (p : Price). p .range) q ∙ pick (nothingHeard g a b)) }
+    where
+      pick : (t : Bool) → (t ⇒ 0 else twoWay g a b) ≡ (((t ⇒ 16 else 0) == 0) ⇒ twoWay g a b else 0)
+      pick true = refl
+      pick false = refl

@@ -1,5 +1,5 @@
 use Rattle.machine.specs.Calls.{boundsIn}
-use Rattle.engine.proofs.StepRules.{alter-refused, alter-allowed, alter-made}
+use Rattle.engine.proofs.StepLaws.{alter-refused, alter-allowed, alter-made}
 use borrow.Author.Needs.{needs}
 use Rattle.engine.proofs.step.alter.Statement.{statement}
 use Rattle.engine.proofs.step.alter.Tie as tie

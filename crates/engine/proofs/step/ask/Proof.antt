@@ -1,7 +1,7 @@
 use mathlib.Core.Path.{refl}
 use Rattle.history.specs.Machine.{present}
 use Rattle.machine.specs.Calls.{boundsIn}
-use Rattle.engine.proofs.StepRules.{ask-answers, sized, holds}
+use Rattle.engine.proofs.StepLaws.{ask-answers, sized, holds}
 use borrow.Author.Needs.{needs}
 use Rattle.engine.proofs.step.ask.Statement.{statement}
 use Rattle.engine.proofs.step.ask.Tie as tie

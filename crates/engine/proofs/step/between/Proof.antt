@@ -1,6 +1,5 @@
 use mathlib.Core.Path.{refl}
 use Rattle.machine.specs.Calls.{boundsIn}
-use Rattle.engine.proofs.StepRules.{rules-between}
 use Rattle.engine.proofs.StepLaws.{obeys-answers}
 use borrow.Author.Needs.{needs}
 use Rattle.engine.proofs.step.between.Statement.{statement}
@@ -10,7 +9,7 @@ between-requires : tie.Need-between-requires
 between-requires c κs = search needs
 
 returns : tie.Need-returns
-returns c = λ w m vt et t closed types h. (refl, obeys-answers w m _ _ (rules-between w m _ _) refl _ _ _ vt et t _ closed types h (c .between .ensures (boundsIn w) vt et t m (h .represents)))
+returns c = λ w m vt et t closed types h. (refl, obeys-answers w m _ vt et t _ closed types h _ _ _ refl (c .between .ensures (boundsIn w) vt et t m (h .represents)))
 
 pub between-spec : {M : Type 1} → statement M
 between-spec = tie.close (tie.spec between-requires returns)

@@ -1,5 +1,5 @@
 use mathlib.Core.Path.{refl}
-use Rattle.engine.proofs.StepRules.{grade-answers}
+use Rattle.engine.proofs.StepLaws.{grade-answers}
 use borrow.Author.Needs.{needs}
 use Rattle.engine.proofs.step.grade.Statement.{statement}
 use Rattle.engine.proofs.step.grade.Tie as tie

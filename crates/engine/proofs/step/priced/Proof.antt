@@ -1,6 +1,6 @@
 use Rattle.history.specs.Machine.{present}
 use Rattle.machine.specs.Calls.{boundsIn}
-use Rattle.engine.proofs.StepRules.{holds, sound, sized, both-there, missing-priced, there-priced}
+use Rattle.engine.proofs.StepLaws.{holds, sound, sized, both-there, missing-priced, there-priced}
 use Rattle.queries.proofs.Answers.{can-walk}
 use borrow.Author.Needs.{needs}
 use Rattle.engine.proofs.step.priced.Statement.{statement}

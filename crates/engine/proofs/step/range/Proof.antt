@@ -1,5 +1,5 @@
 use mathlib.Core.Path.{refl}
-use Rattle.engine.proofs.StepRules.{range-answers}
+use Rattle.engine.proofs.StepLaws.{range-answers}
 use borrow.Author.Needs.{needs}
 use Rattle.engine.proofs.step.range.Statement.{statement}
 use Rattle.engine.proofs.step.range.Tie as tie

@@ -1,6 +1,5 @@
 use mathlib.Core.Path.{refl}
 use Rattle.machine.specs.Calls.{boundsIn}
-use Rattle.engine.proofs.StepRules.{rules-set, rules-drop, rules-undo, rules-redo, rules-go, rules-commit}
 use Rattle.engine.proofs.StepLaws.{follows-answers}
 use borrow.Author.Needs.{needs}
 use Rattle.engine.proofs.step.recall.Statement.{statement}
@@ -61,10 +60,10 @@ free-changes-requires : tie.Need-free-changes-requires
 free-changes-requires c κs = search needs
 
 returns : tie.Need-returns
-returns c = λ w m closed types h. rw (c .before .before .before .call .given .1) (follows-answers w m _ _ (rules-set w m _) _ _ _ _ _ _ _ _ _ _ _ _ closed types refl h (c .set-mark .ensures (boundsIn w) _ _ _ m (h .represents)))
+returns c = λ w m closed types h. rw (c .before .before .before .call .given .1) (follows-answers w m _ _ _ _ _ closed types h _ _ _ _ _ _ _ _ refl (c .set-mark .ensures (boundsIn w) _ _ _ m (h .represents)))
 
 returns-2 : tie.Need-returns-2
-returns-2 c = λ w m closed types h. rw (c .before .before .call2 .given .1) (follows-answers w m _ _ (rules-drop w m _) _ _ _ _ _ _ _ _ _ _ _ _ closed types refl h (c .drop-mark .ensures (boundsIn w) _ _ _ _ m (h .represents)))
+returns-2 c = λ w m closed types h. rw (c .before .before .call2 .given .1) (follows-answers w m _ _ _ _ _ closed types h _ _ _ _ _ _ _ _ refl (c .drop-mark .ensures (boundsIn w) _ _ _ _ m (h .represents)))
 
 same-length : tie.Need-same-length
 same-length c = search needs
@@ -73,7 +72,7 @@ same-length-2 : tie.Need-same-length-2
 same-length-2 c = search needs
 
 returns-3 : tie.Need-returns-3
-returns-3 c = λ w m closed types h. rw (c .before .before .before .before .before .before .before .enum-told .given .1) (follows-answers w m _ _ (rules-undo w m) _ _ _ _ _ _ _ _ _ _ _ _ closed types refl h (c .before .before .before .before .undo .ensures (boundsIn w) _ m (h .represents)))
+returns-3 c = λ w m closed types h. rw (c .before .before .before .before .before .before .before .enum-told .given .1) (follows-answers w m _ _ _ _ _ closed types h _ _ _ _ _ _ _ _ refl (c .before .before .before .before .undo .ensures (boundsIn w) _ m (h .represents)))
 
 same-length-3 : tie.Need-same-length-3
 same-length-3 c = search needs
@@ -82,7 +81,7 @@ same-length-4 : tie.Need-same-length-4
 same-length-4 c = search needs
 
 returns-4 : tie.Need-returns-4
-returns-4 c = λ w m closed types h. rw (c .before .before .before .before .before .before .before .enum-told2 .given .1) (follows-answers w m _ _ (rules-redo w m) _ _ _ _ _ _ _ _ _ _ _ _ closed types refl h (c .before .before .before .before .redo .ensures (boundsIn w) _ m (h .represents)))
+returns-4 c = λ w m closed types h. rw (c .before .before .before .before .before .before .before .enum-told2 .given .1) (follows-answers w m _ _ _ _ _ closed types h _ _ _ _ _ _ _ _ refl (c .before .before .before .before .redo .ensures (boundsIn w) _ m (h .represents)))
 
 same-length-5 : tie.Need-same-length-5
 same-length-5 c = search needs
@@ -91,10 +90,10 @@ same-length-6 : tie.Need-same-length-6
 same-length-6 c = search needs
 
 returns-5 : tie.Need-returns-5
-returns-5 c = λ w m closed types h. rw (c .before .before .before .before .before .before .before .before .before .call3 .given .1) (follows-answers w m _ _ (rules-go w m _) _ _ _ _ _ _ _ _ _ _ _ _ closed types refl h (c .before .before .before .before .go-to-mark .ensures (boundsIn w) m (h .represents)))
+returns-5 c = λ w m closed types h. rw (c .before .before .before .before .before .before .before .before .before .call3 .given .1) (follows-answers w m _ _ _ _ _ closed types h _ _ _ _ _ _ _ _ refl (c .before .before .before .before .go-to-mark .ensures (boundsIn w) m (h .represents)))
 
 returns-6 : tie.Need-returns-6
-returns-6 c = λ w m closed types h. rw (c .before .enum-told3 .given .1) (follows-answers w m _ _ (rules-commit w m) _ _ _ _ _ _ _ _ _ _ _ _ closed types refl h (c .commit .ensures (boundsIn w) _ _ _ _ m (h .represents)))
+returns-6 c = λ w m closed types h. rw (c .before .enum-told3 .given .1) (follows-answers w m _ _ _ _ _ closed types h _ _ _ _ _ _ _ _ refl (c .commit .ensures (boundsIn w) _ _ _ _ m (h .represents)))
 
 returns-7 : tie.Need-returns-7
 returns-7 c = λ w m closed types h. rw (c .before .before .before .call4 .given .1) (c .between .ensures w m _ _ _ closed types h .1)
