@@ -28,7 +28,10 @@
 #![no_std]
 #![warn(missing_docs)]
 
+pub mod raw;
+
 use core::fmt;
+use raw::{futtockfig_part, futtockfig_run};
 
 /// Kind, a, b, c, d.
 pub type Call = [u32; 5];
@@ -245,39 +248,4 @@ pub fn part(words: &[u32], which: Part) -> &[u32] {
         0 => &[],
         len => &words[span.offset..span.offset + len],
     }
-}
-
-#[repr(C)]
-struct RunResult {
-    code: u32,
-    done: usize,
-    words: usize,
-}
-
-#[repr(C)]
-struct Span {
-    offset: usize,
-    len: usize,
-}
-
-extern "C" {
-    fn futtockfig_run(
-        start: *const u32,
-        start_len: usize,
-        rows: *const u64,
-        rows_len: usize,
-        calls: *const u32,
-        calls_len: usize,
-        vertices: *mut u32,
-        vertices_len: usize,
-        edges: *mut u32,
-        edges_len: usize,
-        journal: *mut u32,
-        journal_len: usize,
-        answers: *mut u32,
-        answers_len: usize,
-        image: *mut u32,
-        image_len: usize,
-    ) -> RunResult;
-    fn futtockfig_part(words: *const u32, words_len: usize, part: u32) -> Span;
 }

@@ -3,41 +3,7 @@
 use crate::gen::Random;
 use crate::image;
 use crate::run::{Case, Outcome};
-
-#[repr(C)]
-struct Raw {
-    code: u32,
-    done: usize,
-    words: usize,
-}
-
-#[repr(C)]
-struct Span {
-    offset: usize,
-    len: usize,
-}
-
-extern "C" {
-    fn futtockfig_run(
-        start: *const u32,
-        start_len: usize,
-        rows: *const u64,
-        rows_len: usize,
-        calls: *const u32,
-        calls_len: usize,
-        vertices: *mut u32,
-        vertices_len: usize,
-        edges: *mut u32,
-        edges_len: usize,
-        journal: *mut u32,
-        journal_len: usize,
-        answers: *mut u32,
-        answers_len: usize,
-        image: *mut u32,
-        image_len: usize,
-    ) -> Raw;
-    fn futtockfig_part(words: *const u32, words_len: usize, part: u32) -> Span;
-}
+use futtockfig::raw::{futtockfig_part, futtockfig_run};
 
 /// Words before and after each lent slice, which no run may touch.
 const GUARD: usize = 64;
@@ -153,10 +119,9 @@ pub fn compare_parts(words: &[u32]) -> Result<(), String> {
     for which in [0, 1, 2, 3, 4, u32::MAX] {
         // SAFETY: the pointer is to a slice of the given length.
         let span = unsafe { futtockfig_part(words.as_ptr(), words.len(), which) };
-        let (offset, len) = image::part(words, which).unwrap_or((0, 0));
-        // An empty part may lie anywhere within the words.
-        let same_place = span.offset == offset || (len == 0 && span.offset <= words.len());
-        if span.len != len || !same_place {
+        // Where a part is empty, offset and length are 0.
+        let (offset, len) = image::part(words, which).filter(|(_, len)| *len > 0).unwrap_or((0, 0));
+        if (span.offset, span.len) != (offset, len) {
             return Err(format!("part {which} is {} words from {}, should be {len} from {offset}", span.len, span.offset));
         }
     }

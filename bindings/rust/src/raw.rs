@@ -1,0 +1,37 @@
+//! The archive's functions as `include/futtockfig.h` declares them, with the caller's duties that it names.
+#![allow(missing_docs)]
+
+#[repr(C)]
+pub struct RunResult {
+    pub code: u32,
+    pub done: usize,
+    pub words: usize,
+}
+
+#[repr(C)]
+pub struct Span {
+    pub offset: usize,
+    pub len: usize,
+}
+
+extern "C" {
+    pub fn futtockfig_run(
+        start: *const u32,
+        start_len: usize,
+        rows: *const u64,
+        rows_len: usize,
+        calls: *const u32,
+        calls_len: usize,
+        vertices: *mut u32,
+        vertices_len: usize,
+        edges: *mut u32,
+        edges_len: usize,
+        journal: *mut u32,
+        journal_len: usize,
+        answers: *mut u32,
+        answers_len: usize,
+        image: *mut u32,
+        image_len: usize,
+    ) -> RunResult;
+    pub fn futtockfig_part(words: *const u32, words_len: usize, part: u32) -> Span;
+}
