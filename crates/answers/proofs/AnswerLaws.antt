@@ -34,7 +34,7 @@ use Rattle.queries.proofs.Answers.{
   word-that,
 }
 use Rattle.checks.specs.Held.{HoldsV, HoldsE}
-use Rattle.commands.specs.Meaning.{lacksVertex, lacksEdge}
+use Rattle.machine.specs.Codes.{lacksVertex, lacksEdge}
 use Rattle.answers.specs.AnswerIs.{AnswerIs}
 
 pub answer-refused : (code c n : ℕ) → c ≡ code → (c ≡ 0 → ⊥) → AnswerIs (record { code = c; number = 0 }) code n

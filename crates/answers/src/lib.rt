@@ -39,7 +39,8 @@ ghost use Rattle.tables.specs.Tables.{st};
 ghost use Rattle.tables.specs.Holds.{Holds};
 ghost use Rattle.checks.specs.Held.{HoldsV, HoldsE};
 ghost use Rattle.commands.specs.declared.Question.the-variants as ask;
-ghost use Rattle.commands.specs.Meaning.{questionCode, questionNumber};
+ghost use Rattle.machine.specs.Codes.{questionCode};
+ghost use Rattle.machine.specs.Machine.{questionNumber};
 ghost use Rattle.answers.specs.AnswerIs.{AnswerIs, EdgeLimit};
 
 // Code 0 and a number, or the code of a refusal and 0.

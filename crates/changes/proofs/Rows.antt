@@ -20,7 +20,7 @@ use Rattle.graph.proofs.Lists.{ordered-list}
 use Rattle.graph.proofs.EdgesAt.{first-there, edges-none, removals-vertices}
 use Rattle.graph.proofs.ChangeLaws.{Kind, deletion, single, kind?, edits-cost, edits-apply, change-is, edits-in, deletion-step}
 use Rattle.history.specs.Machine.{Timeline, current, extended}
-use Rattle.history.specs.Rules.{stepOf}
+use Rattle.history.specs.Machine.{stepOf}
 use Rattle.tables.specs.Tables.{State, VIn, EIn, vfirst}
 use Rattle.tables.specs.Holds.{Holds}
 use Rattle.tables.specs.Capacities.{Sized}

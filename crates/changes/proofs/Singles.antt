@@ -7,7 +7,7 @@ use types.Run.{OneOf, miss}
 use denote.Enum.Declared.{tagOf}
 use Rattle.graph.proofs.Change.{the-type}
 use Rattle.graph.specs.declared.Change.{Change}
-use Rattle.graph.specs.declared.Change.the-variants.{DeleteVertex}
+use Rattle.graph.specs.declared.Change.the-variants.{CreateVertex, DeleteVertex, CreateEdge, DeleteEdge, RetypeVertex, RetypeEdge, SetValue, SetReading, SetAlpha, SetOmega, VertexBefore, VertexAfter, EdgeBefore, EdgeAfter, WordBefore, WordAfter}
 use Rattle.graph.specs.Graph.{Graph}
 use Rattle.graph.specs.WellFormed.{Bounds}
 use Rattle.graph.specs.Changes.{cost, VertexThere, Allowed}
@@ -17,6 +17,7 @@ use Rattle.tables.specs.Tables.{State, ilane, endsAt}
 use Rattle.tables.specs.Holds.{Holds}
 use Rattle.tables.specs.Capacities.{Sized}
 use Rattle.tables.proofs.Frames.{valid-i}
+use Rattle.queries.specs.Plans.{OneEdit}
 use Rattle.queries.specs.Walks.{CanWalk, countedAt, edgeCount}
 use Rattle.queries.proofs.Answers.{can-walk}
 use Rattle.queries.proofs.ListWalks.{sum-few}
@@ -37,6 +38,24 @@ single-by c k = go (kind? c) k
     go : {d : Change} → Kind d → OneOf others (tagOf the-type d) → Single d
     go (deletion a) k = absurd (miss others 1 tt k)
     go (single e f) k = record { none = e; one = f }
+
+pub one-edit-by : (c : Change) → OneOf others (tagOf the-type c) → OneEdit c
+one-edit-by (CreateVertex n t x) i = tt
+one-edit-by (DeleteVertex a) i = absurd (miss others 1 tt i)
+one-edit-by (CreateEdge n a o t) i = tt
+one-edit-by (DeleteEdge a) i = tt
+one-edit-by (RetypeVertex a t) i = tt
+one-edit-by (RetypeEdge a t) i = tt
+one-edit-by (SetValue a x) i = tt
+one-edit-by (SetReading a k d) i = tt
+one-edit-by (SetAlpha e v) i = tt
+one-edit-by (SetOmega e v) i = tt
+one-edit-by (VertexBefore a b) i = tt
+one-edit-by (VertexAfter a b) i = tt
+one-edit-by (EdgeBefore a b) i = tt
+one-edit-by (EdgeAfter a b) i = tt
+one-edit-by (WordBefore a b) i = tt
+one-edit-by (WordAfter a b) i = tt
 
 -- ---- costs
 

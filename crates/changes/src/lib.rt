@@ -10,7 +10,7 @@ ghost use Rattle.graph.specs.Graph.{Graph};
 ghost use Rattle.graph.specs.WellFormed.{Bounds};
 ghost use Rattle.graph.specs.Changes.{cost, Allowed};
 ghost use Rattle.history.specs.Machine.{Timeline, current, extended};
-ghost use Rattle.history.specs.Rules.{stepOf};
+ghost use Rattle.history.specs.Machine.{stepOf};
 ghost use Rattle.tables.specs.Tables.{st};
 ghost use Rattle.tables.specs.Holds.{Holds};
 ghost use Rattle.tables.specs.Capacities.{Sized};

@@ -1,5 +1,4 @@
 // Codes 2 to 9 of a change, read off the tables: the lowest that applies, 0 where none does.
-use graph::Change;
 use tables::Lookup;
 use tables::lookups::find_edge;
 use tables::lookups::find_vertex;
@@ -13,10 +12,9 @@ ghost use lib.ListN.{length};
 ghost use Rattle.lists.specs.Choice.{_⇒_else_, _==_, within};
 ghost use Rattle.graph.specs.Graph.{Graph, hasVertex, hasEdge, edgeOf, isReading};
 ghost use Rattle.graph.specs.Graph as chart;
-ghost use Rattle.tables.specs.Capacities.{boundsOf};
 ghost use Rattle.tables.specs.Tables.{foundV, foundE, vertexCode, edgeCode};
-ghost use Rattle.commands.specs.Meaning.{lacksVertex, lacksEdge, changeCode};
-ghost use Rattle.checks.specs.Held.{HoldsV, HoldsE, HoldsVE, ChangeFits};
+ghost use Rattle.machine.specs.Codes.{lacksVertex, lacksEdge};
+ghost use Rattle.checks.specs.Held.{HoldsV, HoldsE, HoldsVE};
 
 // Code 4: a vertex that is named.
 pub fn vertex_code(vt: &[u32], v: u32) -> u32
@@ -159,7 +157,7 @@ pub fn words_code(et: &[u32], a: u32, b: u32) -> u32
 }
 
 // Kind 1: codes 2, 3, 6.
-fn create_vertex(vt: &[u32], types: u32, n: u32, t: u32) -> u32
+pub fn create_vertex(vt: &[u32], types: u32, n: u32, t: u32) -> u32
     ensures { λ r. ⌜ ((g : Graph) → HoldsV (now (vt .entry)) g → r ≡ (not (within 1 (length (now (vt .entry)) / 8) n) ⇒ 2 else hasVertex g n ⇒ 3 else leb types t ⇒ 6 else 0)) ⌝ }
 {
     let code1 = number_code(vt.len() / 8, n);
@@ -174,7 +172,7 @@ fn create_vertex(vt: &[u32], types: u32, n: u32, t: u32) -> u32
 }
 
 // Kind 3: codes 2, 3, 4, 6.
-fn create_edge(vt: &[u32], et: &[u32], types: u32, n: u32, x: u32, y: u32, t: u32) -> u32
+pub fn create_edge(vt: &[u32], et: &[u32], types: u32, n: u32, x: u32, y: u32, t: u32) -> u32
     ensures { λ r. ⌜ ((g : Graph) → HoldsVE (now (vt .entry)) (now (et .entry)) g → r ≡ (not (within 1 (length (now (et .entry)) / 12) n) ⇒ 2 else hasEdge g n ⇒ 3 else (lacksVertex g x || lacksVertex g y) ⇒ 4 else leb types t ⇒ 6 else 0)) ⌝ }
 {
     let code1 = number_code(et.len() / 12, n);
@@ -193,7 +191,7 @@ fn create_edge(vt: &[u32], et: &[u32], types: u32, n: u32, x: u32, y: u32, t: u3
 }
 
 // Kind 5: codes 4, 6.
-fn retype_vertex(vt: &[u32], types: u32, n: u32, t: u32) -> u32
+pub fn retype_vertex(vt: &[u32], types: u32, n: u32, t: u32) -> u32
     ensures { λ r. ⌜ ((g : Graph) → HoldsV (now (vt .entry)) g → r ≡ (lacksVertex g n ⇒ 4 else leb types t ⇒ 6 else 0)) ⌝ }
 {
     let code1 = vertex_code(vt, n);
@@ -204,7 +202,7 @@ fn retype_vertex(vt: &[u32], types: u32, n: u32, t: u32) -> u32
 }
 
 // Kind 6: codes 5, 6.
-fn retype_edge(et: &[u32], types: u32, n: u32, t: u32) -> u32
+pub fn retype_edge(et: &[u32], types: u32, n: u32, t: u32) -> u32
     ensures { λ r. ⌜ ((g : Graph) → HoldsE (now (et .entry)) g → r ≡ (lacksEdge g n ⇒ 5 else leb types t ⇒ 6 else 0)) ⌝ }
 {
     let code1 = edge_code(et, n);
@@ -215,7 +213,7 @@ fn retype_edge(et: &[u32], types: u32, n: u32, t: u32) -> u32
 }
 
 // Kind 8: codes 5, 7.
-fn set_reading(et: &[u32], n: u32, k: u32, d: u32) -> u32
+pub fn set_reading(et: &[u32], n: u32, k: u32, d: u32) -> u32
     ensures { λ r. ⌜ ((g : Graph) → HoldsE (now (et .entry)) g → r ≡ (lacksEdge g n ⇒ 5 else not (isReading k d) ⇒ 7 else 0)) ⌝ }
 {
     let code1 = edge_code(et, n);
@@ -226,7 +224,7 @@ fn set_reading(et: &[u32], n: u32, k: u32, d: u32) -> u32
 }
 
 // Kinds 9 and 10: codes 4, 5.
-fn set_end(vt: &[u32], et: &[u32], n: u32, v: u32) -> u32
+pub fn set_end(vt: &[u32], et: &[u32], n: u32, v: u32) -> u32
     ensures { λ r. ⌜ ((g : Graph) → HoldsVE (now (vt .entry)) (now (et .entry)) g → r ≡ (lacksVertex g v ⇒ 4 else lacksEdge g n ⇒ 5 else 0)) ⌝ }
 {
     let code1 = vertex_code(vt, v);
@@ -237,7 +235,7 @@ fn set_end(vt: &[u32], et: &[u32], n: u32, v: u32) -> u32
 }
 
 // Kinds 11 and 12: codes 4, 9.
-fn order_vertices(vt: &[u32], x: u32, y: u32) -> u32
+pub fn order_vertices(vt: &[u32], x: u32, y: u32) -> u32
     ensures { λ r. ⌜ ((g : Graph) → HoldsV (now (vt .entry)) g → r ≡ ((lacksVertex g x || lacksVertex g y) ⇒ 4 else (x == y) ⇒ 9 else 0)) ⌝ }
 {
     let code1 = vertices_code(vt, x, y);
@@ -248,7 +246,7 @@ fn order_vertices(vt: &[u32], x: u32, y: u32) -> u32
 }
 
 // Kinds 13 and 14: codes 5, 9.
-fn order_edges(et: &[u32], x: u32, y: u32) -> u32
+pub fn order_edges(et: &[u32], x: u32, y: u32) -> u32
     ensures { λ r. ⌜ ((g : Graph) → HoldsE (now (et .entry)) g → r ≡ ((lacksEdge g x || lacksEdge g y) ⇒ 5 else (x == y) ⇒ 9 else 0)) ⌝ }
 {
     let code1 = edges_code(et, x, y);
@@ -259,7 +257,7 @@ fn order_edges(et: &[u32], x: u32, y: u32) -> u32
 }
 
 // Kinds 15 and 16: codes 5, 8, 9.
-fn order_words(et: &[u32], x: u32, y: u32) -> u32
+pub fn order_words(et: &[u32], x: u32, y: u32) -> u32
     ensures { λ r. ⌜ ((g : Graph) → HoldsE (now (et .entry)) g → r ≡ ((lacksEdge g (edgeOf x) || lacksEdge g (edgeOf y)) ⇒ 5 else not (chart.this g x == chart.this g y) ⇒ 8 else (x == y) ⇒ 9 else 0)) ⌝ }
 {
     let code1 = words_code(et, x, y);
@@ -267,29 +265,4 @@ fn order_words(et: &[u32], x: u32, y: u32) -> u32
         return code1;
     }
     twice_code(x, y)
-}
-
-// The code of any change; types is their number.
-pub fn change_code(vt: &[u32], et: &[u32], types: u32, change: Change) -> u32
-    ensures { λ r. ⌜ ((g : Graph) → HoldsVE (now (vt .entry)) (now (et .entry)) g → r ≡ changeCode (boundsOf (now (vt .entry)) (now (et .entry)) types) g change) ⌝ }
-    ensures { λ r. ⌜ ChangeFits change ⌝ }
-{
-    match change {
-        Change::CreateVertex(n, t, _) => create_vertex(vt, types, n, t),
-        Change::DeleteVertex(a) => vertex_code(vt, a),
-        Change::CreateEdge(n, a, o, t) => create_edge(vt, et, types, n, a, o, t),
-        Change::DeleteEdge(a) => edge_code(et, a),
-        Change::RetypeVertex(a, t) => retype_vertex(vt, types, a, t),
-        Change::RetypeEdge(a, t) => retype_edge(et, types, a, t),
-        Change::SetValue(a, _) => vertex_code(vt, a),
-        Change::SetReading(a, k, d) => set_reading(et, a, k, d),
-        Change::SetAlpha(e, v) => set_end(vt, et, e, v),
-        Change::SetOmega(e, v) => set_end(vt, et, e, v),
-        Change::VertexBefore(a, b) => order_vertices(vt, a, b),
-        Change::VertexAfter(a, b) => order_vertices(vt, a, b),
-        Change::EdgeBefore(a, b) => order_edges(et, a, b),
-        Change::EdgeAfter(a, b) => order_edges(et, a, b),
-        Change::WordBefore(a, b) => order_words(et, a, b),
-        Change::WordAfter(a, b) => order_words(et, a, b),
-    }
 }

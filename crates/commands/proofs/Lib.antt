@@ -1,1 +1,1 @@
-pub mod MeaningLaws
+pub mod Fitting

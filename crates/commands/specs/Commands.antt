@@ -1,10 +1,27 @@
--- The command of a call, by its kind.
+-- The command of a call, by its kind, and the call that a command is.
 use Prim.Native.Nat.{ℕ}
-use mathlib.Core.List.{List}
 use lib.Dec.{leb}
-use lib.ListN.{getD}
 use Rattle.lists.specs.Choice.{_⇒_else_, _==_}
-use Rattle.machine.specs.Calls.{Call, changeOf}
+use Rattle.graph.specs.declared.Change.{Change}
+use Rattle.graph.specs.declared.Change.the-variants.{
+  CreateVertex,
+  DeleteVertex,
+  CreateEdge,
+  DeleteEdge,
+  RetypeVertex,
+  RetypeEdge,
+  SetValue,
+  SetReading,
+  SetAlpha,
+  SetOmega,
+  VertexBefore,
+  VertexAfter,
+  EdgeBefore,
+  EdgeAfter,
+  WordBefore,
+  WordAfter,
+}
+use Rattle.commands.specs.Calls.{Call, five}
 use Rattle.commands.specs.declared.HistoryCall.{HistoryCall}
 use Rattle.commands.specs.declared.HistoryCall.the-variants.{SetMark, DropMark, Undo, Redo, GoTo, Commit, Between, Standing, Free}
 use Rattle.commands.specs.declared.Question.{Question}
@@ -30,16 +47,45 @@ use Rattle.commands.specs.declared.Question.the-variants.{
   WordOrder,
   Below,
 }
+use Rattle.commands.specs.declared.PriceCall.{PriceCall}
 use Rattle.commands.specs.declared.PriceCall.the-variants.{Range, Grade}
 use Rattle.commands.specs.declared.Command.{Command}
 use Rattle.commands.specs.declared.Command.the-variants.{Alter, Recall, Ask, Quote, Unknown}
 
-abbrev pub five : ℕ → ℕ → ℕ → ℕ → ℕ → Call
-five k a b c d = record { kind = k; a = a; b = b; c = c; d = d }
+-- the change that a call of kind 1 to 16 asks for
+unfoldable pub changeOf : Call → Change
+changeOf x =
+    (k == 1) ⇒ CreateVertex a b c else
+    (k == 2) ⇒ DeleteVertex a else
+    (k == 3) ⇒ CreateEdge a b c d else
+    (k == 4) ⇒ DeleteEdge a else
+    (k == 5) ⇒ RetypeVertex a b else
+    (k == 6) ⇒ RetypeEdge a b else
+    (k == 7) ⇒ SetValue a b else
+    (k == 8) ⇒ SetReading a b c else
+    (k == 9) ⇒ SetAlpha a b else
+    (k == 10) ⇒ SetOmega a b else
+    (k == 11) ⇒ VertexBefore a b else
+    (k == 12) ⇒ VertexAfter a b else
+    (k == 13) ⇒ EdgeBefore a b else
+    (k == 14) ⇒ EdgeAfter a b else
+    (k == 15) ⇒ WordBefore a b else
+    WordAfter a b
+  where
+    k : ℕ
+    k = x .kind
 
--- "A call is five words: kind, a, b, c, d."
-abbrev pub callAt : List ℕ → Call
-callAt ws = five (getD ws 0 0) (getD ws 1 0) (getD ws 2 0) (getD ws 3 0) (getD ws 4 0)
+    a : ℕ
+    a = x .a
+
+    b : ℕ
+    b = x .b
+
+    c : ℕ
+    c = x .c
+
+    d : ℕ
+    d = x .d
 
 unfoldable pub historyOf : ℕ → ℕ → ℕ → HistoryCall
 historyOf k a b =
@@ -92,3 +138,68 @@ commandOf x =
   where
     k : ℕ
     k = x .kind
+
+-- ---- the words of a command: its kind, what it reads, and 0 for the rest: "Unused words are ignored."
+
+abbrev pub changeCall : Change → Call
+changeCall (CreateVertex n t x) = five 1 n t x 0
+changeCall (DeleteVertex a) = five 2 a 0 0 0
+changeCall (CreateEdge n a o t) = five 3 n a o t
+changeCall (DeleteEdge a) = five 4 a 0 0 0
+changeCall (RetypeVertex a t) = five 5 a t 0 0
+changeCall (RetypeEdge a t) = five 6 a t 0 0
+changeCall (SetValue a x) = five 7 a x 0 0
+changeCall (SetReading a k d) = five 8 a k d 0
+changeCall (SetAlpha e v) = five 9 e v 0 0
+changeCall (SetOmega e v) = five 10 e v 0 0
+changeCall (VertexBefore a b) = five 11 a b 0 0
+changeCall (VertexAfter a b) = five 12 a b 0 0
+changeCall (EdgeBefore a b) = five 13 a b 0 0
+changeCall (EdgeAfter a b) = five 14 a b 0 0
+changeCall (WordBefore a b) = five 15 a b 0 0
+changeCall (WordAfter a b) = five 16 a b 0 0
+
+abbrev pub historyCall : HistoryCall → Call
+historyCall (SetMark a) = five 17 a 0 0 0
+historyCall (DropMark a) = five 18 a 0 0 0
+historyCall Undo = five 19 0 0 0 0
+historyCall Redo = five 20 0 0 0 0
+historyCall (GoTo a) = five 21 a 0 0 0
+historyCall Commit = five 22 0 0 0 0
+historyCall (Between a b) = five 49 a b 0 0
+historyCall Standing = five 50 0 0 0 0
+historyCall Free = five 51 0 0 0 0
+
+abbrev pub questionCall : Question → Call
+questionCall FirstVertex = five 30 0 0 0 0
+questionCall (NextVertex a) = five 31 a 0 0 0
+questionCall FirstEdge = five 32 0 0 0 0
+questionCall (NextEdge a) = five 33 a 0 0 0
+questionCall (FirstWord a) = five 34 a 0 0 0
+questionCall (NextWord a) = five 35 a 0 0 0
+questionCall (Alpha a) = five 36 a 0 0 0
+questionCall (Omega a) = five 37 a 0 0 0
+questionCall (This a) = five 38 a 0 0 0
+questionCall (That a) = five 39 a 0 0 0
+questionCall (VertexType a) = five 40 a 0 0 0
+questionCall (EdgeType a) = five 41 a 0 0 0
+questionCall (Value a) = five 42 a 0 0 0
+questionCall (ReadingKind a) = five 43 a 0 0 0
+questionCall (Decimetres a) = five 44 a 0 0 0
+questionCall (Degree a t c) = five 45 a t c 0
+questionCall (VertexOrder a b) = five 46 a b 0 0
+questionCall (EdgeOrder a b) = five 47 a b 0 0
+questionCall (WordOrder a b) = five 48 a b 0 0
+questionCall (Below s t) = five 52 s t 0 0
+
+abbrev pub priceCall : PriceCall → Call
+priceCall (Range a b) = five 53 a b 0 0
+priceCall (Grade a b) = five 54 a b 0 0
+
+-- kind 0 is not named
+abbrev pub callOf : Command → Call
+callOf (Alter c) = changeCall c
+callOf (Recall h) = historyCall h
+callOf (Ask q) = questionCall q
+callOf (Quote p) = priceCall p
+callOf Unknown = five 0 0 0 0 0

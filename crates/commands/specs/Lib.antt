@@ -1,2 +1,4 @@
+pub mod Calls
+pub mod Tables
 pub mod Commands
-pub mod Meaning
+pub mod Fits

@@ -2,8 +2,8 @@
 use graph::Change;
 ghost use mathlib.Core.Path.{_≡_};
 ghost use lib.ListN.{length};
-ghost use Rattle.machine.specs.Calls.{changeOf};
-ghost use Rattle.commands.specs.Commands.{callAt, five, historyOf, questionOf, commandOf};
+ghost use Rattle.commands.specs.Calls.{callAt, five};
+ghost use Rattle.commands.specs.Commands.{changeOf, historyOf, questionOf, commandOf};
 
 // Kinds 17 to 22 and 49 to 51.
 pub enum HistoryCall {

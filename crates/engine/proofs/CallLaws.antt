@@ -10,14 +10,15 @@ use Rattle.lists.specs.Lists.{over}
 use Rattle.history.specs.Machine.{Machine}
 use Rattle.versions.specs.declared.Version.{Version}
 use Rattle.versions.specs.declared.Done.{Done}
-use Rattle.machine.specs.Calls.{Call, Parameters, callsOf}
+use Rattle.commands.specs.Calls.{Call, callsOf}
+use Rattle.machine.specs.Calls.{Parameters}
 use Rattle.machine.specs.Machine.{Answer, answer, answers, step, last}
 use Rattle.machine.specs.Run.{answerWords}
 use Rattle.machine.proofs.Whole.{answered, calls-length, answers-length}
 use Rattle.commands.specs.declared.Command.{Command}
-use Rattle.commands.specs.Commands.{callAt, commandOf}
-use Rattle.commands.specs.Meaning.{answerTo, stepTo}
-use Rattle.commands.proofs.MeaningLaws.{answer-means, step-means}
+use Rattle.commands.specs.Calls.{callAt}
+use Rattle.commands.specs.Commands.{commandOf}
+use Rattle.machine.specs.Machine.{answerTo, stepTo}
 use Rattle.engine.specs.Running.{Running, Answered}
 use Rattle.engine.specs.Calls.{AfterCalls}
 
@@ -87,9 +88,9 @@ module _ (w : Parameters) (m : Machine) (x : Version) (vt et t places closed : L
   after-calls-one xs call c d vt′ et′ t′ places′ h e f long =
       let now = last w m xs in
       let g = f w now (h .stands) in
-      let a : answerTo w now c ≡ answer w now call = ap (answerTo w now) e ∙ sym (answer-means w now call) in
+      let a : answerTo w now c ≡ answer w now call = ap (answerTo w now) e in
       let s : stepTo w now c ≡ last w m (xs ++ (call ∷ [])) =
-      ap (stepTo w now) e ∙ sym (step-means w now call) ∙ sym (last-more w m xs call) in
+      ap (stepTo w now) e ∙ sym (last-more w m xs call) in
       let code : d .code ≡ answer w now call .code = g .coded ∙ ap (λ (r : Answer). r .code) a in
       let number : d .number ≡ answer w now call .number = g .numbered ∙ ap (λ (r : Answer). r .number) a in
       let A = answerWords (answers w m xs) in

@@ -3,4 +3,3 @@ pub mod CallLaws
 pub mod RunLaws
 pub mod Demand
 pub mod StepLaws
-pub mod Allows

@@ -20,7 +20,8 @@ use Rattle.versions.proofs.Present as versions
 use Rattle.store.specs.Words.{CanSave}
 use Rattle.store.specs.Filling.{CanLoad}
 use Rattle.store.proofs.Laws.{within-loaded, can-save, Saved}
-use Rattle.machine.specs.Calls.{Parameters, boundsIn, callsOf}
+use Rattle.machine.specs.Calls.{Parameters, boundsIn}
+use Rattle.commands.specs.Calls.{callsOf}
 use Rattle.machine.specs.Machine.{last}
 use Rattle.machine.specs.Run.{Lent, RunResult, parametersOf, listRefusal, accepted, refused, run}
 use Rattle.machine.proofs.ListRows.{Passed, passed}

@@ -1,40 +1,49 @@
 -- The machine's answer to a command, from what the crates below say of its rule, code, reply or price.
-use Prim.Native.Nat.{ℕ, _/_}
+use Prim.Native.Nat.{ℕ, _+_, _-_, _*_, _/_, _^_, _≤_, _<_}
 use mathlib.Core.Path.{_≡_, refl, sym, ap, _∙_, subst}
-use mathlib.Core.Bool.{Bool, true, false, _||_}
+use mathlib.Core.Logic.{_≢_}
+use mathlib.Core.Bool.{Bool, true, false}
 use mathlib.Core.List.{List}
 use lib.ListN.{length}
-use borrow.Author.Tests.{ne-eqb, not-false}
+use borrow.Author.Tests.{ne-eqb, eqb-true, eqb-false, lt-ltb, le-ltb}
+use lib.Dec.{ltb}
 use native.Mathlib.Omega.{arith}
 use Rattle.lists.specs.Choice.{_⇒_else_, _==_}
 use Rattle.graph.specs.declared.Change.{Change}
-use Rattle.graph.specs.Graph.{Graph, hasVertex}
+use Rattle.graph.specs.Graph.{Graph}
 use Rattle.graph.specs.WellFormed.{Bounds, WellFormed}
-use Rattle.graph.specs.Changes.{VertexThere, Allowed}
-use Rattle.graph.proofs.Numbers.{vertex-once}
-use Rattle.tables.specs.Tables.{st}
+use Rattle.graph.specs.Changes.{Allowed, cost}
+use Rattle.tables.specs.Tables.{State, st}
 use Rattle.tables.specs.Holds.{Holds}
 use Rattle.tables.specs.Capacities.{Sized, boundsOf}
-use Rattle.pricing.specs.Prices.{nothingHeard, twoWay, gradeOf, grade}
-use Rattle.prices.specs.declared.Price.{Price}
-use Rattle.prices.specs.Ways.{priceOf}
+use Rattle.queries.specs.Plans.{OneEdit}
+use Rattle.queries.proofs.PlanLaws.{one-edit}
+use Rattle.singles.specs.One.{Stands, One, Makes, withRoom}
+use Rattle.singles.proofs.OneLaws.{no-code, some-room}
 use Rattle.versions.specs.declared.Version.{Version}
+use Rattle.versions.specs.declared.Done.{Done}
 use Rattle.versions.specs.Represents.{Represents, Follows}
+use Rattle.versions.proofs.Calls.{rows-fit}
+use Rattle.timeline.proofs.Steps.{journal-free, place-short}
 use Rattle.versions.proofs.Present.{holds-present, sound-present, sized-present}
 use Rattle.answers.specs.declared.Answer.{Answer as Reply}
 use Rattle.answers.specs.AnswerIs.{AnswerIs}
-use Rattle.history.specs.Machine.{Machine, present}
-use Rattle.history.specs.Rules.{Obeys, followed, changing}
+use Rattle.history.specs.Machine.{Machine, present, freeOf}
+use Rattle.machine.specs.HistoryCodes.{tooDear}
+use Rattle.machine.specs.Rules.{nothing, effected, Rule, Obeys, followed, changeRule, historyRule}
 use Rattle.machine.specs.Calls.{Parameters, boundsIn}
+use Rattle.commands.specs.declared.HistoryCall.{HistoryCall}
 use Rattle.commands.specs.declared.Question.{Question}
-use Rattle.commands.specs.declared.PriceCall.the-variants.{Range, Grade}
+use Rattle.commands.specs.declared.PriceCall.{PriceCall}
 use Rattle.commands.specs.declared.Command.{Command}
-use Rattle.commands.specs.declared.Command.the-variants.{Alter, Ask, Quote}
-use Rattle.commands.specs.Meaning.{lacksVertex, changeCode, questionCode, questionNumber, priceCode, ruleOf, answerTo, stepTo}
-use Rattle.checks.specs.Held.{HoldsVE, ChangeFits}
-use Rattle.checks.proofs.Codes.{stops, passes}
-use Rattle.engine.specs.Running.{Setting, Running, Answered, Priced}
-use Rattle.engine.proofs.Allows.{allows}
+use Rattle.commands.specs.declared.Command.the-variants.{Alter, Recall, Ask, Quote, Unknown}
+use Rattle.machine.specs.Codes.{refusal, changeCode, questionCode, priceCode}
+use Rattle.machine.specs.Machine.{deedOf, questionNumber, priceNumber, ruleOf, answerTo, stepTo}
+use Rattle.commands.specs.Fits.{ChangeFits}
+use Rattle.checks.specs.Held.{HoldsVE}
+use Rattle.engine.specs.Running.{Setting, Running, Answered, Stays}
+use Rattle.machine.proofs.Allows.{allows}
+use Rattle.machine.proofs.Families.{orElse, change-refusal, history-refusal, question-refusal, price-refusal}
 
 -- the capacities stand with the tables
 setting-of : (w : Parameters) (x : Version) (vt et t vt′ et′ t′ places closed : List ℕ) (types : ℕ) (m : Machine) → Setting w vt et t closed types →
@@ -55,6 +64,23 @@ setting-of w x vt et t vt′ et′ t′ places closed types m s l h =
 bounds-are : (w : Parameters) (vt et t closed : List ℕ) (types : ℕ) → Setting w vt et t closed types → boundsOf vt et types ≡ boundsIn w
 bounds-are w vt et t closed types s = λ i. record { vertices = sym (s .vertices) i; edges = sym (s .edges) i; types = s .types-in i }
 
+-- no room for one row
+room-test : (free n k : ℕ) → n ≡ free → k ≡ 1 → (free == 0) ≡ ltb n k
+room-test free n k e i = go (free == 0) refl
+  where
+    go : (p : Bool) → (free == 0) ≡ p → p ≡ ltb n k
+    go true p = sym (lt-ltb n k (omega (arith, eqb-true free 0 p)))
+    go false p = let d = eqb-false free 0 p in sym (le-ltb n k (omega arith))
+
+-- a version that stays is rebuilt
+pub answered-by : (w : Parameters) (m : Machine) (c : Command) (vt et t places closed : List ℕ) (types : ℕ) {d d′ : Done} → d ≡ d′ → Answered w m c (d′ .version) (d′ .code) (d′ .number) vt et t places closed types
+    → Answered w m c (d .version) (d .code) (d .number) vt et t places closed types
+answered-by w m c vt et t places closed types e a = subst (λ (z : Done). Answered w m c (z .version) (z .code) (z .number) vt et t places closed types) (sym e) a
+
+pub stays-by : (w : Parameters) (m : Machine) (c : Command) (vt et t places closed : List ℕ) (types : ℕ) {d d′ : Done} → d ≡ d′ → Answered w m c (d′ .version) (d′ .code) (d′ .number) vt et t places closed types
+    → Stays w m c (d′ .version) d vt et t places closed types
+stays-by w m c vt et t places closed types e a = (ap (λ (z : Done). z .version) e, answered-by w m c vt et t places closed types e a)
+
 module _ (w : Parameters) (m : Machine) (x : Version) (vt et t places closed : List ℕ) (types : ℕ) (h : Running w x vt et t places closed types m) where
   pub holds : Holds (st (x .current .head) vt et) (present m)
   holds = holds-present (boundsIn w) x vt et t places m (h .represents)
@@ -68,33 +94,39 @@ module _ (w : Parameters) (m : Machine) (x : Version) (vt et t places closed : L
   -- ---- any command
 
   -- a function that follows the command's rule answers it
-  pub follows-answers : (c : Command) (x′ : Version) (code number : ℕ) (vt′ et′ t′ places′ : List ℕ) → length t′ ≡ length t →
-      Follows (ruleOf w c) m (boundsIn w) x′ code number vt′ et′ t′ places′ → Answered w m c x′ code number vt′ et′ t′ places′ closed types
+  pub follows-answers : (c : Command) (r : Rule) → refusal w m c ≡ r .code m → deedOf w c m ≡ r .deed m → (x′ : Version) (code number : ℕ) (vt′ et′ t′ places′ : List ℕ) → length t′ ≡ length t →
+      Follows r m (boundsIn w) x′ code number vt′ et′ t′ places′ → Answered w m c x′ code number vt′ et′ t′ places′ closed types
   unfolding answerTo stepTo
-  follows-answers c x′ code number vt′ et′ t′ places′ l f = record {
-    coded = f .obeys .coded;
-    numbered = f .obeys .numbered;
-    stands = record {
-      setting = setting-of w x′ vt et t vt′ et′ t′ places′ closed types (followed (ruleOf w c) m) (h .setting) l (f .stands);
+  follows-answers c r e d x′ code number vt′ et′ t′ places′ l f = record {
+    coded = f .obeys .coded ∙ sym e;
+    numbered = f .obeys .numbered ∙ sym (λ i. (e i == 0) ⇒ d i .number else 0);
+    stands = subst (λ (n : Machine). Running w x′ vt′ et′ t′ places′ closed types n) (sym (λ i. (e i == 0) ⇒ effected (d i .effect) m else m)) (record {
+      setting = setting-of w x′ vt et t vt′ et′ t′ places′ closed types (followed r m) (h .setting) l (f .stands);
       represents = f .stands;
-    };
+    });
   }
 
+  -- a history call
+  pub recall-answers : (c : HistoryCall) (x′ : Version) (code number : ℕ) (vt′ et′ t′ places′ : List ℕ) → length t′ ≡ length t →
+      Follows (historyRule (length t / 12) c) m (boundsIn w) x′ code number vt′ et′ t′ places′ → Answered w m (Recall c) x′ code number vt′ et′ t′ places′ closed types
+  recall-answers c x′ code number vt′ et′ t′ places′ l f =
+      follows-answers (Recall c) (historyRule (w .changes) c) (history-refusal w m c) refl x′ code number vt′ et′ t′ places′ l (rw (h .setting .changes) f)
+
   -- a function that only answers, by a rule whose machine stays
-  pub obeys-answers : (c : Command) (code number : ℕ) → ruleOf w c .next m ≡ m → Obeys (ruleOf w c) m code number → Answered w m c x code number vt et t places closed types
+  pub obeys-answers : (c : Command) (code number : ℕ) → deedOf w c m .effect ≡ nothing → Obeys (ruleOf w c) m code number → Answered w m c x code number vt et t places closed types
   unfolding answerTo stepTo
   obeys-answers c code number i o = record {
     coded = o .coded;
     numbered = o .numbered;
-    stands = subst (λ (n : Machine). Running w x vt et t places closed types n) (sym (pick (ruleOf w c .code m == 0))) h;
+    stands = subst (λ (n : Machine). Running w x vt et t places closed types n) (sym (pick (refusal w m c == 0))) h;
   }
     where
-      pick : (t : Bool) → (t ⇒ ruleOf w c .next m else m) ≡ m
-      pick true = i
+      pick : (t : Bool) → (t ⇒ effected (deedOf w c m .effect) m else m) ≡ m
+      pick true = λ j. effected (i j) m
       pick false = refl
 
   -- a command that is refused by a code, whatever it is
-  refused-answers : (c : Command) (code : ℕ) → code ≡ ruleOf w c .code m → (code ≡ 0 → ⊥) → Answered w m c x code 0 vt et t places closed types
+  refused-answers : (c : Command) (code : ℕ) → code ≡ refusal w m c → (code ≡ 0 → ⊥) → Answered w m c x code 0 vt et t places closed types
   unfolding answerTo stepTo
   refused-answers c code e d = let z = ne-eqb code 0 d in record { coded = e; numbered = rw (← e, z); stands = rw (← e, z) h }
 
@@ -105,18 +137,67 @@ module _ (w : Parameters) (m : Machine) (x : Version) (vt et t places closed : L
     code-of = e (present m) (x .current .head, holds) ∙ ap (λ (b : Bounds). changeCode b (present m) c) (bounds-are w vt et t closed types (h .setting))
 
     pub alter-refused : (k ≡ 0 → ⊥) → Answered w m (Alter c) x k 0 vt et t places closed types
-    alter-refused d = refused-answers (Alter c) k (rw (← code-of, ne-eqb k 0 d)) d
+    alter-refused d = refused-answers (Alter c) k (sym (change-refusal w m c ∙ rw (← code-of, ne-eqb k 0 d))) d
 
     pub alter-allowed : k ≡ 0 → ChangeFits c → Allowed (boundsIn w) (present m) c
     alter-allowed z f = allows (boundsIn w) (present m) sound c f (sym code-of ∙ z)
 
     pub alter-made : k ≡ 0 → (x′ : Version) (code number : ℕ) (vt′ et′ t′ : List ℕ) → length t′ ≡ length t →
-        Follows (changing (length t / 12) c) m (boundsIn w) x′ code number vt′ et′ t′ places → Answered w m (Alter c) x′ code number vt′ et′ t′ places closed types
+        Follows (changeRule (length t / 12) c) m (boundsIn w) x′ code number vt′ et′ t′ places → Answered w m (Alter c) x′ code number vt′ et′ t′ places closed types
     alter-made z x′ code number vt′ et′ t′ l f =
-        let i = sym code-of ∙ z in
-        let j : Follows (changing (w .changes) c) m (boundsIn w) x′ code number vt′ et′ t′ places = rw (h .setting .changes) f in
-        follows-answers (Alter c) x′ code number vt′ et′ t′ places l
-        (record { obeys = record { coded = rw i (j .obeys .coded); numbered = rw i (j .obeys .numbered) }; stands = rw i (j .stands) })
+        follows-answers (Alter c) (changeRule (w .changes) c)
+        (change-refusal w m c ∙ ap (λ (n : ℕ). orElse n (tooDear (w .changes) m c ⇒ 10 else 0)) (sym code-of ∙ z)) refl
+        x′ code number vt′ et′ t′ places l (rw (h .setting .changes) f)
+
+  -- ---- a change of one edit
+
+  pub stands-now : Stands types (st (x .current .head) vt et)
+  stands-now = record { graph = present m; holds = holds; sized = subst (λ (b : Bounds). Sized b (st (x .current .head) vt et)) (sym (bounds-are w vt et t closed types (h .setting))) sized }
+
+  pub used-fits : x .current .position .used ≤ length t / 12
+  used-fits = rows-fit (boundsIn w) x vt et t places m (h .represents)
+
+  pub place-fits : x .current .position .place + 1 < 2 ^ 32
+  place-fits = omega (arith, place-short (boundsIn w) (x .current .position) (st (x .current .head) vt et) t (m .line) (h .represents .journal), h .represents .journal .rows .short)
+
+  pub row-fits : x .current .position .used + 1 < 2 ^ 32
+  row-fits = omega (arith, used-fits, h .represents .journal .rows .short)
+
+  pub row-room : (free : ℕ) → free ≡ length t / 12 - x .current .position .used → free ≢ 0 → 12 * x .current .position .used + 12 ≤ length t
+  row-room free q n = omega (arith, q, n)
+
+  module _ (c : Change) (o : OneEdit c) (free k n : ℕ) (q : free ≡ length t / 12 - x .current .position .used) (s′ : State) (t′ : List ℕ)
+      (r : One c types (x .current .position .used) free (st (x .current .head) vt et) t k n s′ t′) where
+    single-code : k ≡ refusal w m (Alter c)
+    single-code =
+        let f = journal-free (boundsIn w) (x .current .position) (st (x .current .head) vt et) t (m .line) (length t / 12) (h .represents .journal) in
+        let e : freeOf (w .changes) (m .line) ≡ free = ap (λ (y : ℕ). freeOf y (m .line)) (h .setting .changes) ∙ sym f ∙ sym q in
+        let i = room-test free (freeOf (w .changes) (m .line)) (cost c (present m)) e (one-edit c o (present m) .1) in
+        r .answers (present m) (x .current .head, holds) ∙ ap (λ (b : Bounds). withRoom free (changeCode b (present m) c)) (bounds-are w vt et t closed types (h .setting))
+        ∙ ap (λ (p : Bool). (changeCode (boundsIn w) (present m) c == 0) ⇒ (p ⇒ 10 else 0) else changeCode (boundsIn w) (present m) c) i
+        ∙ sym (change-refusal w m c)
+
+    pub single-refused : k ≢ 0 → Answered w m (Alter c) x k 0 (s′ .vt) (s′ .et) t′ places closed types
+    single-refused d =
+        let a = refused-answers (Alter c) k single-code d in
+        let b = subst (λ (z : State). Answered w m (Alter c) x k 0 (z .vt) (z .et) t places closed types) (sym (r .stays d)) a in
+        subst (λ (z : List ℕ). Answered w m (Alter c) x k 0 (s′ .vt) (s′ .et) z places closed types) (sym (r .keeps d)) b
+
+    module _ (z : k ≡ 0) where
+      pub single-room : x .current .position .used + 1 ≤ length t / 12
+      single-room =
+          let d = some-room free (changeCode (boundsOf vt et types) (present m) c) (sym (r .answers (present m) (x .current .head, holds)) ∙ z) in
+          omega (arith, q, d)
+
+      coded : (g : Graph) → HoldsVE vt et g → 0 ≡ changeCode (boundsOf vt et types) g c
+      coded g y = sym (no-code free (changeCode (boundsOf vt et types) g c) (sym (r .answers g y) ∙ z))
+
+      pub single-allowed : Allowed (boundsIn w) (present m) c
+      single-allowed = alter-allowed c 0 coded refl (r .fits)
+
+      pub single-made : (x′ : Version) (code number : ℕ) → length t′ ≡ length t →
+          Follows (changeRule (length t / 12) c) m (boundsIn w) x′ code number (s′ .vt) (s′ .et) t′ places → Answered w m (Alter c) x′ code number (s′ .vt) (s′ .et) t′ places closed types
+      single-made x′ code number l f = alter-made c 0 coded refl x′ code number (s′ .vt) (s′ .et) t′ l f
 
   -- ---- a question
 
@@ -124,44 +205,21 @@ module _ (w : Parameters) (m : Machine) (x : Version) (vt et t places closed : L
       Answered w m (Ask q) x (r .code) (r .number) vt et t places closed types
   ask-answers q r d =
       let e = rw (h .setting .types-in) at d in
-      obeys-answers (Ask q) (r .code) (r .number) refl (record { coded = e .coded; numbered = e .numbered })
+      let f = question-refusal w m q in
+      obeys-answers (Ask q) (r .code) (r .number) refl
+      (record { coded = e .coded ∙ sym f; numbered = e .numbered ∙ sym (λ i. (f i == 0) ⇒ questionNumber (w .rows) (present m) q else 0) })
 
   -- ---- the price list
 
-  pub range-answers : (a b : ℕ) (r : Price) → Priced (present m) a b r → Answered w m (Quote (Range a b)) x (r .code) (r .range) vt et t places closed types
-  range-answers a b r d = obeys-answers (Quote (Range a b)) (r .code) (r .range) refl (record { coded = d .coded; numbered = d .ranged })
+  pub quote-answers : (p : PriceCall) (r : Reply) → AnswerIs r (priceCode (present m) p) (priceNumber (present m) p) →
+      Answered w m (Quote p) x (r .code) (r .number) vt et t places closed types
+  quote-answers p r e =
+      let f = price-refusal w m p in
+      obeys-answers (Quote p) (r .code) (r .number) refl
+      (record { coded = e .coded ∙ sym f; numbered = e .numbered ∙ sym (λ i. (f i == 0) ⇒ priceNumber (present m) p else 0) })
 
-  pub grade-answers : (a b n : ℕ) (r : Price) → Priced (present m) a b r → n ≡ gradeOf (r .range) → Answered w m (Quote (Grade a b)) x (r .code) n vt et t places closed types
-  unfolding grade
-  grade-answers a b n r d e =
-      obeys-answers (Quote (Grade a b)) (r .code) n refl
-      (record { coded = d .coded; numbered = e ∙ ap gradeOf (d .ranged) ∙ pick (priceCode (present m) (Range a b) == 0) })
-    where
-      pick : (t : Bool) → gradeOf (t ⇒ twoWay (present m) a b else 0) ≡ (t ⇒ gradeOf (twoWay (present m) a b) else 0)
-      pick true = refl
-      pick false = refl
+  -- ---- a kind that is not named
 
--- ---- codes 4 and 16
-
-module _ (g : Graph) (wf : WellFormed g) (a b c : ℕ) (e : c ≡ ((lacksVertex g a || lacksVertex g b) ⇒ 4 else 0)) where
-  pub both-there : c ≡ 0 → VertexThere g a × VertexThere g b
-  both-there z = go (lacksVertex g a) (lacksVertex g b) refl refl (sym e ∙ z)
-    where
-      go : (s t : Bool) → lacksVertex g a ≡ s → lacksVertex g b ≡ t → _≡_ {A = ℕ} ((s || t) ⇒ 4 else 0) 0 → VertexThere g a × VertexThere g b
-      go true t i j k = absurd (omega arith)
-      go false true i j k = absurd (omega arith)
-      go false false i j k = (vertex-once g a wf (not-false (hasVertex g a) i), vertex-once g b wf (not-false (hasVertex g b) j))
-
-  pub missing-priced : (c ≡ 0 → ⊥) → Priced g a b (record { code = c; range = 0 })
-  missing-priced d =
-      let i = stops (lacksVertex g a || lacksVertex g b) 4 c (nothingHeard g a b ⇒ 16 else 0) e d in
-      record { coded = i; ranged = rw (← i, ne-eqb c 0 d) }
-
-  pub there-priced : c ≡ 0 → (r : Price) → r ≡ priceOf g a b → Priced g a b r
-  there-priced z r q =
-      let i = passes (lacksVertex g a || lacksVertex g b) 4 c (nothingHeard g a b ⇒ 16 else 0) e (omega arith) z in
-      record { coded = ap (λ (p : Price). p .code) q ∙ sym i; ranged = rw i (ap (λ (p : Price). p .range) q ∙ pick (nothingHeard g a b)) }
-    where
-      pick : (t : Bool) → (t ⇒ 0 else twoWay g a b) ≡ (((t ⇒ 16 else 0) == 0) ⇒ twoWay g a b else 0)
-      pick true = refl
-      pick false = refl
+  pub unknown-answers : Answered w m Unknown x 1 0 vt et t places closed types
+  unfolding refusal
+  unknown-answers = refused-answers Unknown 1 refl (λ z. omega arith)

@@ -5,7 +5,8 @@ use mathlib.Core.List.{List}
 use Rattle.lists.specs.Lists.{over}
 use Rattle.history.specs.Machine.{Machine}
 use Rattle.versions.specs.declared.Version.{Version}
-use Rattle.machine.specs.Calls.{Call, Parameters}
+use Rattle.commands.specs.Calls.{Call}
+use Rattle.machine.specs.Calls.{Parameters}
 use Rattle.machine.specs.Machine.{answers, last}
 use Rattle.machine.specs.Run.{answerWords}
 use Rattle.engine.specs.Running.{Running}

@@ -1,3 +1,4 @@
+pub mod Slices
 pub mod Running
 pub mod Refusals
 pub mod Calls

@@ -1,9 +1,13 @@
 -- The result of a run and the words after it, as the specification of the run has them.
 use Prim.Native.Nat.{ℕ}
 use mathlib.Core.List.{List}
+use mathlib.Core.Path.{_≡_}
 use lib.ListN.{length}
-use Rattle.machine.specs.Run.{Lent, RunResult}
+use denote.Ref.{now}
+use Rattle.machine.specs.Demand.{Demand3}
+use Rattle.machine.specs.Run.{Lent, RunResult, listRefusal, run}
 use Rattle.engine.specs.declared.run.Outcome.{Outcome}
+use Rattle.engine.specs.Slices.{Slice}
 
 -- "Lent: start chart, type rows, calls, tables .., answers, end chart."
 abbrev pub lent : List ℕ → List ℕ → List ℕ → List ℕ → List ℕ → List ℕ → List ℕ → List ℕ → Lent
@@ -21,3 +25,25 @@ lent start rows calls vertices edges journal answers image = record {
 -- "The result has a code, the calls done and the words of end chart", with the two slices that a run writes
 abbrev pub runResult : Outcome → List ℕ → List ℕ → RunResult
 runResult r answers image = record { code = r .code; done = r .done; words = r .words; answers = answers; end = image }
+
+-- ---- for contracts: the lent slices by their names
+
+-- what is lent as the run begins
+abbrev pub given : Slice → Slice → Slice → Slice → Slice → Slice → Slice → Slice → Lent
+given start rows calls vertices edges journal answers image =
+    lent (now (start .entry)) (now (rows .entry)) (now (calls .entry)) (now (vertices .entry)) (now (edges .entry)) (now (journal .entry)) (now (answers .entry)) (now (image .entry))
+
+-- the result with the two slices as the run leaves them
+abbrev pub left : Outcome → Slice → Slice → RunResult
+left r answers image = runResult r (now (answers .exit)) (now (image .exit))
+
+abbrev pub Same : Slice → Type 0
+Same s = now (s .exit) ≡ now (s .entry)
+
+-- "A refused list .. writes nowhere": the tables
+abbrev pub Untouched : Lent → Slice → Slice → Slice → Type 0
+Untouched l vertices edges journal = (listRefusal l ≡ 0 → ⊥) → Same vertices × Same edges × Same journal
+
+-- a list that is not refused meets demand 3
+abbrev pub MeetsDemand3 : Lent → RunResult → Type 0
+MeetsDemand3 l r = listRefusal l ≡ 0 → Demand3 l r

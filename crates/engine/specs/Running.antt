@@ -4,21 +4,18 @@ use mathlib.Core.Path.{_≡_}
 use mathlib.Core.Bool.{true}
 use mathlib.Core.List.{List}
 use lib.ListN.{length}
+use denote.Ref.{RefT, now}
 use Rattle.types.specs.Rows.{goodRows}
 use Rattle.types.specs.Closure.{closureWords}
 use Rattle.history.specs.Machine.{Machine}
-use Rattle.lists.specs.Choice.{_⇒_else_, _==_}
-use Rattle.graph.specs.Graph.{Graph}
-use Rattle.pricing.specs.Prices.{twoWay}
-use Rattle.prices.specs.declared.Price.{Price}
-use Rattle.commands.specs.declared.PriceCall.the-variants.{Range}
 use Rattle.versions.specs.declared.Done.{Done}
 use Rattle.versions.specs.declared.Version.{Version}
 use Rattle.versions.specs.Represents.{Represents}
 use Rattle.machine.specs.Calls.{Parameters, boundsIn}
 use Rattle.machine.specs.Run.{Limits}
 use Rattle.commands.specs.declared.Command.{Command}
-use Rattle.commands.specs.Meaning.{priceCode, answerTo, stepTo}
+use Rattle.machine.specs.Machine.{answerTo, stepTo}
+use Rattle.engine.specs.Slices.{Slice}
 
 -- the tables' capacities, the types and the limits are those of w
 pub record Setting (w : Parameters) (vt et t : List ℕ) (closed : List ℕ) (types : ℕ) : Type 0 where
@@ -46,7 +43,15 @@ abbrev pub Stays : Parameters → Machine → Command → Version → Done → L
 Stays w m c x r vt et t places closed types =
     (r .version ≡ x) × Answered w m c (r .version) (r .code) (r .number) vt et t places closed types
 
--- code and range of the vertices a and b: a vertex may be missing, a way may have nothing heard
-pub record Priced (g : Graph) (a b : ℕ) (r : Price) : Type 0 where
-  pub coded : r .code ≡ priceCode g (Range a b)
-  pub ranged : r .range ≡ ((priceCode g (Range a b) == 0) ⇒ twoWay g a b else 0)
+-- ---- for contracts: the lent slices by their names
+
+-- some run stands at the lent words
+abbrev pub Stands : Version → RefT (List ℕ) → RefT (List ℕ) → RefT (List ℕ) → RefT (List ℕ) → RefT (List ℕ) → ℕ → Type 0
+Stands x vertices edges journal places closed types =
+    (w : Parameters) × (m : Machine) × Running w x (now vertices) (now edges) (now journal) (now places) (now closed) types m
+
+-- whatever run stood there, the answer is its machine's to the command, and so is what stands afterwards
+abbrev pub Performs : Command → Version → Done → Slice → Slice → Slice → Slice → Slice → ℕ → Type 0
+Performs c x r vertices edges journal places closed types =
+    (w : Parameters) → (m : Machine) → Running w x (now (vertices .entry)) (now (edges .entry)) (now (journal .entry)) (now (places .entry)) (now (closed .entry)) types m
+    → Answered w m c (r .version) (r .code) (r .number) (now (vertices .exit)) (now (edges .exit)) (now (journal .exit)) (now (places .exit)) (now (closed .entry)) types

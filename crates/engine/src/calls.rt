@@ -5,8 +5,9 @@ use versions::Version;
 ghost use Prim.Native.Nat.{_*_, _/_, _≤_};
 ghost use lib.ListN.{length};
 ghost use Rattle.history.specs.Machine.{Machine};
-ghost use Rattle.machine.specs.Calls.{Parameters, callsOf};
-ghost use Rattle.engine.specs.Running.{Running};
+ghost use Rattle.machine.specs.Calls.{Parameters};
+ghost use Rattle.commands.specs.Calls.{callsOf};
+ghost use Rattle.engine.specs.Running.{Running, Stands};
 ghost use Rattle.engine.specs.Calls.{AfterCalls};
 
 // Answers each call by two words, code and number.
@@ -21,7 +22,7 @@ pub fn each(
     calls: &[u32],
     answers: &mut [u32],
 ) -> Version
-    requires { ⌜ ((w : Parameters) × (m : Machine) × Running w x (now vt) (now et) (now t) (now places) (now closed) types m) ⌝ }
+    requires { ⌜ Stands x vt et t places closed types ⌝ }
     requires { ⌜ 2 * (length (now calls) / 5) ≤ length (now answers) ⌝ }
     ensures { λ r. ⌜ ((w : Parameters) → (m : Machine) → Running w x (now (vt .entry)) (now (et .entry)) (now (t .entry)) (now (places .entry)) (now (closed .entry)) types m
         → AfterCalls w m (callsOf (now (calls .entry))) r (now (vt .exit)) (now (et .exit)) (now (t .exit)) (now (places .exit)) (now (closed .entry)) types (now (answers .entry)) (now (answers .exit))) ⌝ }
@@ -32,7 +33,7 @@ pub fn each(
     while k < n {
         let command = decode(&calls[5 * k..5 * k + 5]);
         let done = step(y, vt, et, t, places, closed, types, command);
-        y = done.version;
+        y = versions::same(done.version);
         answers[2 * k] = done.code;
         answers[2 * k + 1] = done.number;
         k += 1;

@@ -6,9 +6,8 @@ use store::save;
 use types::closure;
 use versions::start as begin;
 ghost use mathlib.Core.Path.{_≡_};
-ghost use Rattle.machine.specs.Demand.{Demand3};
 ghost use Rattle.machine.specs.Run.{listRefusal, accepted as acceptedOf, run as runOf};
-ghost use Rattle.engine.specs.Outcomes.{lent, runResult};
+ghost use Rattle.engine.specs.Outcomes.{lent, runResult, given, left, Untouched, MeetsDemand3};
 
 // The code of the list, the calls done, the words of the end image. Its layout is that of include/futtockfig.h.
 #[repr(C)]
@@ -70,12 +69,9 @@ pub fn run(
     answers: &mut [u32],
     image: &mut [u32],
 ) -> Outcome
-    ensures { λ r. ⌜ runResult r (now (answers .exit)) (now (image .exit))
-        ≡ runOf (lent (now (start .entry)) (now (rows .entry)) (now (calls .entry)) (now (vertices .entry)) (now (edges .entry)) (now (journal .entry)) (now (answers .entry)) (now (image .entry))) ⌝ }
-    ensures { λ r. ⌜ ((listRefusal (lent (now (start .entry)) (now (rows .entry)) (now (calls .entry)) (now (vertices .entry)) (now (edges .entry)) (now (journal .entry)) (now (answers .entry)) (now (image .entry))) ≡ 0 → ⊥)
-        → (now (vertices .exit) ≡ now (vertices .entry)) × (now (edges .exit) ≡ now (edges .entry)) × (now (journal .exit) ≡ now (journal .entry))) ⌝ }
-    ensures { λ r. ⌜ (listRefusal (lent (now (start .entry)) (now (rows .entry)) (now (calls .entry)) (now (vertices .entry)) (now (edges .entry)) (now (journal .entry)) (now (answers .entry)) (now (image .entry))) ≡ 0
-        → Demand3 (lent (now (start .entry)) (now (rows .entry)) (now (calls .entry)) (now (vertices .entry)) (now (edges .entry)) (now (journal .entry)) (now (answers .entry)) (now (image .entry))) (runResult r (now (answers .exit)) (now (image .exit)))) ⌝ }
+    ensures { λ r. ⌜ left r answers image ≡ runOf (given start rows calls vertices edges journal answers image) ⌝ }
+    ensures { λ r. ⌜ Untouched (given start rows calls vertices edges journal answers image) vertices edges journal ⌝ }
+    ensures { λ r. ⌜ MeetsDemand3 (given start rows calls vertices edges journal answers image) (left r answers image) ⌝ }
 {
     let code = refusal(
         start,

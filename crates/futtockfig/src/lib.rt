@@ -3,10 +3,9 @@ use engine::run::Outcome;
 use engine::run::run;
 ghost use mathlib.Core.Path.{_≡_};
 ghost use lib.ListN.{length};
-ghost use Rattle.machine.specs.Demand.{Demand3};
-ghost use Rattle.machine.specs.Run.{listRefusal, run as runOf};
+ghost use Rattle.machine.specs.Run.{run as runOf};
 ghost use Rattle.image.specs.Image.{part as partOf};
-ghost use Rattle.engine.specs.Outcomes.{lent, runResult};
+ghost use Rattle.engine.specs.Outcomes.{given, left, Untouched, MeetsDemand3};
 ghost use Rattle.futtockfig.specs.Span.{partOffset};
 
 // A slice is a pointer and a length.
@@ -21,12 +20,9 @@ pub extern "C" fn futtockfig_run(
     answers: &mut [u32],
     image: &mut [u32],
 ) -> Outcome
-    ensures { λ r. ⌜ runResult r (now (answers .exit)) (now (image .exit))
-        ≡ runOf (lent (now (start .entry)) (now (rows .entry)) (now (calls .entry)) (now (vertices .entry)) (now (edges .entry)) (now (journal .entry)) (now (answers .entry)) (now (image .entry))) ⌝ }
-    ensures { λ r. ⌜ ((listRefusal (lent (now (start .entry)) (now (rows .entry)) (now (calls .entry)) (now (vertices .entry)) (now (edges .entry)) (now (journal .entry)) (now (answers .entry)) (now (image .entry))) ≡ 0 → ⊥)
-        → (now (vertices .exit) ≡ now (vertices .entry)) × (now (edges .exit) ≡ now (edges .entry)) × (now (journal .exit) ≡ now (journal .entry))) ⌝ }
-    ensures { λ r. ⌜ (listRefusal (lent (now (start .entry)) (now (rows .entry)) (now (calls .entry)) (now (vertices .entry)) (now (edges .entry)) (now (journal .entry)) (now (answers .entry)) (now (image .entry))) ≡ 0
-        → Demand3 (lent (now (start .entry)) (now (rows .entry)) (now (calls .entry)) (now (vertices .entry)) (now (edges .entry)) (now (journal .entry)) (now (answers .entry)) (now (image .entry))) (runResult r (now (answers .exit)) (now (image .exit)))) ⌝ }
+    ensures { λ r. ⌜ left r answers image ≡ runOf (given start rows calls vertices edges journal answers image) ⌝ }
+    ensures { λ r. ⌜ Untouched (given start rows calls vertices edges journal answers image) vertices edges journal ⌝ }
+    ensures { λ r. ⌜ MeetsDemand3 (given start rows calls vertices edges journal answers image) (left r answers image) ⌝ }
 {
     run(start, rows, calls, vertices, edges, journal, answers, image)
 }

@@ -6,7 +6,9 @@ use lib.ListN.{length, take}
 use lib.Dec.{ltb}
 use Rattle.lists.specs.Choice.{_⇒_else_, _==_}
 use Rattle.lists.specs.Lists.{keep, sumOf, upto}
+use Rattle.graph.specs.declared.Change.{Change}
 use Rattle.graph.specs.Graph.{Graph}
+use Rattle.graph.specs.Changes.{changed, cost}
 
 -- "each G1 to Gm with the cost of the step that made it"
 pub record Step : Type 0 where
@@ -31,6 +33,11 @@ pub record Machine : Type 0 where
   pub marks : ℕ → Standing
 
 -- ---- the timeline
+
+-- "f(Gp)" with its cost
+unfoldable pub stepOf : Change → Graph → Step
+unfolding changed
+stepOf c g = record { cost = cost c g; graph = changed c g }
 
 abbrev pub begun : Graph → Timeline
 begun g = record { start = g; steps = []; place = 0 }

@@ -1,6 +1,6 @@
 -- A row that was written is read back, and the rows before it stand.
 use Prim.Native.Nat.{ℕ, zero, suc, _+_, _*_, _≤_, _<_}
-use mathlib.Core.Path.{_≡_, refl, ap, _∙_}
+use mathlib.Core.Path.{_≡_, refl, sym, ap, _∙_}
 use mathlib.Core.Bool.{Bool}
 use mathlib.Core.List.{List, [], _∷_}
 use native.Mathlib.Omega.{arith}
@@ -11,7 +11,7 @@ use Rattle.graph.specs.declared.Edit.{Edit}
 use Rattle.graph.specs.declared.Edit.the-variants.{InsertVertex, RemoveVertex, InsertEdge, RemoveEdge, SetVertex, SetEdge, MoveVertex, MoveEdge, MoveWord}
 use Rattle.graph.specs.Graph.{readingKind, decimetres, readingOf}
 use Rattle.graph.proofs.Readings.{reading-back}
-use Rattle.journal.specs.Rows.{wordsOf, editOf, editAt, storeFrom, rowAt, costAt, rowed, Below, turned}
+use Rattle.journal.specs.Rows.{wordsOf, editOf, editAt, storeFrom, rowAt, costAt, rowed, Below, turned, IsWords}
 
 -- ---- words stored one after another
 
@@ -126,3 +126,18 @@ cost-read t i w c a b = a ∙ ap (λ (x : ℕ). getD t (12 * x + 10) 0) b
 pub row-written : (t t′ : List ℕ) (i w : ℕ) (e : Edit) (c : ℕ) → t′ ≡ storeFrom (12 * w) (wordsOf e) t → w ≡ i → set t′ (12 * w + 10) c ≡ rowed i e c t
 unfolding rowed
 row-written t t′ i w e c a b = ap (λ (x : List ℕ). set x (12 * w + 10) c) a ∙ ap (λ (x : ℕ). set (storeFrom (12 * x) (wordsOf e) t) (12 * x + 10) c) b
+
+-- ---- a row, word by word
+
+pub words-written : (t t′ : List ℕ) (i w c : ℕ) (l : List ℕ) → t′ ≡ storeFrom (12 * w) l t → w ≡ i → set t′ (12 * w + 10) c ≡ set (storeFrom (12 * i) l t) (12 * i + 10) c
+words-written t t′ i w c l a b = ap (λ (x : List ℕ). set x (12 * w + 10) c) a ∙ ap (λ (x : ℕ). set (storeFrom (12 * x) l t) (12 * x + 10) c) b
+
+pub rowed-by : (i : ℕ) (e : Edit) (c : ℕ) (t t′ l : List ℕ) → l ≡ wordsOf e → t′ ≡ set (storeFrom (12 * i) l t) (12 * i + 10) c → t′ ≡ rowed i e c t
+unfolding rowed
+rowed-by i e c t t′ l q p = p ∙ ap (λ (x : List ℕ). set (storeFrom (12 * i) x t) (12 * i + 10) c) q
+
+pub removed-words : (n a z s k d p o i : ℕ) → IsWords k d → 4 ∷ n ∷ a ∷ z ∷ s ∷ k ∷ d ∷ p ∷ o ∷ i ∷ [] ≡ wordsOf (RemoveEdge n a z s (readingOf k d) p o i)
+removed-words n a z s k d p o i w = λ j. 4 ∷ n ∷ a ∷ z ∷ s ∷ sym (w .0) j ∷ sym (w .1) j ∷ p ∷ o ∷ i ∷ []
+
+pub edge-words : (n s k d s′ k′ d′ : ℕ) → IsWords k d → IsWords k′ d′ → 6 ∷ n ∷ s ∷ k ∷ d ∷ s′ ∷ k′ ∷ d′ ∷ 0 ∷ 0 ∷ [] ≡ wordsOf (SetEdge n s (readingOf k d) s′ (readingOf k′ d′))
+edge-words n s k d s′ k′ d′ w v = λ j. 6 ∷ n ∷ s ∷ sym (w .0) j ∷ sym (w .1) j ∷ s′ ∷ sym (v .0) j ∷ sym (v .1) j ∷ 0 ∷ 0 ∷ []

@@ -67,3 +67,7 @@ rowed i e c t = set (storeFrom (12 * i) (wordsOf e) t) (12 * i + 10) c
 -- the words below row u are as they were
 abbrev pub Below : ℕ → List ℕ → List ℕ → Type 0
 Below u t t′ = (j : ℕ) → j < 12 * u → getD t′ j 0 ≡ getD t j 0
+
+-- kind and decimetres are those of the reading that they are read as
+abbrev pub IsWords : ℕ → ℕ → Type 0
+IsWords k d = (readingKind (readingOf k d) ≡ k) × (decimetres (readingOf k d) ≡ d)

@@ -10,6 +10,8 @@ ghost use lib.ListN.{length};
 ghost use Rattle.graph.specs.Edits.{inverse};
 ghost use Rattle.journal.specs.Rows.{wordsOf, editOf, turned, editAt, storeFrom, rowAt, costAt, rowed};
 
+pub mod single; // a row for each edit, word by word
+
 // Five words, half of an edit.
 pub struct Five {
     pub a: u32,

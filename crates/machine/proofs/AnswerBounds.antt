@@ -4,9 +4,11 @@ use mathlib.Core.Path.{_≡_, refl}
 use mathlib.Core.Bool.{Bool, true, false, not}
 use mathlib.Core.List.{List, [], _∷_}
 use native.Mathlib.Omega.{arith}
+use lib.Dec.{leb}
+use borrow.Author.Tests.{leb-true}
 use Rattle.lists.specs.Choice.{_⇒_else_, _==_, bit}
 use Rattle.lists.specs.Lists.{before, All, done, more}
-use Rattle.lists.proofs.Sums.{all-imp, bit-le}
+use Rattle.lists.proofs.Sums.{all-imp, all-bool, bit-le}
 use Rattle.lists.proofs.Members.{all-first, all-after}
 use Rattle.types.specs.Types.{below}
 use Rattle.graph.specs.Graph.{vertexNumbers, edgeNumbers, this, listOf}
@@ -16,29 +18,43 @@ use Rattle.pricing.proofs.Ranges.{two-way-range, grade-range}
 use Rattle.image.specs.Image.{load}
 use Rattle.image.proofs.WordSize.{Word}
 use Rattle.history.specs.Machine.{Machine, present}
-use Rattle.machine.specs.Calls.{Call, Parameters, boundsIn, callsOf, known, changeOf}
-use Rattle.machine.specs.Codes.{
-  numberOutside,
-  numberInUse,
-  vertexMissing,
-  edgeMissing,
-  typeOutside,
-  notReading,
-  thisDiffers,
-  sameTwice,
-  noRoom,
-  markOutside,
-  markStands,
-  markMissing,
-  atAnEnd,
-  sideOutside,
-  nothingToRange,
-  refusal,
+use Rattle.commands.specs.declared.HistoryCall.the-variants.{SetMark, DropMark, Undo, Redo, GoTo, Commit, Between, Standing, Free}
+use Rattle.commands.specs.declared.Question.{Question}
+use Rattle.commands.specs.declared.Question.the-variants.{
+  FirstVertex,
+  NextVertex,
+  FirstEdge,
+  NextEdge,
+  FirstWord,
+  NextWord,
+  Alpha,
+  Omega,
+  This,
+  That,
+  VertexType,
+  EdgeType,
+  Value,
+  ReadingKind,
+  Decimetres,
+  Degree,
+  VertexOrder,
+  EdgeOrder,
+  WordOrder,
+  Below,
 }
-use Rattle.machine.specs.Machine.{Sort, changes, sets, drops, undoes, redoes, goes, commits, asks, sortOf, asked, numberBy, answer, answers, step}
+use Rattle.commands.specs.declared.PriceCall.{PriceCall}
+use Rattle.commands.specs.declared.PriceCall.the-variants.{Range, Grade}
+use Rattle.commands.specs.declared.Command.{Command}
+use Rattle.commands.specs.declared.Command.the-variants.{Alter, Recall, Ask, Quote, Unknown}
+use Rattle.commands.specs.Tables.{Row, lowest}
+use Rattle.commands.specs.Commands.{commandOf, callOf}
+use Rattle.commands.specs.Fits.{Words}
+use Rattle.commands.specs.Calls.{Call, callsOf}
+use Rattle.machine.specs.Calls.{Parameters, boundsIn}
+use Rattle.machine.specs.Codes.{free, codeTable, refusal}
+use Rattle.machine.specs.Machine.{questionNumber, priceNumber, deedOf, answerTo, answers, step}
 use Rattle.machine.specs.Run.{Lent, parametersOf, Limits, listRefusal, answerWords}
 use Rattle.machine.specs.Demand.{begins}
-use Rattle.machine.proofs.Allowed.{Words}
 use Rattle.machine.proofs.Graphs.{Formed, present-formed}
 use Rattle.machine.proofs.GraphBounds.{vertex-numbers-le, edge-numbers-le, alpha-le, omega-le, this-le, that-le, vertex-type-le, edge-type-le, value-lt, reading-kind-le, decimetres-le, list-words, degree-le, cost-le}
 use Rattle.machine.proofs.Invariant.{Invariant, fresh-invariant, step-invariant, place-le, moved-le, between-le, free-le, standing-le}
@@ -46,35 +62,21 @@ use Rattle.machine.proofs.ListRows.{passed, start-formed}
 
 -- ---- codes
 
-either : (n : ℕ) (t : Bool) (a b : ℕ) → a ≤ n → b ≤ n → (t ⇒ a else b) ≤ n
-either n true a b h i = h
-either n false a b h i = i
+lowest-le : (n : ℕ) (rs : List Row) → All (λ (r : Row). r .code ≤ n) rs → lowest rs ≤ n
+lowest-le n [] done = omega arith
+lowest-le n (r ∷ rs) (more h hs) = go (r .applies) (lowest-le n rs hs)
+  where
+    go : (t : Bool) → lowest rs ≤ n → (t ⇒ r .code else lowest rs) ≤ n
+    go true i = h
+    go false i = i
 
-pub code-le : (w : Parameters) (m : Machine) (x : Call) → refusal w m x ≤ 16
+pub code-le : (w : Parameters) (m : Machine) (c : Command) → refusal w m c ≤ 16
 unfolding refusal
-code-le w m x =
-    either 16 (not (known (x .kind))) 1 _ (omega arith)
-    (either 16 (numberOutside w x) 2 _ (omega arith)
-    (either 16 (numberInUse (present m) x) 3 _ (omega arith)
-    (either 16 (vertexMissing (present m) x) 4 _ (omega arith)
-    (either 16 (edgeMissing (present m) x) 5 _ (omega arith)
-    (either 16 (typeOutside w x) 6 _ (omega arith)
-    (either 16 (notReading x) 7 _ (omega arith)
-    (either 16 (thisDiffers (present m) x) 8 _ (omega arith)
-    (either 16 (sameTwice x) 9 _ (omega arith)
-    (either 16 (noRoom w m x) 10 _ (omega arith)
-    (either 16 (markOutside x) 11 _ (omega arith)
-    (either 16 (markStands m x) 12 _ (omega arith)
-    (either 16 (markMissing m x) 13 _ (omega arith)
-    (either 16 (atAnEnd m x) 14 _ (omega arith)
-    (either 16 (sideOutside x) 15 _ (omega arith)
-    (either 16 (nothingToRange (present m) x) 16 0 (omega arith) (omega arith))))))))))))))))
+code-le w m c =
+    let t = codeTable w m (callOf c) in
+    lowest-le 16 t (all-bool (λ (r : Row). leb (r .code) 16) (λ r e. leb-true (r .code) 16 e) t refl)
 
 -- ---- numbers
-
-or-else : (t : Bool) (a b : ℕ) → a < 2 ^ 32 → b < 2 ^ 32 → (t ⇒ a else b) < 2 ^ 32
-or-else true a b h i = h
-or-else false a b h i = i
 
 module _ (w : Parameters) (m : Machine) (k : Limits w) (i : Invariant w m) where
   here : Formed w (present m)
@@ -95,56 +97,53 @@ module _ (w : Parameters) (m : Machine) (k : Limits w) (i : Invariant w m) where
   ranges : Within (boundsIn w) (present m)
   ranges = to-facts (boundsIn w) (present m) here .1
 
-  pub asked-fits : (x : Call) → asked w m x < 2 ^ 32
-  unfolding asked
-  asked-fits x =
-      let g = present m in
-      let b = boundsIn w in
-      or-else (x .kind == 30) _ _ (all-first (omega arith) vertices-small)
-      (or-else (x .kind == 31) _ _ (all-after (omega arith) (x .a) vertices-small)
-      (or-else (x .kind == 32) _ _ (all-first (omega arith) edges-small)
-      (or-else (x .kind == 33) _ _ (all-after (omega arith) (x .a) edges-small)
-      (or-else (x .kind == 34) _ _ (all-first (omega arith) (list-small (x .a)))
-      (or-else (x .kind == 35) _ _ (all-after (omega arith) (x .a) (list-small (this g (x .a))))
-      (or-else (x .kind == 36) _ _ (omega (arith, alpha-le b g here (x .a), k .few-vertices))
-      (or-else (x .kind == 37) _ _ (omega (arith, omega-le b g here (x .a), k .few-vertices))
-      (or-else (x .kind == 38) _ _ (omega (arith, this-le b g here (x .a), k .few-vertices))
-      (or-else (x .kind == 39) _ _ (omega (arith, that-le b g here (x .a), k .few-vertices))
-      (or-else (x .kind == 40) _ _ (omega (arith, vertex-type-le b g here (x .a), k .few-types))
-      (or-else (x .kind == 41) _ _ (omega (arith, edge-type-le b g here (x .a), k .few-types))
-      (or-else (x .kind == 42) _ _ (value-lt b g here (x .a))
-      (or-else (x .kind == 43) _ _ (omega (arith, reading-kind-le b g here (x .a)))
-      (or-else (x .kind == 44) _ _ (omega (arith, decimetres-le b g here (x .a)))
-      (or-else (x .kind == 45) _ _ (omega (arith, degree-le b g here (λ t. below (w .rows) t (x .b)) (x .c) (x .a), k .few-edges))
-      (or-else (x .kind == 46) _ _ (bits-small (before (x .a) (x .b) (vertexNumbers g)))
-      (or-else (x .kind == 47) _ _ (bits-small (before (x .a) (x .b) (edgeNumbers g)))
-      (or-else (x .kind == 48) _ _ (bits-small (before (x .a) (x .b) (listOf g (this g (x .a)))))
-      (or-else (x .kind == 49) _ _ (omega (arith, between-le w m i (x .a) (x .b), k .few-changes))
-      (or-else (x .kind == 50) _ _ (omega (arith, standing-le (m .marks)))
-      (or-else (x .kind == 51) _ _ (omega (arith, free-le w m, k .few-changes))
-      (or-else (x .kind == 52) _ _ (bits-small (below (w .rows) (x .a) (x .b)))
-      (or-else (x .kind == 53) _ _ (omega (arith, two-way-range b g ranges (x .a) (x .b)))
-      (or-else (x .kind == 54) _ 0 (omega (arith, grade-range b g ranges (x .a) (x .b))) (omega arith)))))))))))))))))))))))))
+  pub question-fits : (q : Question) → questionNumber (w .rows) (present m) q < 2 ^ 32
+  question-fits FirstVertex = all-first (omega arith) vertices-small
+  question-fits (NextVertex a) = all-after (omega arith) a vertices-small
+  question-fits FirstEdge = all-first (omega arith) edges-small
+  question-fits (NextEdge a) = all-after (omega arith) a edges-small
+  question-fits (FirstWord a) = all-first (omega arith) (list-small a)
+  question-fits (NextWord a) = all-after (omega arith) a (list-small (this (present m) a))
+  question-fits (Alpha a) = omega (arith, alpha-le (boundsIn w) (present m) here a, k .few-vertices)
+  question-fits (Omega a) = omega (arith, omega-le (boundsIn w) (present m) here a, k .few-vertices)
+  question-fits (This a) = omega (arith, this-le (boundsIn w) (present m) here a, k .few-vertices)
+  question-fits (That a) = omega (arith, that-le (boundsIn w) (present m) here a, k .few-vertices)
+  question-fits (VertexType a) = omega (arith, vertex-type-le (boundsIn w) (present m) here a, k .few-types)
+  question-fits (EdgeType a) = omega (arith, edge-type-le (boundsIn w) (present m) here a, k .few-types)
+  question-fits (Value a) = value-lt (boundsIn w) (present m) here a
+  question-fits (ReadingKind a) = omega (arith, reading-kind-le (boundsIn w) (present m) here a)
+  question-fits (Decimetres a) = omega (arith, decimetres-le (boundsIn w) (present m) here a)
+  question-fits (Degree a t c) = omega (arith, degree-le (boundsIn w) (present m) here (λ s. below (w .rows) s t) c a, k .few-edges)
+  question-fits (VertexOrder a b) = bits-small (before a b (vertexNumbers (present m)))
+  question-fits (EdgeOrder a b) = bits-small (before a b (edgeNumbers (present m)))
+  question-fits (WordOrder a b) = bits-small (before a b (listOf (present m) (this (present m) a)))
+  question-fits (Below s t) = bits-small (below (w .rows) s t)
 
-  pub number-fits : (s : Sort) (x : Call) → numberBy s w m x < 2 ^ 32
-  unfolding numberBy
-  number-fits changes x = omega (arith, cost-le (boundsIn w) (present m) here (changeOf x), k .few-edges)
-  number-fits sets x = omega arith
-  number-fits drops x = omega arith
-  number-fits undoes x = omega arith
-  number-fits redoes x = omega arith
-  number-fits goes x = omega (arith, moved-le w m i (x .a), k .few-changes)
-  number-fits commits x = omega (arith, place-le w m i, k .few-changes)
-  number-fits asks x = asked-fits x
+  pub number-fits : (c : Command) → deedOf w c m .number < 2 ^ 32
+  unfolding free
+  number-fits (Alter c) = omega (arith, cost-le (boundsIn w) (present m) here c, k .few-edges)
+  number-fits (Recall (SetMark n)) = omega arith
+  number-fits (Recall (DropMark n)) = omega arith
+  number-fits (Recall Undo) = omega arith
+  number-fits (Recall Redo) = omega arith
+  number-fits (Recall (GoTo n)) = omega (arith, moved-le w m i n, k .few-changes)
+  number-fits (Recall Commit) = omega (arith, place-le w m i, k .few-changes)
+  number-fits (Recall (Between a b)) = omega (arith, between-le w m i a b, k .few-changes)
+  number-fits (Recall Standing) = omega (arith, standing-le (m .marks))
+  number-fits (Recall Free) = omega (arith, free-le w m, k .few-changes)
+  number-fits (Ask q) = question-fits q
+  number-fits (Quote (Range a b)) = omega (arith, two-way-range (boundsIn w) (present m) ranges a b)
+  number-fits (Quote (Grade a b)) = omega (arith, grade-range (boundsIn w) (present m) ranges a b)
+  number-fits Unknown = omega arith
 
   -- both words of an answer
-  pub answer-fits : (x : Call) → (answer w m x .code < 2 ^ 32) × (answer w m x .number < 2 ^ 32)
-  unfolding answer
-  answer-fits x = go (refusal w m x == 0) refl
+  pub answer-fits : (c : Command) → (answerTo w m c .code < 2 ^ 32) × (answerTo w m c .number < 2 ^ 32)
+  unfolding answerTo
+  answer-fits c = (omega (arith, code-le w m c), go (refusal w m c == 0))
     where
-      go : (t : Bool) → (refusal w m x == 0) ≡ t → (answer w m x .code < 2 ^ 32) × (answer w m x .number < 2 ^ 32)
-      go true e = rw e (omega arith, number-fits (sortOf (present m) x) x)
-      go false e = rw e (omega (arith, code-le w m x), omega arith)
+      go : (t : Bool) → (t ⇒ deedOf w c m .number else 0) < 2 ^ 32
+      go true = number-fits c
+      go false = omega arith
 
 -- ---- a list of calls
 
@@ -152,7 +151,7 @@ pub answers-fit : (w : Parameters) (m : Machine) (xs : List Call) → Limits w �
 unfolding answers
 answers-fit w m [] k i done = done
 answers-fit w m (x ∷ xs) k i (more f fs) =
-    let a = answer-fits w m k i x in
+    let a = answer-fits w m k i (commandOf x) in
     more (a .0) (more (a .1) (answers-fit w (step w m x) xs k (step-invariant w m x f i) fs))
 
 -- calls of words that have 32 bits

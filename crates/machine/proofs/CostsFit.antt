@@ -9,41 +9,51 @@ use borrow.Author.Tests.{ltb-false}
 use Rattle.lists.specs.Choice.{_==_}
 use Rattle.graph.specs.Graph.{Graph}
 use Rattle.graph.specs.Changes.{cost}
-use Rattle.history.specs.Machine.{Machine, costs, fresh, present}
+use Rattle.history.specs.Machine.{Step, Machine, costs, fresh, present}
 use Rattle.history.proofs.Timelines.{costs-cut, costs-take}
-use Rattle.machine.specs.Calls.{Call, Parameters, isChange, changeOf}
-use Rattle.machine.specs.Codes.{free, noRoom, refusal}
-use Rattle.machine.specs.Machine.{Sort, changes, sets, drops, undoes, redoes, goes, commits, asks, sortOf, stepBy, nextBy, step, last}
-use Rattle.machine.proofs.CodeRows.{rows}
-use Rattle.machine.proofs.Sorts.{accepted-step, refused-step, Kind, kind-of}
+use Rattle.history.specs.Machine.{stepOf}
+use Rattle.machine.specs.Rules.{Effect, steps, marks, unmarks, goes, clears, nothing, effected}
+use Rattle.commands.specs.declared.Command.{Command}
+use Rattle.commands.specs.declared.Command.the-variants.{Alter, Recall, Ask, Quote, Unknown}
+use Rattle.commands.specs.Calls.{Call}
+use Rattle.commands.specs.Commands.{commandOf}
+use Rattle.machine.proofs.Accepts.{accepted-step, refused-step}
+use Rattle.machine.proofs.Families.{Makes, history-makes, change-passed}
+use Rattle.machine.specs.Calls.{Parameters}
+use Rattle.machine.specs.Codes.{free, refusal}
+use Rattle.machine.specs.Machine.{deedOf, stepTo, step, last}
 
 unfoldable pub CostsFit : Parameters → Machine → Type 0
 CostsFit w m = costs (m .line .steps) ≤ w .changes
 
-cost-le-free : (w : Parameters) (m : Machine) (x : Call) → (refusal w m x == 0) ≡ true → sortOf (present m) x ≡ changes → cost (changeOf x) (present m) ≤ free w m
-unfolding noRoom Kind
-cost-le-free w m x h s =
-    let k : isChange (x .kind) ≡ true = subst (λ r. Kind r (x .kind)) s (kind-of (present m) x) in
-    ltb-false (free w m) (cost (changeOf x) (present m)) (rw k at (rows w m x h .row10))
+-- an accepted command makes no step that costs more than is free
+makes-room : (w : Parameters) (m : Machine) (c : Command) → (refusal w m c == 0) ≡ true → Makes (λ s. s .cost ≤ free w m) (deedOf w c m .effect)
+unfolding stepOf free
+makes-room w m (Alter c) e = ltb-false (free w m) (cost c (present m)) (change-passed w m c e .1)
+makes-room w m (Recall h) e = history-makes (λ s. s .cost ≤ free w m) (w .changes) h m
+makes-room w m (Ask q) e = tt
+makes-room w m (Quote p) e = tt
+makes-room w m Unknown e = tt
 
-costs-fit-next : (w : Parameters) (s : Sort) (m : Machine) (x : Call) → (s ≡ changes → cost (changeOf x) (present m) ≤ free w m) → CostsFit w m → CostsFit w (nextBy s m x)
-unfolding nextBy stepBy CostsFit free
-costs-fit-next w changes m x h p =
-    omega (arith, h refl, costs-cut (m .line .place) (m .line .steps) (stepBy m x), costs-take (m .line .place) (m .line .steps))
-costs-fit-next w sets m x h p = p
-costs-fit-next w drops m x h p = p
-costs-fit-next w undoes m x h p = p
-costs-fit-next w redoes m x h p = p
-costs-fit-next w goes m x h p = p
-costs-fit-next w commits m x h p = omega arith
-costs-fit-next w asks m x h p = p
+costs-fit-next : (w : Parameters) (e : Effect) (m : Machine) → Makes (λ s. s .cost ≤ free w m) e → CostsFit w m → CostsFit w (effected e m)
+unfolding CostsFit free
+costs-fit-next w (steps s) m h p =
+    omega (arith, h, costs-cut (m .line .place) (m .line .steps) s, costs-take (m .line .place) (m .line .steps))
+costs-fit-next w (marks n) m h p = p
+costs-fit-next w (unmarks n) m h p = p
+costs-fit-next w (goes q) m h p = p
+costs-fit-next w clears m h p = omega arith
+costs-fit-next w nothing m h p = p
 
 pub costs-fit-step : (w : Parameters) (m : Machine) (x : Call) → CostsFit w m → CostsFit w (step w m x)
-costs-fit-step w m x p = go (refusal w m x == 0) refl
+costs-fit-step w m x p = go (refusal w m c == 0) refl
   where
-    go : (t : Bool) → (refusal w m x == 0) ≡ t → CostsFit w (step w m x)
-    go true e = rw (accepted-step w m x e) (costs-fit-next w (sortOf (present m) x) m x (cost-le-free w m x e) p)
-    go false e = rw (refused-step w m x e) p
+    c : Command
+    c = commandOf x
+
+    go : (t : Bool) → (refusal w m c == 0) ≡ t → CostsFit w (stepTo w m c)
+    go true e = rw (accepted-step w m c e) (costs-fit-next w (deedOf w c m .effect) m (makes-room w m c e) p)
+    go false e = rw (refused-step w m c e) p
 
 pub costs-fit-last : (w : Parameters) (m : Machine) (xs : List Call) → CostsFit w m → CostsFit w (last w m xs)
 unfolding last

@@ -10,11 +10,12 @@ use Rattle.history.specs.Machine.{fresh, present}
 use Rattle.image.specs.Image.{imageLength, save, load}
 use Rattle.image.proofs.Room.{image-fits}
 use Rattle.image.proofs.WordSize.{Word, image-small}
-use Rattle.machine.specs.Calls.{Call, Parameters, boundsIn, callsOf}
+use Rattle.commands.specs.Calls.{Call, callsOf}
+use Rattle.machine.specs.Calls.{Parameters, boundsIn}
 use Rattle.machine.specs.Machine.{last}
 use Rattle.machine.specs.Run.{Lent, parametersOf, Limits, listRefusal}
 use Rattle.machine.specs.Demand.{after}
-use Rattle.machine.proofs.Allowed.{Words}
+use Rattle.commands.specs.Fits.{Words}
 use Rattle.machine.proofs.AnswerBounds.{calls-fit}
 use Rattle.machine.proofs.Graphs.{Formed, end-formed}
 use Rattle.machine.proofs.ListRows.{limits-in, passed, start-formed}

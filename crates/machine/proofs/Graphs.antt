@@ -14,11 +14,20 @@ use Rattle.graph.proofs.ChangeLaws.{change-keeps}
 use Rattle.image.specs.Image.{save, loadable}
 use Rattle.image.proofs.Loads.{saved-loads}
 use Rattle.history.specs.Machine.{Step, Machine, graphAt, fresh, present}
-use Rattle.machine.specs.Calls.{Call, Parameters, boundsIn, isChange, changeOf}
+use Rattle.history.specs.Machine.{stepOf}
+use Rattle.machine.specs.Rules.{Effect, steps, marks, unmarks, goes, clears, nothing, effected}
+use Rattle.commands.specs.declared.Command.{Command}
+use Rattle.commands.specs.declared.Command.the-variants.{Alter, Recall, Ask, Quote, Unknown}
+use Rattle.commands.specs.Calls.{Call}
+use Rattle.commands.specs.Commands.{commandOf}
+use Rattle.commands.specs.Fits.{Words, CommandFits}
+use Rattle.commands.proofs.Fitting.{command-fits}
+use Rattle.machine.proofs.Accepts.{accepted-step, refused-step}
+use Rattle.machine.proofs.Allows.{allows}
+use Rattle.machine.proofs.Families.{Makes, history-makes, change-passed}
+use Rattle.machine.specs.Calls.{Parameters, boundsIn}
 use Rattle.machine.specs.Codes.{refusal}
-use Rattle.machine.specs.Machine.{Sort, changes, sets, drops, undoes, redoes, goes, commits, asks, sortOf, stepBy, nextBy, step, last}
-use Rattle.machine.proofs.Allowed.{Words, allowed}
-use Rattle.machine.proofs.Sorts.{accepted-step, refused-step, Kind, kind-of}
+use Rattle.machine.specs.Machine.{deedOf, stepTo, step, last}
 
 abbrev pub Formed : Parameters → Graph → Type 0
 Formed w g = wellFormed (boundsIn w) g ≡ true
@@ -42,31 +51,34 @@ all-cut w zero ss s a h = more h done
 all-cut w (suc p) [] s a h = more h done
 all-cut w (suc p) (x ∷ ss) s (more q a) h = more q (all-cut w p ss s a h)
 
-next-formed : (w : Parameters) (s : Sort) (m : Machine) (x : Call) → (s ≡ changes → Formed w (changed (changeOf x) (present m))) → AllFormed w m →
-    AllFormed w (nextBy s m x)
-unfolding nextBy stepBy
-next-formed w changes m x h a = record { start = a .start; steps = all-cut w (m .line .place) (m .line .steps) _ (a .steps) (h refl) }
-next-formed w sets m x h a = record { start = a .start; steps = a .steps }
-next-formed w drops m x h a = record { start = a .start; steps = a .steps }
-next-formed w undoes m x h a = record { start = a .start; steps = a .steps }
-next-formed w redoes m x h a = record { start = a .start; steps = a .steps }
-next-formed w goes m x h a = record { start = a .start; steps = a .steps }
-next-formed w commits m x h a = record { start = present-formed w m a; steps = done }
-next-formed w asks m x h a = a
+next-formed : (w : Parameters) (e : Effect) (m : Machine) → Makes (λ s. Formed w (s .graph)) e → AllFormed w m → AllFormed w (effected e m)
+next-formed w (steps s) m h a = record { start = a .start; steps = all-cut w (m .line .place) (m .line .steps) s (a .steps) h }
+next-formed w (marks n) m h a = record { start = a .start; steps = a .steps }
+next-formed w (unmarks n) m h a = record { start = a .start; steps = a .steps }
+next-formed w (goes p) m h a = record { start = a .start; steps = a .steps }
+next-formed w clears m h a = record { start = present-formed w m a; steps = done }
+next-formed w nothing m h a = a
+
+-- an accepted command makes well-formed graphs
+makes-formed : (w : Parameters) (m : Machine) (c : Command) → CommandFits c → AllFormed w m → (refusal w m c == 0) ≡ true → Makes (λ s. Formed w (s .graph)) (deedOf w c m .effect)
+unfolding stepOf
+makes-formed w m (Alter c) f a e =
+    let p = present-formed w m a in
+    change-keeps (boundsIn w) (present m) c p (allows (boundsIn w) (present m) (to-facts (boundsIn w) (present m) p .0) c f (change-passed w m c e .0))
+makes-formed w m (Recall h) f a e = history-makes (λ s. Formed w (s .graph)) (w .changes) h m
+makes-formed w m (Ask q) f a e = tt
+makes-formed w m (Quote p) f a e = tt
+makes-formed w m Unknown f a e = tt
 
 pub step-formed : (w : Parameters) (m : Machine) (x : Call) → Words x → AllFormed w m → AllFormed w (step w m x)
-unfolding Kind
-step-formed w m x f a = go (refusal w m x == 0) refl
+step-formed w m x f a = go (refusal w m c == 0) refl
   where
-    change : (refusal w m x == 0) ≡ true → sortOf (present m) x ≡ changes → Formed w (changed (changeOf x) (present m))
-    change e s =
-        let k : isChange (x .kind) ≡ true = subst (λ r. Kind r (x .kind)) s (kind-of (present m) x) in
-        let p = present-formed w m a in
-        change-keeps (boundsIn w) (present m) (changeOf x) p (allowed w m x f (to-facts (boundsIn w) (present m) p .0) e k)
+    c : Command
+    c = commandOf x
 
-    go : (t : Bool) → (refusal w m x == 0) ≡ t → AllFormed w (step w m x)
-    go true e = rw (accepted-step w m x e) (next-formed w (sortOf (present m) x) m x (change e) a)
-    go false e = rw (refused-step w m x e) a
+    go : (t : Bool) → (refusal w m c == 0) ≡ t → AllFormed w (stepTo w m c)
+    go true e = rw (accepted-step w m c e) (next-formed w (deedOf w c m .effect) m (makes-formed w m c (command-fits x f) a e) a)
+    go false e = rw (refused-step w m c e) a
 
 pub last-formed : (w : Parameters) (m : Machine) (xs : List Call) → All Words xs → AllFormed w m → AllFormed w (last w m xs)
 unfolding last

@@ -10,15 +10,22 @@ use Rattle.lists.specs.Lists.{All, done, more, upto}
 use Rattle.lists.proofs.Members.{keep-length}
 use Rattle.graph.specs.Graph.{Graph}
 use Rattle.history.specs.Machine.{Step, Machine, Standing, gone, at, stands, placeOr, costs, distance, standing, fresh, present}
-use Rattle.machine.specs.Calls.{Call, Parameters, changeOf}
+use Rattle.history.specs.Machine.{stepOf}
+use Rattle.machine.specs.Rules.{Effect, steps, marks, unmarks, goes, clears, nothing, effected}
+use Rattle.commands.specs.declared.Command.{Command}
+use Rattle.commands.specs.declared.Command.the-variants.{Alter, Recall, Ask, Quote, Unknown}
+use Rattle.commands.specs.Calls.{Call}
+use Rattle.commands.specs.Commands.{commandOf}
+use Rattle.commands.specs.Fits.{Words}
+use Rattle.machine.proofs.Accepts.{accepted-step, refused-step}
+use Rattle.machine.proofs.Families.{Makes, history-makes}
+use Rattle.machine.specs.Calls.{Parameters}
 use Rattle.machine.specs.Codes.{free, refusal}
-use Rattle.machine.specs.Machine.{Sort, changes, sets, drops, undoes, redoes, goes, commits, asks, sortOf, stepBy, nextBy, step, last}
-use Rattle.machine.proofs.Allowed.{Words}
+use Rattle.machine.specs.Machine.{deedOf, stepTo, step, last}
 use Rattle.machine.proofs.GraphBounds.{cost-real}
 use Rattle.machine.proofs.Graphs.{Formed, AllFormed, step-formed, fresh-formed}
 use Rattle.machine.proofs.MarkLaws.{PlacesInRange, fresh-places, places-step}
 use Rattle.machine.proofs.CostsFit.{CostsFit, costs-fit-fresh, costs-fit-step}
-use Rattle.machine.proofs.Sorts.{accepted-step, refused-step}
 
 -- ---- each step costs at least 1
 
@@ -30,23 +37,31 @@ costed-cut zero s a h = more h done
 costed-cut (suc p) s done h = more h done
 costed-cut (suc p) s (more q a) h = more q (costed-cut p s a h)
 
-costed-next : (s : Sort) (m : Machine) (x : Call) → Costed (m .line .steps) → Costed (nextBy s m x .line .steps)
-unfolding nextBy stepBy
-costed-next changes m x a = costed-cut (m .line .place) (stepBy m x) a (cost-real (changeOf x) (present m))
-costed-next sets m x a = a
-costed-next drops m x a = a
-costed-next undoes m x a = a
-costed-next redoes m x a = a
-costed-next goes m x a = a
-costed-next commits m x a = done
-costed-next asks m x a = a
+makes-costed : (w : Parameters) (m : Machine) (c : Command) → Makes (λ s. 1 ≤ s .cost) (deedOf w c m .effect)
+unfolding stepOf
+makes-costed w m (Alter c) = cost-real c (present m)
+makes-costed w m (Recall h) = history-makes (λ s. 1 ≤ s .cost) (w .changes) h m
+makes-costed w m (Ask q) = tt
+makes-costed w m (Quote p) = tt
+makes-costed w m Unknown = tt
+
+costed-next : (e : Effect) (m : Machine) → Makes (λ s. 1 ≤ s .cost) e → Costed (m .line .steps) → Costed (effected e m .line .steps)
+costed-next (steps s) m h a = costed-cut (m .line .place) s a h
+costed-next (marks n) m h a = a
+costed-next (unmarks n) m h a = a
+costed-next (goes p) m h a = a
+costed-next clears m h a = done
+costed-next nothing m h a = a
 
 costed-step : (w : Parameters) (m : Machine) (x : Call) → Costed (m .line .steps) → Costed (step w m x .line .steps)
-costed-step w m x a = go (refusal w m x == 0) refl
+costed-step w m x a = go (refusal w m c == 0) refl
   where
-    go : (t : Bool) → (refusal w m x == 0) ≡ t → Costed (step w m x .line .steps)
-    go true e = rw (accepted-step w m x e) (costed-next (sortOf (present m) x) m x a)
-    go false e = rw (refused-step w m x e) a
+    c : Command
+    c = commandOf x
+
+    go : (t : Bool) → (refusal w m c == 0) ≡ t → Costed (stepTo w m c .line .steps)
+    go true e = rw (accepted-step w m c e) (costed-next (deedOf w c m .effect) m (makes-costed w m c) a)
+    go false e = rw (refused-step w m c e) a
 
 costed-length : {ss : List Step} → Costed ss → length ss ≤ costs ss
 costed-length done = omega arith

@@ -2,41 +2,34 @@
 use Prim.Native.Nat.{ℕ, suc, _-_}
 use mathlib.Core.Path.{_≡_, refl}
 use mathlib.Core.Logic.{_↔_}
-use mathlib.Core.Bool.{Bool, true, false, _||_}
+use mathlib.Core.Bool.{Bool, true, false}
 use native.Mathlib.Omega.{arith}
 use lib.ListN.{length}
 use borrow.Author.Tests.{eqb-true, eq-eqb, ne-eqb}
 use Rattle.lists.specs.Choice.{_⇒_else_, _==_}
 use Rattle.history.specs.Machine.{Machine, moves, fresh, present}
-use Rattle.machine.specs.Calls.{Call, Parameters}
+use Rattle.commands.specs.declared.HistoryCall.the-variants.{Undo, Redo, Commit}
+use Rattle.commands.specs.declared.Command.the-variants.{Recall}
+use Rattle.machine.specs.Calls.{Parameters}
 use Rattle.machine.specs.Codes.{free, refusal}
-use Rattle.machine.specs.Machine.{Answer, sortOf, numberBy, nextBy, answer, step}
+use Rattle.machine.specs.Machine.{Answer, answerTo, stepTo}
 
 abbrev accepts : ℕ → Answer
 accepts n = record { code = 0; number = n }
 
-module _ (w : Parameters) (m : Machine) (a b c d : ℕ) where
-  abbrev undo : Call
-  undo = record { kind = 19; a = a; b = b; c = c; d = d }
-
-  abbrev redo : Call
-  redo = record { kind = 20; a = a; b = b; c = c; d = d }
-
-  abbrev commit : Call
-  commit = record { kind = 22; a = a; b = b; c = c; d = d }
-
+module _ (w : Parameters) (m : Machine) where
   -- ---- undo: refused exactly where p is 0, else it answers 1 and gives the graph before
 
-  pub undo-refused : (m .line .place ≡ 0) ↔ (refusal w m undo ≡ 14)
+  pub undo-refused : (m .line .place ≡ 0) ↔ (refusal w m (Recall Undo) ≡ 14)
   unfolding refusal
   undo-refused = (λ e. rw (eq-eqb (m .line .place) 0 e), λ e. go (m .line .place == 0) refl e)
     where
-      go : (t : Bool) → (m .line .place == 0) ≡ t → _≡_ {A = ℕ} ((t || false) ⇒ 14 else 0) 14 → m .line .place ≡ 0
+      go : (t : Bool) → (m .line .place == 0) ≡ t → _≡_ {A = ℕ} (t ⇒ 14 else 0) 14 → m .line .place ≡ 0
       go true f e = eqb-true (m .line .place) 0 f
       go false f e = absurd (omega arith)
 
-  pub undo-made : (p : ℕ) → m .line .place ≡ suc p → (answer w m undo ≡ accepts 1) × (step w m undo ≡ moves p m)
-  unfolding answer step refusal sortOf numberBy nextBy
+  pub undo-made : (p : ℕ) → m .line .place ≡ suc p → (answerTo w m (Recall Undo) ≡ accepts 1) × (stepTo w m (Recall Undo) ≡ moves p m)
+  unfolding answerTo stepTo refusal
   undo-made p e =
       let f : (m .line .place == 0) ≡ false = ne-eqb (m .line .place) 0 (omega arith) in
       let q : m .line .place - 1 ≡ p = omega arith in
@@ -44,7 +37,7 @@ module _ (w : Parameters) (m : Machine) (a b c d : ℕ) where
 
   -- ---- redo: refused exactly where p is m, else it answers 1 and gives the graph after
 
-  pub redo-refused : (m .line .place ≡ length (m .line .steps)) ↔ (refusal w m redo ≡ 14)
+  pub redo-refused : (m .line .place ≡ length (m .line .steps)) ↔ (refusal w m (Recall Redo) ≡ 14)
   unfolding refusal
   redo-refused =
       (λ e. rw (eq-eqb (m .line .place) (length (m .line .steps)) e), λ e. go (m .line .place == length (m .line .steps)) refl e)
@@ -53,14 +46,14 @@ module _ (w : Parameters) (m : Machine) (a b c d : ℕ) where
       go true f e = eqb-true (m .line .place) (length (m .line .steps)) f
       go false f e = absurd (omega arith)
 
-  pub redo-made : (m .line .place ≡ length (m .line .steps) → ⊥) → (answer w m redo ≡ accepts 1) × (step w m redo ≡ moves (suc (m .line .place)) m)
-  unfolding answer step refusal sortOf numberBy nextBy
+  pub redo-made : (m .line .place ≡ length (m .line .steps) → ⊥) → (answerTo w m (Recall Redo) ≡ accepts 1) × (stepTo w m (Recall Redo) ≡ moves (suc (m .line .place)) m)
+  unfolding answerTo stepTo refusal
   redo-made e =
       let f : (m .line .place == length (m .line .steps)) ≡ false = ne-eqb (m .line .place) (length (m .line .steps)) e in
       (rw f, rw f)
 
   -- ---- commit: always accepted; it answers p, keeps the graph and gives back everything
 
-  pub commit-made : (answer w m commit ≡ accepts (m .line .place)) × (step w m commit ≡ fresh (present m)) × (free w (step w m commit) ≡ w .changes)
-  unfolding answer step refusal sortOf numberBy nextBy free
+  pub commit-made : (answerTo w m (Recall Commit) ≡ accepts (m .line .place)) × (stepTo w m (Recall Commit) ≡ fresh (present m)) × (free w (stepTo w m (Recall Commit)) ≡ w .changes)
+  unfolding answerTo stepTo refusal free
   commit-made = (refl, refl, omega arith)

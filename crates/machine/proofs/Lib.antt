@@ -1,11 +1,11 @@
-pub mod Sorts
+pub mod Accepts
 pub mod Stands
 pub mod MarkLaws
-pub mod CodeRows
+pub mod Families
 pub mod CostsFit
 pub mod Cases
 pub mod Whole
-pub mod Allowed
+pub mod Allows
 pub mod Laws
 pub mod Graphs
 pub mod GraphBounds
@@ -14,3 +14,5 @@ pub mod ListRows
 pub mod AnswerBounds
 pub mod Ends
 pub mod Lowest
+pub mod OnWords
+pub mod RuleLaws

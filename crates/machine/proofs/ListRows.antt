@@ -1,11 +1,12 @@
 -- What a list that is not refused has passed: none of 101 to 106 applies.
-use Prim.Native.Nat.{_*_, _/_, _%_, _≤_}
-use mathlib.Core.Path.{_≡_}
-use mathlib.Core.Bool.{true, not, _&&_}
+use Prim.Native.Nat.{ℕ, suc, _*_, _/_, _%_, _≤_}
+use mathlib.Core.Path.{_≡_, refl}
+use mathlib.Core.Bool.{Bool, true, false, not, _&&_}
+use native.Mathlib.Omega.{arith}
 use lib.Dec.{ltb}
 use lib.ListN.{length}
 use borrow.Author.Tests.{eqb-true, eq-eqb, not-false, ltb-false}
-use Rattle.lists.specs.Choice.{_==_, within}
+use Rattle.lists.specs.Choice.{_⇒_else_, _==_, within}
 use Rattle.lists.specs.Lists.{all}
 use Rattle.lists.proofs.Bools.{and-true, within-range}
 use Rattle.types.specs.Rows.{rowFits, goodRows}
@@ -14,8 +15,11 @@ use Rattle.image.proofs.Loads.{loaded}
 use Rattle.image.proofs.WordSize.{InRange}
 use Rattle.machine.specs.Calls.{Parameters, boundsIn}
 use Rattle.machine.specs.Run.{Lent, parametersOf, Limits, listRefusal}
-use Rattle.machine.proofs.CodeRows.{chain-zero}
 use Rattle.machine.proofs.Graphs.{Formed}
+
+chain-zero : (t : Bool) (n r : ℕ) → ((t ⇒ suc n else r) == 0) ≡ true → (t ≡ false) × ((r == 0) ≡ true)
+chain-zero true n r h = absurd (omega (arith, eqb-true (suc n) 0 h))
+chain-zero false n r h = (refl, h)
 
 pub limits-in : (w : Parameters) → Limits w → InRange (boundsIn w)
 limits-in w k = record { vertices = k .few-vertices; edges = k .few-edges; types = k .few-types }

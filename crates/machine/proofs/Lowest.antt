@@ -13,8 +13,15 @@ use Rattle.lists.proofs.Bools.{ft}
 use Rattle.lists.proofs.Sums.{all-bool}
 use Rattle.graph.specs.Changes.{cost}
 use Rattle.history.specs.Machine.{Machine, present}
-use Rattle.machine.specs.Calls.{Call, Parameters, isChange, changeOf}
-use Rattle.machine.specs.Codes.{free, noRoom, Row, lowest, codeTable, refusal, Lowest, found, later, NoneApplies, none, passed}
+use Rattle.commands.specs.Calls.{Call}
+use Rattle.machine.specs.Calls.{Parameters}
+use Rattle.machine.specs.HistoryCodes.{isChange}
+use Rattle.commands.specs.Commands.{changeOf, callOf}
+use Rattle.machine.specs.Codes.{free, codeTable, refusal}
+use Rattle.machine.specs.HistoryCodes.{noRoom}
+use Rattle.commands.specs.Tables.{Row, lowest, Lowest, found, later, NoneApplies, none, passed}
+use Rattle.commands.specs.declared.Command.{Command}
+use Rattle.machine.proofs.Families.{Coded}
 use Rattle.machine.specs.Run.{Lent, listTable, listRefusal}
 
 -- the codes of the tables, in their order
@@ -25,9 +32,6 @@ codes w m x = refl
 pub list-codes : (l : Lent) → map (λ (r : Row). r .code) (listTable l) ≡ 101 ∷ 102 ∷ 103 ∷ 104 ∷ 105 ∷ 106 ∷ []
 unfolding listTable
 list-codes l = refl
-
-abbrev Coded : List Row → Type 0
-Coded rs = All (λ (r : Row). 1 ≤ r .code) rs
 
 -- ---- any table of codes from 1 on
 
@@ -58,29 +62,29 @@ none-from (passed f h) = rw f (none-from h)
 
 -- ---- the table of a call
 
-module _ (w : Parameters) (m : Machine) (x : Call) where
-  coded : Coded (codeTable w m x)
+module _ (w : Parameters) (m : Machine) (c : Command) where
+  coded : Coded (codeTable w m (callOf c))
   unfolding codeTable
-  coded = all-bool (λ (r : Row). leb 1 (r .code)) (λ r e. leb-true 1 (r .code) e) (codeTable w m x) refl
+  coded = all-bool (λ (r : Row). leb 1 (r .code)) (λ r e. leb-true 1 (r .code) e) (codeTable w m (callOf c)) refl
 
   -- a code is given exactly where its row applies and no row before it does
-  pub code-given : (k : ℕ) → (refusal w m x ≡ suc k) ↔ Lowest (suc k) (codeTable w m x)
+  pub code-given : (k : ℕ) → (refusal w m c ≡ suc k) ↔ Lowest (suc k) (codeTable w m (callOf c))
   unfolding refusal
-  code-given k = (lowest-to k (codeTable w m x), lowest-from k)
+  code-given k = (lowest-to k (codeTable w m (callOf c)), lowest-from k)
 
   -- a call is accepted exactly where no row applies
-  pub none-given : (refusal w m x ≡ 0) ↔ NoneApplies (codeTable w m x)
+  pub none-given : (refusal w m c ≡ 0) ↔ NoneApplies (codeTable w m (callOf c))
   unfolding refusal
-  none-given = (none-to (codeTable w m x) coded, none-from)
+  none-given = (none-to (codeTable w m (callOf c)) coded, none-from)
 
-  -- what row 10 says
-  pub no-room : (noRoom w m x ≡ true) ↔ ((isChange (x .kind) ≡ true) × (free w m < cost (changeOf x) (present m)))
-  unfolding noRoom
-  no-room = (λ e. go (isChange (x .kind)) refl e, λ h. rw (h .0) (lt-ltb _ _ (h .1)))
-    where
-      go : (t : Bool) → isChange (x .kind) ≡ t → (t && ltb (free w m) (cost (changeOf x) (present m))) ≡ true → (isChange (x .kind) ≡ true) × (free w m < cost (changeOf x) (present m))
-      go true f e = (f, ltb-true _ _ e)
-      go false f e = ft e
+-- what row 10 says
+pub no-room : (w : Parameters) (m : Machine) (x : Call) → (noRoom (w .changes) m x ≡ true) ↔ ((isChange (x .kind) ≡ true) × (free w m < cost (changeOf x) (present m)))
+unfolding free
+no-room w m x = (λ e. go (isChange (x .kind)) refl e, λ h. rw (h .0) (lt-ltb _ _ (h .1)))
+  where
+    go : (t : Bool) → isChange (x .kind) ≡ t → (t && ltb (free w m) (cost (changeOf x) (present m))) ≡ true → (isChange (x .kind) ≡ true) × (free w m < cost (changeOf x) (present m))
+    go true f e = (f, ltb-true _ _ e)
+    go false f e = ft e
 
 -- ---- the table of a list
 

@@ -14,11 +14,18 @@ use Rattle.lists.proofs.Bools.{tf, ft, and-true, or-none}
 use Rattle.graph.specs.Graph.{Graph}
 use Rattle.history.specs.Machine.{Machine, Standing, gone, at, placeOr, graphAt, distance, fresh, present}
 use Rattle.history.proofs.Timelines.{length-cut, graph-kept}
-use Rattle.machine.specs.Calls.{Call, Parameters}
+use Rattle.machine.specs.Rules.{Effect, steps, marks, unmarks, goes, clears, nothing, effected}
+use Rattle.commands.specs.declared.HistoryCall.{HistoryCall}
+use Rattle.commands.specs.declared.HistoryCall.the-variants.{SetMark, DropMark, Undo, Redo, GoTo, Commit, Between, Standing as StandingMarks, Free}
+use Rattle.commands.specs.declared.Command.{Command}
+use Rattle.commands.specs.declared.Command.the-variants.{Alter, Recall, Ask, Quote, Unknown}
+use Rattle.commands.specs.Calls.{Call}
+use Rattle.commands.specs.Commands.{historyOf, commandOf}
+use Rattle.machine.specs.Calls.{Parameters}
 use Rattle.machine.specs.Codes.{refusal}
-use Rattle.machine.specs.Machine.{Sort, changes, sets, drops, undoes, redoes, goes, commits, asks, sortOf, answer, step, last, nextBy, numberBy}
+use Rattle.machine.specs.Machine.{deedOf, answerTo, answer, step, last}
 use Rattle.machine.specs.Marks.{eventOf, events, setsBy, setsMark, endsBy, endsMark, Kept, set-here, set-later, goTo, MarkSentence}
-use Rattle.machine.proofs.Sorts.{code-is, accepted-step, refused-step, not-refused, Kind, kind-of, ofKind, call-is}
+use Rattle.machine.proofs.Accepts.{code-is, accepted-step, refused-step, not-refused}
 use Rattle.machine.proofs.Stands.{gone-at, cut-at, set-to, drop-to, KeptOrStanding, last-to, kept-from}
 
 -- ---- the places stay within the graphs, and a kept place keeps its graph
@@ -31,139 +38,146 @@ pub fresh-places : (g : Graph) → PlacesInRange (fresh g)
 fresh-places g = record { place-in = omega arith; marks-in = λ k q e. gone-at e }
 
 -- code 14
-redo-room : (w : Parameters) (m : Machine) (x : Call) → (refusal w m (ofKind 20 x) == 0) ≡ true → (m .line .place == length (m .line .steps)) ≡ false
-unfolding refusal ofKind
-redo-room w m x f = go (m .line .place == length (m .line .steps)) refl
+redo-room : (w : Parameters) (m : Machine) → (refusal w m (Recall Redo) == 0) ≡ true → (m .line .place == length (m .line .steps)) ≡ false
+unfolding refusal
+redo-room w m f = go (m .line .place == length (m .line .steps)) refl
   where
     go : (t : Bool) → (m .line .place == length (m .line .steps)) ≡ t → t ≡ false
     go true e = sym (rw e at f)
     go false e = refl
 
 -- code 11
-set-range : (w : Parameters) (m : Machine) (x : Call) → (refusal w m (ofKind 17 x) == 0) ≡ true → within 1 64 (x .a) ≡ true
-unfolding refusal ofKind
-set-range w m x f = go (within 1 64 (x .a)) refl
+set-range : (w : Parameters) (m : Machine) (k : ℕ) → (refusal w m (Recall (SetMark k)) == 0) ≡ true → within 1 64 k ≡ true
+unfolding refusal
+set-range w m k f = go (within 1 64 k) refl
   where
-    go : (t : Bool) → within 1 64 (x .a) ≡ t → t ≡ true
+    go : (t : Bool) → within 1 64 k ≡ t → t ≡ true
     go true e = refl
     go false e = rw e at f
 
-redo-below : (w : Parameters) (m : Machine) (x : Call) → PlacesInRange m → (refusal w m x == 0) ≡ true → sortOf (present m) x ≡ redoes → m .line .place < length (m .line .steps)
-unfolding Kind
-redo-below w m x h f s =
-    let k : x .kind ≡ 20 = subst (λ r. Kind r (x .kind)) s (kind-of (present m) x) in
-    let f′ : (refusal w m (ofKind 20 x) == 0) ≡ true = subst (λ y. (refusal w m y == 0) ≡ true) (call-is x 20 k) f in
-    let ne = eqb-false (m .line .place) (length (m .line .steps)) (redo-room w m x f′) in
-    omega (arith, h .place-in, ne)
+-- an effect that goes to a place goes to one of G0 to Gm
+Inside : Effect → Machine → Type 0
+Inside (goes p) m = p ≤ length (m .line .steps)
+Inside (steps s) m = Unit {0}
+Inside (marks n) m = Unit {0}
+Inside (unmarks n) m = Unit {0}
+Inside clears m = Unit {0}
+Inside nothing m = Unit {0}
 
-places-next : (s : Sort) (m : Machine) (x : Call) → PlacesInRange m → (s ≡ redoes → m .line .place < length (m .line .steps)) → PlacesInRange (nextBy s m x)
-unfolding nextBy
-places-next changes m x h r = record {
+inside : (w : Parameters) (m : Machine) (c : Command) → PlacesInRange m → (refusal w m c == 0) ≡ true → Inside (deedOf w c m .effect) m
+unfolding Inside
+inside w m (Alter c) h f = tt
+inside w m (Recall (SetMark k)) h f = tt
+inside w m (Recall (DropMark k)) h f = tt
+inside w m (Recall Undo) h f = omega (arith, h .place-in)
+inside w m (Recall Redo) h f = let n = eqb-false (m .line .place) (length (m .line .steps)) (redo-room w m f) in omega (arith, h .place-in, n)
+inside w m (Recall (GoTo k)) h f = go (m .marks k) refl
+  where
+    go : (s : Standing) → m .marks k ≡ s → placeOr (m .line .place) s ≤ length (m .line .steps)
+    go gone e = h .place-in
+    go (at q) e = h .marks-in k q e
+inside w m (Recall Commit) h f = tt
+inside w m (Recall (Between j k)) h f = tt
+inside w m (Recall StandingMarks) h f = tt
+inside w m (Recall Free) h f = tt
+inside w m (Ask q) h f = tt
+inside w m (Quote p) h f = tt
+inside w m Unknown h f = tt
+
+places-next : (e : Effect) (m : Machine) → PlacesInRange m → Inside e m → PlacesInRange (effected e m)
+unfolding Inside
+places-next (steps s) m h r = record {
   place-in = rw (length-cut (m .line .place) (m .line .steps) _ (h .place-in)) (omega arith);
   marks-in = λ k q e.
       rw (length-cut (m .line .place) (m .line .steps) _ (h .place-in))
       (let b = ltb-false (m .line .place) q (cut-at (m .line .place) q (m .marks k) e .1) in omega arith);
 }
-places-next sets m x h r = record {
+places-next (marks n) m h r = record {
   place-in = h .place-in;
-  marks-in = λ k q e. go k q (set-to (k == x .a) (m .line .place) q (m .marks k) e);
+  marks-in = λ k q e. go k q (set-to (k == n) (m .line .place) q (m .marks k) e);
 }
   where
-    go : (k q : ℕ) → (((k == x .a) ≡ true) × (m .line .place ≡ q)) ⊎ ((m .marks k ≡ at q) × ((k == x .a) ≡ false)) → q ≤ length (m .line .steps)
+    go : (k q : ℕ) → (((k == n) ≡ true) × (m .line .place ≡ q)) ⊎ ((m .marks k ≡ at q) × ((k == n) ≡ false)) → q ≤ length (m .line .steps)
     go k q (inl i) = omega (arith, h .place-in, i .1)
     go k q (inr i) = h .marks-in k q (i .0)
-places-next drops m x h r = record {
+places-next (unmarks n) m h r = record {
   place-in = h .place-in;
-  marks-in = λ k q e. h .marks-in k q (drop-to (k == x .a) q (m .marks k) e .0);
+  marks-in = λ k q e. h .marks-in k q (drop-to (k == n) q (m .marks k) e .0);
 }
-places-next undoes m x h r = record { place-in = omega (arith, h .place-in); marks-in = h .marks-in }
-places-next redoes m x h r = record { place-in = r refl; marks-in = h .marks-in }
-places-next goes m x h r = record { place-in = go (m .marks (x .a)) refl; marks-in = h .marks-in }
-  where
-    go : (s : Standing) → m .marks (x .a) ≡ s → placeOr (m .line .place) s ≤ length (m .line .steps)
-    go gone e = h .place-in
-    go (at q) e = h .marks-in (x .a) q e
-places-next commits m x h r = fresh-places (present m)
-places-next asks m x h r = h
+places-next (goes p) m h r = record { place-in = r; marks-in = h .marks-in }
+places-next clears m h r = fresh-places (present m)
+places-next nothing m h r = h
 
 pub places-step : (w : Parameters) (m : Machine) (x : Call) → PlacesInRange m → PlacesInRange (step w m x)
-places-step w m x h = go (refusal w m x == 0) refl
+places-step w m x h = go (refusal w m (commandOf x) == 0) refl
   where
-    go : (t : Bool) → (refusal w m x == 0) ≡ t → PlacesInRange (step w m x)
-    go true f = rw (accepted-step w m x f) (places-next (sortOf (present m) x) m x h (redo-below w m x h f))
-    go false f = rw (refused-step w m x f) h
+    go : (t : Bool) → (refusal w m (commandOf x) == 0) ≡ t → PlacesInRange (step w m x)
+    go true f = rw (accepted-step w m (commandOf x) f) (places-next (deedOf w (commandOf x) m .effect) m h (inside w m (commandOf x) h f))
+    go false f = rw (refused-step w m (commandOf x) f) h
 
 places-last : (w : Parameters) (m : Machine) (xs : List Call) → PlacesInRange m → PlacesInRange (last w m xs)
 unfolding last
 places-last w m [] h = h
 places-last w m (x ∷ xs) h = places-last w (step w m x) xs (places-step w m x h)
 
--- a call of sort s at place p takes Gq away: a change before q, or a commit
-loses : Sort → ℕ → ℕ → Bool
-loses changes q p = ltb p q
-loses commits q p = true
-loses sets q p = false
-loses drops q p = false
-loses undoes q p = false
-loses redoes q p = false
-loses goes q p = false
-loses asks q p = false
+-- an effect at place p takes Gq away: a change before q, or a commit
+loses : Effect → ℕ → ℕ → Bool
+loses (steps s) q p = ltb p q
+loses clears q p = true
+loses (marks n) q p = false
+loses (unmarks n) q p = false
+loses (goes r) q p = false
+loses nothing q p = false
 
-ends-loses : (s : Sort) (k q p : ℕ) (x : Call) → endsBy s k q p x ≡ false → loses s q p ≡ false
+ends-loses : (e : Effect) (k q p : ℕ) → endsBy e k q p ≡ false → loses e q p ≡ false
 unfolding loses
-ends-loses changes k q p x e = e
-ends-loses sets k q p x e = refl
-ends-loses drops k q p x e = refl
-ends-loses undoes k q p x e = refl
-ends-loses redoes k q p x e = refl
-ends-loses goes k q p x e = refl
-ends-loses commits k q p x e = e
-ends-loses asks k q p x e = refl
+ends-loses (steps s) k q p e = e
+ends-loses (marks n) k q p e = refl
+ends-loses (unmarks n) k q p e = refl
+ends-loses (goes r) k q p e = refl
+ends-loses clears k q p e = e
+ends-loses nothing k q p e = refl
 
-sets-loses : (s : Sort) (k q p : ℕ) (x : Call) → setsBy s k x ≡ true → loses s q p ≡ false
+sets-loses : (e : Effect) (k q p : ℕ) → setsBy e k ≡ true → loses e q p ≡ false
 unfolding loses
-sets-loses changes k q p x e = ft e
-sets-loses sets k q p x e = refl
-sets-loses drops k q p x e = refl
-sets-loses undoes k q p x e = refl
-sets-loses redoes k q p x e = refl
-sets-loses goes k q p x e = refl
-sets-loses commits k q p x e = ft e
-sets-loses asks k q p x e = refl
+sets-loses (steps s) k q p e = ft e
+sets-loses (marks n) k q p e = refl
+sets-loses (unmarks n) k q p e = refl
+sets-loses (goes r) k q p e = refl
+sets-loses clears k q p e = ft e
+sets-loses nothing k q p e = refl
 
 -- Gq is there, and is g
 Holds : Machine → ℕ → Graph → Type 0
 Holds m q g = (q ≤ length (m .line .steps)) × (graphAt q (m .line .start) (m .line .steps) ≡ g)
 
-holds-next : (s : Sort) (m : Machine) (x : Call) (q : ℕ) (g : Graph) → PlacesInRange m → Holds m q g → loses s q (m .line .place) ≡ false → Holds (nextBy s m x) q g
-unfolding nextBy loses Holds
-holds-next changes m x q g h i e =
+holds-next : (e : Effect) (m : Machine) (q : ℕ) (g : Graph) → PlacesInRange m → Holds m q g → loses e q (m .line .place) ≡ false → Holds (effected e m) q g
+unfolding loses Holds
+holds-next (steps s) m q g h i e =
     let b = ltb-false (m .line .place) q e in
     (rw (length-cut (m .line .place) (m .line .steps) _ (h .place-in)) (omega arith), graph-kept (m .line .start) (m .line .steps) _ (m .line .place) q b (h .place-in) ∙ i .1)
-holds-next sets m x q g h i e = i
-holds-next drops m x q g h i e = i
-holds-next undoes m x q g h i e = i
-holds-next redoes m x q g h i e = i
-holds-next goes m x q g h i e = i
-holds-next commits m x q g h i e = tf e
-holds-next asks m x q g h i e = i
+holds-next (marks n) m q g h i e = i
+holds-next (unmarks n) m q g h i e = i
+holds-next (goes p) m q g h i e = i
+holds-next clears m q g h i e = tf e
+holds-next nothing m q g h i e = i
 
 holds-ends : (w : Parameters) (m : Machine) (x : Call) (k q : ℕ) (g : Graph) → PlacesInRange m → Holds m q g →
     endsMark k q (eventOf w m x) ≡ false → Holds (step w m x) q g
-holds-ends w m x k q g h i e = go (refusal w m x == 0) refl
+holds-ends w m x k q g h i e = go (refusal w m (commandOf x) == 0) refl
   where
-    go : (t : Bool) → (refusal w m x == 0) ≡ t → Holds (step w m x) q g
+    go : (t : Bool) → (refusal w m (commandOf x) == 0) ≡ t → Holds (step w m x) q g
     go true f =
-        rw (accepted-step w m x f)
-        (holds-next (sortOf (present m) x) m x q g h i (ends-loses (sortOf (present m) x) k q (m .line .place) x (rw (code-is w m x true f) at e)))
-    go false f = rw (refused-step w m x f) i
+        rw (accepted-step w m (commandOf x) f)
+        (holds-next (deedOf w (commandOf x) m .effect) m q g h i (ends-loses (deedOf w (commandOf x) m .effect) k q (m .line .place) (rw (code-is w m (commandOf x) true f) at e)))
+    go false f = rw (refused-step w m (commandOf x) f) i
 
 holds-sets : (w : Parameters) (m : Machine) (x : Call) (k q : ℕ) (g : Graph) → PlacesInRange m → Holds m q g →
     setsMark k (eventOf w m x) ≡ true → Holds (step w m x) q g
 holds-sets w m x k q g h i e =
     let a = and-true _ _ e in
-    let f = not-refused w m x (a .0) in
-    rw (accepted-step w m x f) (holds-next (sortOf (present m) x) m x q g h i (sets-loses (sortOf (present m) x) k q (m .line .place) x (a .1)))
+    let f = not-refused w m (commandOf x) (a .0) in
+    rw (accepted-step w m (commandOf x) f) (holds-next (deedOf w (commandOf x) m .effect) m q g h i (sets-loses (deedOf w (commandOf x) m .effect) k q (m .line .place) (a .1)))
 
 stay-graph : (w : Parameters) (m : Machine) (xs : List Call) (k q : ℕ) (g : Graph) → PlacesInRange m → Holds m q g → any (endsMark k q) (events w m xs) ≡ false →
     Holds (last w m xs) q g
@@ -181,53 +195,53 @@ kept-graph w m (x ∷ xs) k q g h (set-here s p c nz) =
     (holds-sets w m x k q g h (rw p at (h .place-in), ap (λ (i : ℕ). graphAt i (m .line .start) (m .line .steps)) (sym p) ∙ c) s) nz
 kept-graph w m (x ∷ xs) k q g h (set-later r) = kept-graph w (step w m x) xs k q g (places-step w m x h) r
 
-sets-range : (w : Parameters) (m : Machine) (x : Call) (k : ℕ) (s : Sort) → sortOf (present m) x ≡ s → (refusal w m x == 0) ≡ true → setsBy s k x ≡ true →
-    within 1 64 k ≡ true
-unfolding Kind
-sets-range w m x k sets s f e =
-    let i : x .kind ≡ 17 = subst (λ r. Kind r (x .kind)) s (kind-of (present m) x) in
-    let f′ : (refusal w m (ofKind 17 x) == 0) ≡ true = subst (λ y. (refusal w m y == 0) ≡ true) (call-is x 17 i) f in
-    ap (within 1 64) (eqb-true k (x .a) e) ∙ set-range w m x f′
-sets-range w m x k changes s f e = ft e
-sets-range w m x k drops s f e = ft e
-sets-range w m x k undoes s f e = ft e
-sets-range w m x k redoes s f e = ft e
-sets-range w m x k goes s f e = ft e
-sets-range w m x k commits s f e = ft e
-sets-range w m x k asks s f e = ft e
+sets-range : (w : Parameters) (m : Machine) (c : Command) (k : ℕ) → (refusal w m c == 0) ≡ true → setsBy (deedOf w c m .effect) k ≡ true → within 1 64 k ≡ true
+sets-range w m (Recall (SetMark n)) k f e = ap (within 1 64) (eqb-true k n e) ∙ set-range w m n f
+sets-range w m (Recall (DropMark n)) k f e = ft e
+sets-range w m (Recall Undo) k f e = ft e
+sets-range w m (Recall Redo) k f e = ft e
+sets-range w m (Recall (GoTo n)) k f e = ft e
+sets-range w m (Recall Commit) k f e = ft e
+sets-range w m (Recall (Between i j)) k f e = ft e
+sets-range w m (Recall StandingMarks) k f e = ft e
+sets-range w m (Recall Free) k f e = ft e
+sets-range w m (Alter c) k f e = ft e
+sets-range w m (Ask q) k f e = ft e
+sets-range w m (Quote p) k f e = ft e
+sets-range w m Unknown k f e = ft e
 
 kept-range : (w : Parameters) (m : Machine) (xs : List Call) (k q : ℕ) (g : Graph) → Kept k q g (events w m xs) → within 1 64 k ≡ true
 unfolding events
 kept-range w m (x ∷ xs) k q g (set-here s p c nz) =
     let a = and-true _ _ s in
-    sets-range w m x k (sortOf (present m) x) refl (not-refused w m x (a .0)) (a .1)
+    sets-range w m (commandOf x) k (not-refused w m (commandOf x) (a .0)) (a .1)
 kept-range w m (x ∷ xs) k q g (set-later r) = kept-range w (step w m x) xs k q g r
 
 -- ---- going to a standing mark
 
-go-accepted : (w : Parameters) (m : Machine) (k q b c d : ℕ) → within 1 64 k ≡ true → m .marks k ≡ at q → refusal w m (goTo k b c d) ≡ 0
-unfolding refusal
-go-accepted w m k q b c d r e = rw (r, e)
+go-command : (k b c d : ℕ) → commandOf (goTo k b c d) ≡ Recall (GoTo k)
+unfolding commandOf
+go-command k b c d = refl
 
-go-sort : (g : Graph) (k b c d : ℕ) → sortOf g (goTo k b c d) ≡ goes
-unfolding sortOf
-go-sort g k b c d = refl
+go-accepted : (w : Parameters) (m : Machine) (k q : ℕ) → within 1 64 k ≡ true → m .marks k ≡ at q → refusal w m (Recall (GoTo k)) ≡ 0
+unfolding refusal
+go-accepted w m k q r e = rw (r, e)
 
 module _ (w : Parameters) (m : Machine) (k q b c d : ℕ) (r : within 1 64 k ≡ true) (e : m .marks k ≡ at q) where
-  zero-test : (refusal w m (goTo k b c d) == 0) ≡ true
-  zero-test = rw (go-accepted w m k q b c d r e)
+  zero-test : (refusal w m (Recall (GoTo k)) == 0) ≡ true
+  zero-test = rw (go-accepted w m k q r e)
 
   go-code : answer w m (goTo k b c d) .code ≡ 0
-  unfolding answer
-  go-code = rw zero-test
+  unfolding answerTo
+  go-code = rw (go-command k b c d) (go-accepted w m k q r e)
 
   go-number : answer w m (goTo k b c d) .number ≡ distance (m .line .place) q
-  unfolding answer numberBy
-  go-number = rw (zero-test, e)
+  unfolding answerTo
+  go-number = rw (go-command k b c d, zero-test, e)
 
   go-graph : (g : Graph) → Holds m q g → present (step w m (goTo k b c d)) ≡ g
-  unfolding nextBy Holds
-  go-graph g h = rw (accepted-step w m (goTo k b c d) zero-test, go-sort (present m) k b c d, e) (h .1)
+  unfolding Holds
+  go-graph g h = rw (go-command k b c d, accepted-step w m (Recall (GoTo k)) zero-test, e) (h .1)
 
 pub mark-sentence : (w : Parameters) (g : Graph) (xs : List Call) → MarkSentence w g xs
 unfolding KeptOrStanding

@@ -11,15 +11,18 @@ use Rattle.lists.specs.Lists.{any}
 use Rattle.lists.proofs.Bools.{tf, ft, or-none}
 use Rattle.graph.specs.Graph.{Graph}
 use Rattle.history.specs.Machine.{Machine, Standing, gone, at, cut, present}
-use Rattle.machine.specs.Calls.{Call, Parameters}
+use Rattle.machine.specs.Rules.{Effect, steps, marks, unmarks, goes, clears, nothing, effected}
+use Rattle.commands.specs.Calls.{Call}
+use Rattle.commands.specs.Commands.{commandOf}
+use Rattle.machine.specs.Calls.{Parameters}
 use Rattle.machine.specs.Codes.{refusal}
-use Rattle.machine.specs.Machine.{Sort, changes, sets, drops, undoes, redoes, goes, commits, asks, sortOf, step, last, nextBy}
+use Rattle.machine.specs.Machine.{deedOf, step, last}
 use Rattle.machine.specs.Marks.{eventOf, events, setsBy, setsMark, endsBy, endsMark, Kept, set-here, set-later}
-use Rattle.machine.proofs.Sorts.{code-is, accepted-step, refused-step}
+use Rattle.machine.proofs.Accepts.{code-is, accepted-step, refused-step}
 
--- mark k stands at q after a call of sort s at place p: the call set it there, or it stood there before and the call did not end it
-After : Sort → Machine → Call → ℕ → ℕ → Type 0
-After s m x k q = ((setsBy s k x ≡ true) × (m .line .place ≡ q)) ⊎ ((m .marks k ≡ at q) × (endsBy s k q (m .line .place) x ≡ false))
+-- mark k stands at q after an effect e at place p: the call set it there, or it stood there before and the call did not end it
+After : Effect → Machine → ℕ → ℕ → Type 0
+After e m k q = ((setsBy e k ≡ true) × (m .line .place ≡ q)) ⊎ ((m .marks k ≡ at q) × (endsBy e k q (m .line .place) ≡ false))
 
 pub gone-at {ℓ} : {X : Type ℓ} {q : ℕ} → gone ≡ at q → X
 gone-at e = absurd (let z : _≡_ {A = ℕ} 0 1 = cc in omega arith)
@@ -52,34 +55,28 @@ pub drop-to : (t : Bool) (q : ℕ) (s : Standing) → (t ⇒ gone else s) ≡ at
 drop-to true q s e = gone-at e
 drop-to false q s e = (e, refl)
 
-next-to : (s : Sort) (m : Machine) (x : Call) (k q : ℕ) → nextBy s m x .marks k ≡ at q → After s m x k q
-unfolding nextBy After
-next-to changes m x k q e = inr (cut-at (m .line .place) q (m .marks k) e)
-next-to sets m x k q e = set-to (k == x .a) (m .line .place) q (m .marks k) e
-next-to drops m x k q e = inr (drop-to (k == x .a) q (m .marks k) e)
-next-to undoes m x k q e = inr (e, refl)
-next-to redoes m x k q e = inr (e, refl)
-next-to goes m x k q e = inr (e, refl)
-next-to commits m x k q e = gone-at e
-next-to asks m x k q e = inr (e, refl)
+next-to : (e : Effect) (m : Machine) (k q : ℕ) → effected e m .marks k ≡ at q → After e m k q
+unfolding After
+next-to (steps s) m k q e = inr (cut-at (m .line .place) q (m .marks k) e)
+next-to (marks n) m k q e = set-to (k == n) (m .line .place) q (m .marks k) e
+next-to (unmarks n) m k q e = inr (drop-to (k == n) q (m .marks k) e)
+next-to (goes p) m k q e = inr (e, refl)
+next-to clears m k q e = gone-at e
+next-to nothing m k q e = inr (e, refl)
 
-next-from : (s : Sort) (m : Machine) (x : Call) (k q : ℕ) → After s m x k q → nextBy s m x .marks k ≡ at q
-unfolding nextBy After
-next-from changes m x k q (inl h) = ft (h .0)
-next-from changes m x k q (inr h) = at-cut (m .line .place) q (m .marks k) (h .0) (h .1)
-next-from sets m x k q h = set-from (k == x .a) (m .line .place) q (m .marks k) h
-next-from drops m x k q (inl h) = ft (h .0)
-next-from drops m x k q (inr h) = ap (λ (t : Bool). t ⇒ gone else m .marks k) (h .1) ∙ h .0
-next-from undoes m x k q (inl h) = ft (h .0)
-next-from undoes m x k q (inr h) = h .0
-next-from redoes m x k q (inl h) = ft (h .0)
-next-from redoes m x k q (inr h) = h .0
-next-from goes m x k q (inl h) = ft (h .0)
-next-from goes m x k q (inr h) = h .0
-next-from commits m x k q (inl h) = ft (h .0)
-next-from commits m x k q (inr h) = tf (h .1)
-next-from asks m x k q (inl h) = ft (h .0)
-next-from asks m x k q (inr h) = h .0
+next-from : (e : Effect) (m : Machine) (k q : ℕ) → After e m k q → effected e m .marks k ≡ at q
+unfolding After
+next-from (steps s) m k q (inl h) = ft (h .0)
+next-from (steps s) m k q (inr h) = at-cut (m .line .place) q (m .marks k) (h .0) (h .1)
+next-from (marks n) m k q h = set-from (k == n) (m .line .place) q (m .marks k) h
+next-from (unmarks n) m k q (inl h) = ft (h .0)
+next-from (unmarks n) m k q (inr h) = ap (λ (t : Bool). t ⇒ gone else m .marks k) (h .1) ∙ h .0
+next-from (goes p) m k q (inl h) = ft (h .0)
+next-from (goes p) m k q (inr h) = h .0
+next-from clears m k q (inl h) = ft (h .0)
+next-from clears m k q (inr h) = tf (h .1)
+next-from nothing m k q (inl h) = ft (h .0)
+next-from nothing m k q (inr h) = h .0
 
 -- the same after one call, accepted or refused
 AfterCall : Parameters → Machine → Call → ℕ → ℕ → Type 0
@@ -88,11 +85,11 @@ AfterCall w m x k q =
 
 step-to : (w : Parameters) (m : Machine) (x : Call) (k q : ℕ) → step w m x .marks k ≡ at q → AfterCall w m x k q
 unfolding AfterCall After
-step-to w m x k q e = go (refusal w m x == 0) refl
+step-to w m x k q e = go (refusal w m (commandOf x) == 0) refl
   where
-    go : (t : Bool) → (refusal w m x == 0) ≡ t → AfterCall w m x k q
-    go true f = rw (code-is w m x true f) (next-to (sortOf (present m) x) m x k q (rw (accepted-step w m x f) at e))
-    go false f = rw (code-is w m x false f) (inr (rw (refused-step w m x f) at e, refl))
+    go : (t : Bool) → (refusal w m (commandOf x) == 0) ≡ t → AfterCall w m x k q
+    go true f = rw (code-is w m (commandOf x) true f) (next-to (deedOf w (commandOf x) m .effect) m k q (rw (accepted-step w m (commandOf x) f) at e))
+    go false f = rw (code-is w m (commandOf x) false f) (inr (rw (refused-step w m (commandOf x) f) at e, refl))
 
 refused-from : {P Q : Type 0} → ((false ≡ true) × P) ⊎ (Q × (false ≡ false)) → Q
 refused-from (inl h) = ft (h .0)
@@ -100,11 +97,11 @@ refused-from (inr h) = h .0
 
 step-from : (w : Parameters) (m : Machine) (x : Call) (k q : ℕ) → AfterCall w m x k q → step w m x .marks k ≡ at q
 unfolding AfterCall After
-step-from w m x k q e = go (refusal w m x == 0) refl
+step-from w m x k q e = go (refusal w m (commandOf x) == 0) refl
   where
-    go : (t : Bool) → (refusal w m x == 0) ≡ t → step w m x .marks k ≡ at q
-    go true f = rw (accepted-step w m x f) (next-from (sortOf (present m) x) m x k q (rw (code-is w m x true f) at e))
-    go false f = rw (refused-step w m x f) (refused-from (rw (code-is w m x false f) at e))
+    go : (t : Bool) → (refusal w m (commandOf x) == 0) ≡ t → step w m x .marks k ≡ at q
+    go true f = rw (accepted-step w m (commandOf x) f) (next-from (deedOf w (commandOf x) m .effect) m k q (rw (code-is w m (commandOf x) true f) at e))
+    go false f = rw (refused-step w m (commandOf x) f) (refused-from (rw (code-is w m (commandOf x) false f) at e))
 
 -- ---- the first sentence, from any machine
 

@@ -8,7 +8,8 @@ use Rattle.lists.specs.Lists.{All, over}
 use Rattle.history.specs.Machine.{Machine, present}
 use Rattle.image.specs.Image.{save, load}
 use Rattle.image.proofs.WordSize.{Word}
-use Rattle.machine.specs.Calls.{Call, Parameters, callsOf}
+use Rattle.commands.specs.Calls.{Call, callsOf}
+use Rattle.machine.specs.Calls.{Parameters}
 use Rattle.machine.specs.Machine.{Answer, answer, answers, step, last}
 use Rattle.machine.specs.Marks.{Event, events}
 use Rattle.machine.specs.Run.{Lent, RunResult, parametersOf, listRefusal, answerWords, accepted, run}

@@ -5,7 +5,7 @@ use lib.ListN.{length}
 use Rattle.lists.specs.Lists.{over}
 use Rattle.image.specs.Image.{save, load}
 use Rattle.history.specs.Machine.{Machine, fresh, present}
-use Rattle.machine.specs.Calls.{Call, callsOf}
+use Rattle.commands.specs.Calls.{Call, callsOf}
 use Rattle.machine.specs.Machine.{Answer, answer, answers, step, last}
 use Rattle.machine.specs.Marks.{Event, events, MarkSentence}
 use Rattle.machine.specs.Run.{Lent, RunResult, parametersOf, answerWords}

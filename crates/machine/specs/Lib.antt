@@ -1,4 +1,6 @@
 pub mod Calls
+pub mod HistoryCodes
+pub mod Rules
 pub mod Codes
 pub mod Machine
 pub mod Marks

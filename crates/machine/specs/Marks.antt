@@ -9,51 +9,57 @@ use Rattle.lists.specs.Choice.{_==_}
 use Rattle.lists.specs.Lists.{any}
 use Rattle.graph.specs.Graph.{Graph}
 use Rattle.history.specs.Machine.{Machine, at, distance, fresh, present}
-use Rattle.machine.specs.Calls.{Call, Parameters}
-use Rattle.machine.specs.Machine.{Sort, changes, sets, drops, undoes, redoes, goes, commits, asks, sortOf, answer, step, last}
+use Rattle.machine.specs.Rules.{Effect, steps, marks, unmarks, goes, clears, nothing}
+use Rattle.commands.specs.Calls.{Call, five}
+use Rattle.commands.specs.Commands.{commandOf}
+use Rattle.machine.specs.Calls.{Parameters}
+use Rattle.machine.specs.Machine.{deedOf, answer, step, last}
 
--- a call, its answer's code, and p and Gp as it begins
+-- a call, its answer's code, what it does where it is accepted, and p and Gp as it begins
 pub record Event : Type 0 where
   pub call : Call
   pub code : ℕ
+  pub effect : Effect
   pub place : ℕ
   pub graph : Graph
 
 abbrev pub eventOf : Parameters → Machine → Call → Event
-eventOf w m x = record { call = x; code = answer w m x .code; place = m .line .place; graph = present m }
+eventOf w m x = record {
+  call = x;
+  code = answer w m x .code;
+  effect = deedOf w (commandOf x) m .effect;
+  place = m .line .place;
+  graph = present m;
+}
 
 -- what happened, in the order of the calls
 unfoldable pub events : Parameters → Machine → List Call → List Event
 events w m [] = []
 events w m (x ∷ xs) = eventOf w m x ∷ events w (step w m x) xs
 
-abbrev pub setsBy : Sort → ℕ → Call → Bool
-setsBy sets k x = k == x .a
-setsBy changes k x = false
-setsBy drops k x = false
-setsBy undoes k x = false
-setsBy redoes k x = false
-setsBy goes k x = false
-setsBy commits k x = false
-setsBy asks k x = false
+abbrev pub setsBy : Effect → ℕ → Bool
+setsBy (marks n) k = k == n
+setsBy (steps s) k = false
+setsBy (unmarks n) k = false
+setsBy (goes p) k = false
+setsBy clears k = false
+setsBy nothing k = false
 
 -- the call set mark k
 abbrev pub setsMark : ℕ → Event → Bool
-setsMark k e = (e .code == 0) && setsBy (sortOf (e .graph) (e .call)) k (e .call)
+setsMark k e = (e .code == 0) && setsBy (e .effect) k
 
 -- for mark k with place q and a call at place p: it set k anew, dropped k, committed, or was a change made at a place before q
-abbrev pub endsBy : Sort → ℕ → ℕ → ℕ → Call → Bool
-endsBy changes k q p x = ltb p q
-endsBy sets k q p x = k == x .a
-endsBy drops k q p x = k == x .a
-endsBy commits k q p x = true
-endsBy undoes k q p x = false
-endsBy redoes k q p x = false
-endsBy goes k q p x = false
-endsBy asks k q p x = false
+abbrev pub endsBy : Effect → ℕ → ℕ → ℕ → Bool
+endsBy (steps s) k q p = ltb p q
+endsBy (marks n) k q p = k == n
+endsBy (unmarks n) k q p = k == n
+endsBy clears k q p = true
+endsBy (goes r) k q p = false
+endsBy nothing k q p = false
 
 abbrev pub endsMark : ℕ → ℕ → Event → Bool
-endsMark k q e = (e .code == 0) && endsBy (sortOf (e .graph) (e .call)) k q (e .place) (e .call)
+endsMark k q e = (e .code == 0) && endsBy (e .effect) k q (e .place)
 
 -- an accepted call set mark k at place q, where the graph was g, and since then no call of these events ended it
 pub data Kept (k q : ℕ) (g : Graph) : List Event → Type 0 where
@@ -63,7 +69,7 @@ pub data Kept (k q : ℕ) (g : Graph) : List Event → Type 0 where
 
 -- the call that goes to mark k; its other words are ignored
 abbrev pub goTo : ℕ → ℕ → ℕ → ℕ → Call
-goTo k b c d = record { kind = 21; a = k; b = b; c = c; d = d }
+goTo k b c d = five 21 k b c d
 
 -- at the point after the calls xs
 pub record MarkSentence (w : Parameters) (g : Graph) (xs : List Call) : Type 0 where

@@ -9,8 +9,9 @@ use Rattle.lists.specs.Lists.{over}
 use Rattle.types.specs.Rows.{goodRows}
 use Rattle.image.specs.Image.{imageLength, save, load, loadable}
 use Rattle.history.specs.Machine.{fresh, present}
-use Rattle.machine.specs.Calls.{Parameters, boundsIn, callsOf}
-use Rattle.machine.specs.Codes.{Row, row, lowest}
+use Rattle.commands.specs.Calls.{callsOf}
+use Rattle.commands.specs.Tables.{Row, row, lowest}
+use Rattle.machine.specs.Calls.{Parameters, boundsIn}
 use Rattle.machine.specs.Machine.{Answer, answers, last}
 
 -- "Lent: start chart, type rows, calls, tables .., answers, end chart." Of the tables only the lengths matter

@@ -4,10 +4,17 @@ use mathlib.Core.List.{List, [], _∷_}
 use Rattle.lists.specs.Choice.{bit}
 use Rattle.graph.specs.declared.Reading.the-variants.{Untested}
 use Rattle.graph.specs.Graph.{Vertex, Edge, Graph, empty, listOf}
+use Rattle.types.specs.Types.{below}
+use Rattle.graph.specs.Changes.{changed}
+use Rattle.graph.specs.Questions as questions
 use Rattle.image.specs.Image.{save}
 use Rattle.history.specs.Machine.{Machine, stands, fresh, present}
-use Rattle.machine.specs.Calls.{Call, Parameters}
-use Rattle.machine.specs.Machine.{answers, last}
+use Rattle.history.specs.Machine.{stepOf}
+use Rattle.commands.specs.Calls.{Call}
+use Rattle.commands.specs.Commands.{changeOf, historyOf, questionOf, commandOf}
+use Rattle.machine.specs.Calls.{Parameters}
+use Rattle.machine.specs.Codes.{refusal}
+use Rattle.machine.specs.Machine.{answerTo, stepTo, answers, last}
 use Rattle.machine.specs.Run.{answerWords}
 
 -- "capacities 10, 10, 20, one type row 0"
@@ -38,16 +45,16 @@ making =
 
 -- the list of v as the calls build it from the empty graph
 unfoldable pub builtList : ℕ → List ℕ
-unfolding last
+unfolding last stepTo commandOf changeOf historyOf questionOf refusal stepOf changed
 builtList v = listOf (present (last parameters (fresh empty) making)) v
 
 -- "On fresh Seven each time": the machine after the calls, and the words of their answers
 unfoldable pub then : List Call → Machine
-unfolding last
+unfolding last stepTo commandOf changeOf historyOf questionOf refusal stepOf changed
 then xs = last parameters (fresh seven) xs
 
 unfoldable pub answersAfter : List Call → List ℕ
-unfolding answers
+unfolding answers answerTo stepTo commandOf changeOf historyOf questionOf refusal stepOf changed below questions.degree
 answersAfter xs = answerWords (answers parameters (fresh seven) xs)
 
 abbrev pub listAfter : List Call → ℕ → List ℕ

@@ -2,3 +2,4 @@ pub mod Largest
 pub mod Passes
 pub mod Heard
 pub mod BothWays
+pub mod PricedLaws

@@ -1,4 +1,7 @@
 // The price list, read off the lent tables.
+use answers::Answer;
+use checks::vertices_code;
+use commands::PriceCall;
 use cursor::following;
 use graph::Reading;
 use tables::rows::first_word;
@@ -10,7 +13,14 @@ ghost use Rattle.graph.specs.Graph.{Graph};
 ghost use Rattle.graph.specs.Changes.{VertexThere};
 ghost use Rattle.tables.specs.declared.Head.{Head};
 ghost use Rattle.tables.specs.Tables.{EIn, st};
+ghost use Rattle.graph.specs.WellFormed.{Bounds};
+ghost use Rattle.tables.specs.Capacities.{Sized};
 ghost use Rattle.tables.specs.Holds.{Holds};
+ghost use Rattle.commands.specs.declared.PriceCall.the-variants as price;
+ghost use Rattle.machine.specs.Codes.{priceCode};
+ghost use Rattle.machine.specs.Machine.{priceNumber};
+ghost use Rattle.answers.specs.AnswerIs.{AnswerIs};
+ghost use Rattle.prices.specs.Priced.{Priced};
 ghost use Rattle.queries.specs.Walks.{CanWalk};
 ghost use Rattle.pricing.specs.Prices.{heard, gradeOf};
 ghost use Rattle.prices.specs.Ways.{wayOf, largerOf, withReading, readingTo, bothWays, priceOf};
@@ -105,7 +115,7 @@ fn both_ways(there: Way, back: Way) -> Price
 }
 
 // Code 16 or 0, and the two-way range, of the vertices a and b.
-pub fn price_of(vt: &[u32], et: &[u32], a: u32, b: u32) -> Price
+fn price_of(vt: &[u32], et: &[u32], a: u32, b: u32) -> Price
     requires { ⌜ CanWalk (now vt) (now et) a × CanWalk (now vt) (now et) b ⌝ }
     ensures { λ r. ⌜ ((h : Head) (g : Graph) → Holds (st h (now (vt .entry)) (now (et .entry))) g → VertexThere g a → VertexThere g b → r ≡ priceOf g a b) ⌝ }
 {
@@ -115,8 +125,56 @@ pub fn price_of(vt: &[u32], et: &[u32], a: u32, b: u32) -> Price
 }
 
 // The grade of a range.
-pub fn grade_of(range: u32) -> u32
+fn grade_of(range: u32) -> u32
     ensures { λ r. ⌜ r ≡ gradeOf range ⌝ }
 {
     range / 250
+}
+
+// Codes 4 and 16, and the range of an accepted pair.
+fn priced(vt: &[u32], et: &[u32], a: u32, b: u32) -> Price
+    requires { ⌜ ((z : Bounds) × (head : Head) × (g : Graph) × Sized z (st head (now vt) (now et)) × Holds (st head (now vt) (now et)) g) ⌝ }
+    ensures { λ r. ⌜ ((head : Head) → (g : Graph) → Holds (st head (now (vt .entry)) (now (et .entry))) g → Priced g a b r) ⌝ }
+{
+    let code = vertices_code(vt, a, b);
+    if code != 0 {
+        return Price { code, range: 0 };
+    }
+    price_of(vt, et, a, b)
+}
+
+// Kind 53: the two-way range of a and b.
+fn range(vt: &[u32], et: &[u32], a: u32, b: u32) -> Answer
+    requires { ⌜ ((z : Bounds) × (head : Head) × (g : Graph) × Sized z (st head (now vt) (now et)) × Holds (st head (now vt) (now et)) g) ⌝ }
+    ensures { λ r. ⌜ ((head : Head) → (g : Graph) → Holds (st head (now (vt .entry)) (now (et .entry))) g → AnswerIs r (priceCode g (price.Range a b)) (priceNumber g (price.Range a b))) ⌝ }
+{
+    let p = priced(vt, et, a, b);
+    Answer {
+        code: p.code,
+        number: p.range,
+    }
+}
+
+// Kind 54: the grade of a and b.
+fn grade(vt: &[u32], et: &[u32], a: u32, b: u32) -> Answer
+    requires { ⌜ ((z : Bounds) × (head : Head) × (g : Graph) × Sized z (st head (now vt) (now et)) × Holds (st head (now vt) (now et)) g) ⌝ }
+    ensures { λ r. ⌜ ((head : Head) → (g : Graph) → Holds (st head (now (vt .entry)) (now (et .entry))) g → AnswerIs r (priceCode g (price.Grade a b)) (priceNumber g (price.Grade a b))) ⌝ }
+{
+    let p = priced(vt, et, a, b);
+    let number = grade_of(p.range);
+    Answer {
+        code: p.code,
+        number,
+    }
+}
+
+// Any call of the price list.
+pub fn quote(vt: &[u32], et: &[u32], call: PriceCall) -> Answer
+    requires { ⌜ ((z : Bounds) × (head : Head) × (g : Graph) × Sized z (st head (now vt) (now et)) × Holds (st head (now vt) (now et)) g) ⌝ }
+    ensures { λ r. ⌜ ((head : Head) → (g : Graph) → Holds (st head (now (vt .entry)) (now (et .entry))) g → AnswerIs r (priceCode g call) (priceNumber g call)) ⌝ }
+{
+    match call {
+        PriceCall::Range(a, b) => range(vt, et, a, b),
+        PriceCall::Grade(a, b) => grade(vt, et, a, b),
+    }
 }

@@ -14,14 +14,15 @@ use Rattle.graph.specs.declared.Change.{Change}
 use Rattle.graph.specs.declared.Change.the-variants.{CreateVertex, DeleteVertex, CreateEdge, DeleteEdge, RetypeVertex, RetypeEdge, SetValue, SetReading, SetAlpha, SetOmega, VertexBefore, VertexAfter, EdgeBefore, EdgeAfter, WordBefore, WordAfter}
 use Rattle.graph.specs.Graph.{Graph, vn, en, wd, edge, edgeOf, outWord, inWord, this, listIn, listOf, readingOf}
 use Rattle.graph.specs.WellFormed.{Bounds}
-use Rattle.graph.specs.Changes.{VertexThere, EdgeThere, Allowed, append, detach}
-use Rattle.graph.specs.Plans.{removal, vertexRemoval, wordMove, listWithout, moveLast, plan}
+use Rattle.graph.specs.Changes.{VertexThere, EdgeThere, Allowed, append, detach, cost}
+use Rattle.graph.specs.Plans.{removal, vertexRemoval, wordMove, listWithout, moveLast, plan, firstEdits}
 use Rattle.graph.proofs.Incidence.{list-upd, out-half, into-half, this-out, this-into}
 use Rattle.graph.proofs.Lists.{ordered-list}
+use Rattle.graph.proofs.ChangeLaws.{Kind, deletion, single, kind?}
 use Rattle.tables.specs.Tables.{State, vlast, wprev}
 use Rattle.tables.specs.Holds.{Holds}
 use Rattle.tables.specs.Capacities.{Sized}
-use Rattle.queries.specs.Plans.{unless, planRemoveEdge, planWordLast, planS, CanPlan}
+use Rattle.queries.specs.Plans.{unless, planRemoveEdge, planWordLast, planS, CanPlan, OneEdit}
 use Rattle.queries.proofs.Removed.{prev-rem, last-rem, last-other, last-append}
 use Rattle.queries.proofs.Answers.{last-vertex, last-edge, vertex-row, vertex-type, vertex-value, last-word, vertex-prev, edge-row, edge-type, reading-at, alpha-is, omega-is, edge-prev, word-row, word-this, word-vertex, word-listed, word-prev}
 
@@ -171,3 +172,12 @@ module _ (b : Bounds) (s : State) (z : Sized b s) (g : Graph) (h : Holds s g) wh
   can-plan (EdgeAfter x y) a = edge-row s g h x (a .0)
   can-plan (WordBefore x y) a = (word-row s g h x (a .0), word-row s g h y (a .1))
   can-plan (WordAfter x y) a = word-row s g h x (a .0)
+
+-- ---- a change that is one edit
+
+pub one-edit : (c : Change) → OneEdit c → (g : Graph) → (firstEdits c g ≡ []) × (cost c g ≡ 1)
+one-edit c k g = go (kind? c) k
+  where
+    go : {d : Change} → Kind d → OneEdit d → (firstEdits d g ≡ []) × (cost d g ≡ 1)
+    go (deletion a) k = absurd k
+    go (single e f) k = (e g, f g)

@@ -109,3 +109,22 @@ CanPlan (EdgeBefore a b) s = EIn (s .et) a × EIn (s .et) b
 CanPlan (EdgeAfter a b) s = EIn (s .et) a
 CanPlan (WordBefore a b) s = WIn (s .et) a × WIn (s .et) b
 CanPlan (WordAfter a b) s = WIn (s .et) a
+
+-- a change that is one edit: all but the deletion of a vertex
+abbrev pub OneEdit : Change → Type 0
+OneEdit (CreateVertex n t x) = Unit {0}
+OneEdit (DeleteVertex a) = ⊥
+OneEdit (CreateEdge n a o t) = Unit {0}
+OneEdit (DeleteEdge a) = Unit {0}
+OneEdit (RetypeVertex a t) = Unit {0}
+OneEdit (RetypeEdge a t) = Unit {0}
+OneEdit (SetValue a x) = Unit {0}
+OneEdit (SetReading a k d) = Unit {0}
+OneEdit (SetAlpha e v) = Unit {0}
+OneEdit (SetOmega e v) = Unit {0}
+OneEdit (VertexBefore a b) = Unit {0}
+OneEdit (VertexAfter a b) = Unit {0}
+OneEdit (EdgeBefore a b) = Unit {0}
+OneEdit (EdgeAfter a b) = Unit {0}
+OneEdit (WordBefore a b) = Unit {0}
+OneEdit (WordAfter a b) = Unit {0}

@@ -1,5 +1,6 @@
 // A graph in lent tables of words: 8 words a vertex, 12 an edge. Number 0 is none, and so are the words 0 and 1.
 use graph::Reading;
+ghost use mathlib.Core.Path.{_≡_};
 
 pub mod clear; // the empty graph
 pub mod rows; // the words of one vertex and of one edge
@@ -39,4 +40,19 @@ pub struct Places {
 pub enum Lookup {
     Found(usize),
     Missing,
+}
+
+// The same head, built word by word. The compiler keeps the words of a record that is built so in registers; one that is
+// passed through whole, it copies in memory.
+pub fn same(h: Head) -> Head
+    ensures { λ r. ⌜ r ≡ h ⌝ }
+{
+    Head {
+        vfirst: h.vfirst,
+        vlast: h.vlast,
+        efirst: h.efirst,
+        elast: h.elast,
+        vertices: h.vertices,
+        edges: h.edges,
+    }
 }

@@ -12,13 +12,14 @@ use Rattle.graph.specs.Edits.{Applies, EditIn, apply, inverse}
 use Rattle.graph.proofs.Keeps.{keeps-formed}
 use Rattle.graph.proofs.EditBounds.{keeps-within}
 use Rattle.journal.specs.Rows.{rowAt, rowed, Below}
+use Rattle.journal.specs.Written.{Written}
 use Rattle.journal.proofs.RowLaws.{row-agree, rowed-length, rowed-below, rowed-row}
 use Rattle.tables.specs.Tables.{State}
 use Rattle.tables.specs.Holds.{Holds}
 use Rattle.tables.specs.Edits.{applyS, Can}
 use Rattle.tables.specs.Capacities.{Sized}
 use Rattle.tables.proofs.Callers.{can-apply, edited, edited-sized, can-revert, reverted, reverted-sized}
-use Rattle.timeline.specs.JournalRows.{made, JournalRows, Toward, back, on}
+use Rattle.timeline.specs.JournalRows.{made, JournalRows, Added, Toward, back, on}
 
 -- ---- what the rows make is well formed and within the bounds
 
@@ -178,3 +179,11 @@ module _ (b : Bounds) (t t′ : List ℕ) (g : Graph) (s : State) (u : ℕ) (e :
     upto = omega arith;
     holds = subst (λ (x : Graph). Holds s x) (sym (old u (omega arith))) (k .holds);
   }
+
+-- an edit that was written down and carried out
+pub written-added : (e : Edit) (c u : ℕ) (s : State) (t : List ℕ) (s′ : State) (t′ : List ℕ) → 12 * u + 12 ≤ length t → Written e c u s t s′ t′ → Added e c u s t s′ t′
+written-added e c u s t s′ t′ room w = record {
+  row = w .row;
+  rows = λ b g i a k.
+      rows-on b t′ g (suc u) s u (rows-added b t t′ g s u e c k room a i (w .row)) (omega arith) s′ (did-by s (sym (rowed-row u e c t t′ (w .row) room)) (w .state));
+}

@@ -9,7 +9,7 @@ use borrow.Author.Tests.{le-ltb}
 use Rattle.lists.specs.Lists.{over}
 use Rattle.image.specs.Image.{load, save}
 use Rattle.history.specs.Machine.{present}
-use Rattle.machine.specs.Calls.{callsOf}
+use Rattle.commands.specs.Calls.{callsOf}
 use Rattle.machine.specs.Machine.{answers, last}
 use Rattle.machine.specs.Run.{Lent, RunResult, listRefusal, run, answerWords}
 use Rattle.machine.proofs.Whole.{demand-3, answers-length}

@@ -7,7 +7,8 @@ use Rattle.lists.specs.Lists.{over}
 use Rattle.graph.specs.Graph.{empty}
 use Rattle.image.specs.Image.{save}
 use Rattle.history.specs.Machine.{Machine, fresh, present}
-use Rattle.machine.specs.Calls.{Parameters, callsOf}
+use Rattle.machine.specs.Calls.{Parameters}
+use Rattle.commands.specs.Calls.{callsOf}
 use Rattle.machine.specs.Machine.{answers, last}
 use Rattle.machine.specs.Run.{answerWords}
 use Rattle.text.specs.Reading.{Verdict, calls, unreadable, readText}

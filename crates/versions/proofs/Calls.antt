@@ -2,7 +2,7 @@
 use Prim.Native.Nat.{ℕ, suc, _+_, _-_, _*_, _≤_, _<_}
 use mathlib.Core.Path.{_≡_, refl, sym, ap, subst, _∙_}
 use mathlib.Core.Logic.{_≢_}
-use mathlib.Core.Bool.{Bool, true, false}
+use mathlib.Core.Bool.{Bool, true, false, not}
 use mathlib.Core.List.{List, [], _∷_}
 use native.Mathlib.Omega.{arith}
 use borrow.Author.Tests.{eq-eqb, ne-eqb, lt-ltb, le-ltb, ltb-false}
@@ -13,19 +13,27 @@ use Rattle.lists.proofs.Picks.{same, differ, same?}
 use Rattle.graph.specs.Graph.{Graph}
 use Rattle.graph.specs.WellFormed.{Bounds}
 use Rattle.graph.specs.declared.Change.{Change}
-use Rattle.graph.specs.Changes.{cost}
+use Rattle.graph.specs.Changes.{cost, Allowed}
 use Rattle.history.specs.Machine.{Standing, gone, at, Machine, begun, current, placed, extended, freeOf, distance, noMarks, stands, placeOr, marked, cut, cutMarks, standing, fresh, present, moves}
 use Rattle.history.proofs.Timelines.{length-cut}
-use Rattle.history.specs.Rules.{Obeys, stepOf, markCode, outside, changing, setting, dropping, undoing, redoing, going, committing, measuring, counting, freeing}
+use Rattle.history.specs.Machine.{stepOf}
+use Rattle.machine.specs.Rules.{changeRule, historyRule}
+use Rattle.commands.specs.declared.HistoryCall.the-variants.{SetMark, DropMark, Undo, Redo, GoTo, Commit, Between, Standing as StandingMarks, Free}
 use Rattle.marks.specs.Marked.{Marked}
 use Rattle.marks.proofs.MarkLaws.{marked-same, marked-other, in-set, place-is}
+use Rattle.journal.specs.Written.{Written}
+use Rattle.queries.specs.Plans.{planS, OneEdit}
+use Rattle.queries.proofs.PlanLaws.{one-edit}
+use Rattle.tables.specs.declared.Head.{Head}
 use Rattle.tables.specs.Tables.{st}
+use Rattle.timeline.specs.Current.{afterStep}
 use Rattle.timeline.specs.Steps.{Journal}
-use Rattle.timeline.proofs.Steps.{journal-free}
+use Rattle.timeline.proofs.Steps.{journal-free, at-record}
+use Rattle.changes.proofs.Made.{single-step}
 use Rattle.versions.specs.declared.Version.{Version}
-use Rattle.versions.specs.Represents.{capacityOf, Represents, Follows, namedCode, freshCode, bothCode}
+use Rattle.versions.specs.Represents.{capacityOf, Represents, Follows, outside, namedCode, freshCode, bothCode}
 use Rattle.versions.proofs.Codes.{Named, named-none, named-is, fresh-is, both-is, both-none}
-use Rattle.versions.proofs.Following.{obeys-refused, obeys-accepted, refused, accepted}
+use Rattle.versions.proofs.Following.{refused, accepted}
 
 -- no mark stands
 none-at : (k q : ℕ) → noMarks k ≡ at q → ⊥
@@ -83,8 +91,8 @@ module _ (b : Bounds) (x : Version) (vt et t places : List ℕ) (m : Machine) (h
     free-is : freeOf (capacityOf t) (m .line) ≡ free
     free-is = ap (λ (k : ℕ). freeOf k (m .line)) (sym q) ∙ sym f
 
-    pub change-refused : free < n → Follows (changing (capacityOf t) c) m b x 10 0 vt et t places
-    change-refused l = refused (changing (capacityOf t) c) m b x vt et t places 10
+    pub change-refused : free < n → Follows (changeRule (capacityOf t) c) m b x 10 0 vt et t places
+    change-refused l = refused (changeRule (capacityOf t) c) m b x vt et t places 10
         (sym (ap (λ (t : Bool). t ⇒ 10 else 0) (lt-ltb (freeOf (capacityOf t) (m .line)) (cost c (present m)) (omega (arith, free-is, e, l))))) (λ z. omega arith) h
 
     -- there are rows for it
@@ -93,21 +101,34 @@ module _ (b : Bounds) (x : Version) (vt et t places : List ℕ) (m : Machine) (h
         omega (arith, f, l, q, h .journal .rows .within, h .journal .rows .upto, journal-free b (x .current .position) (st (x .current .head) vt et) t (m .line) capacity (h .journal))
 
     pub change-done : n ≤ free → (x′ : Version) (vt′ et′ t′ : List ℕ) → Journal b (x′ .current .position) (st (x′ .current .head) vt′ et′) t′ (extended (stepOf c (present m)) (m .line))
-        → Marked (cutMarks (x .current .position .place) (m .marks)) (x′ .set) places → Follows (changing (capacityOf t) c) m b x′ 0 n vt′ et′ t′ places
-    change-done l x′ vt′ et′ t′ j k = accepted (changing (capacityOf t) c) m b x′ vt′ et′ t′ places n
+        → Marked (cutMarks (x .current .position .place) (m .marks)) (x′ .set) places → Follows (changeRule (capacityOf t) c) m b x′ 0 n vt′ et′ t′ places
+    change-done l x′ vt′ et′ t′ j k = accepted (changeRule (capacityOf t) c) m b x′ vt′ et′ t′ places n
         (ap (λ (t : Bool). t ⇒ 10 else 0) (le-ltb (freeOf (capacityOf t) (m .line)) (cost c (present m)) (omega (arith, free-is, e, l)))) e (record {
           journal = j;
           marks = subst (λ (p : ℕ). Marked (cutMarks p (m .marks)) (x′ .set) places) (h .journal .place) k;
           inside = λ i p y. omega (arith, left-low (m .line .place) p (m .marks i) y, length-cut (m .line .place) (m .line .steps) (stepOf c (present m)) (h .journal .inside));
         })
 
+  -- a change of one edit that was written down and carried out
+  pub change-made : (c : Change) (n : ℕ) → n ≡ 1 → OneEdit c → Allowed b (present m) c → x .current .position .used + 1 ≤ capacityOf t → (head : Head) (vt′ et′ t′ : List ℕ)
+      → Written (planS c (st (x .current .head) vt et)) 1 (x .current .position .used) (st (x .current .head) vt et) t (st head vt′ et′) t′
+      → (x′ : Version) → x′ .current ≡ afterStep (x .current .position) head n → Marked (cutMarks (x .current .position .place) (m .marks)) (x′ .set) places
+      → Follows (changeRule (capacityOf t) c) m b x′ 0 n vt′ et′ t′ places
+  change-made c n q o a r head vt′ et′ t′ w x′ y k =
+      let s = st (x .current .head) vt et in
+      let e : n ≡ cost c (present m) = q ∙ sym (one-edit c o (present m) .1) in
+      let f = journal-free b (x .current .position) s t (m .line) (capacityOf t) (h .journal) in
+      let p = afterStep (x .current .position) head n .position in
+      let j = single-step c b (x .current .position) s t (m .line) (h .journal) a o (omega (arith, r)) (st head vt′ et′) t′ w p refl refl (omega (arith, q)) in
+      change-done c n (freeOf (capacityOf t) (m .line)) e (capacityOf t) refl refl (omega (arith, q, r, f)) x′ vt′ et′ t′ (at-record b (x′ .current) _ vt′ et′ t′ _ y j) k
+
   pub mark-steps : (k q : ℕ) → m .marks k ≡ at q → q ≤ x .current .position .steps
   mark-steps k q y = omega (arith, h .inside k q y, h .journal .steps)
 
   -- ---- 19 and 20
 
-  pub undo-refused : (n : ℕ) → n ≡ x .current .position .place → n ≡ 0 → Follows undoing m b x 14 0 vt et t places
-  undo-refused n e z = refused undoing m b x vt et t places 14
+  pub undo-refused : (n : ℕ) → n ≡ x .current .position .place → n ≡ 0 → Follows (historyRule (capacityOf t) Undo) m b x 14 0 vt et t places
+  undo-refused n e z = refused (historyRule (capacityOf t) Undo) m b x vt et t places 14
       (sym (ap (λ (t : Bool). t ⇒ 14 else 0) (eq-eqb (m .line .place) 0 (sym (h .journal .place) ∙ sym e ∙ z)))) (λ z. omega arith) h
 
   pub moved-to : (x′ : Version) (vt′ et′ : List ℕ) (p : ℕ) → x′ .set ≡ x .set → Journal b (x′ .current .position) (st (x′ .current .head) vt′ et′) t (placed p (m .line))
@@ -119,34 +140,34 @@ module _ (b : Bounds) (x : Version) (vt et t places : List ℕ) (m : Machine) (h
   }
 
   pub undo-done : (n : ℕ) → n ≡ x .current .position .place → n ≢ 0 → (x′ : Version) (vt′ et′ : List ℕ) → x′ .set ≡ x .set
-      → Journal b (x′ .current .position) (st (x′ .current .head) vt′ et′) t (placed (m .line .place - 1) (m .line)) → Follows undoing m b x′ 0 1 vt′ et′ t places
-  undo-done n e z x′ vt′ et′ q j = accepted undoing m b x′ vt′ et′ t places 1
+      → Journal b (x′ .current .position) (st (x′ .current .head) vt′ et′) t (placed (m .line .place - 1) (m .line)) → Follows (historyRule (capacityOf t) Undo) m b x′ 0 1 vt′ et′ t places
+  undo-done n e z x′ vt′ et′ q j = accepted (historyRule (capacityOf t) Undo) m b x′ vt′ et′ t places 1
       (ap (λ (t : Bool). t ⇒ 14 else 0) (ne-eqb (m .line .place) 0 (λ y. z (e ∙ h .journal .place ∙ y)))) refl (moved-to x′ vt′ et′ (m .line .place - 1) q j)
 
-  pub redo-refused : x .current .position .place ≡ x .current .position .steps → Follows redoing m b x 14 0 vt et t places
-  redo-refused e = refused redoing m b x vt et t places 14
+  pub redo-refused : x .current .position .place ≡ x .current .position .steps → Follows (historyRule (capacityOf t) Redo) m b x 14 0 vt et t places
+  redo-refused e = refused (historyRule (capacityOf t) Redo) m b x vt et t places 14
       (sym (ap (λ (t : Bool). t ⇒ 14 else 0) (eq-eqb (m .line .place) (length (m .line .steps)) (sym (h .journal .place) ∙ e ∙ h .journal .steps)))) (λ z. omega arith) h
 
   pub redo-room : x .current .position .place ≢ x .current .position .steps → x .current .position .place < x .current .position .steps
   redo-room n = omega (arith, h .journal .place, h .journal .steps, h .journal .inside, n)
 
   pub redo-done : x .current .position .place ≢ x .current .position .steps → (x′ : Version) (vt′ et′ : List ℕ) → x′ .set ≡ x .set
-      → Journal b (x′ .current .position) (st (x′ .current .head) vt′ et′) t (placed (suc (m .line .place)) (m .line)) → Follows redoing m b x′ 0 1 vt′ et′ t places
-  redo-done n x′ vt′ et′ q j = accepted redoing m b x′ vt′ et′ t places 1
+      → Journal b (x′ .current .position) (st (x′ .current .head) vt′ et′) t (placed (suc (m .line .place)) (m .line)) → Follows (historyRule (capacityOf t) Redo) m b x′ 0 1 vt′ et′ t places
+  redo-done n x′ vt′ et′ q j = accepted (historyRule (capacityOf t) Redo) m b x′ vt′ et′ t places 1
       (ap (λ (t : Bool). t ⇒ 14 else 0) (ne-eqb (m .line .place) (length (m .line .steps)) (λ y. n (h .journal .place ∙ y ∙ sym (h .journal .steps))))) refl
       (moved-to x′ vt′ et′ (suc (m .line .place)) q j)
 
   -- ---- marks named
 
   module _ (a code : ℕ) (e : code ≡ namedCode (x .set) a) where
-    code-is : code ≡ markCode (a ∷ []) m
+    code-is : code ≡ (outside a ⇒ 11 else not (stands (m .marks a)) ⇒ 13 else 0)
     code-is = e ∙ named-is m (x .set) places (h .marks) a
 
-    pub go-refused : code ≢ 0 → Follows (going a) m b x code 0 vt et t places
-    go-refused n = refused (going a) m b x vt et t places code code-is n h
+    pub go-refused : code ≢ 0 → Follows (historyRule (capacityOf t) (GoTo a)) m b x code 0 vt et t places
+    go-refused n = refused (historyRule (capacityOf t) (GoTo a)) m b x vt et t places code code-is n h
 
-    pub drop-refused : code ≢ 0 → Follows (dropping a) m b x code 0 vt et t places
-    drop-refused n = refused (dropping a) m b x vt et t places code code-is n h
+    pub drop-refused : code ≢ 0 → Follows (historyRule (capacityOf t) (DropMark a)) m b x code 0 vt et t places
+    drop-refused n = refused (historyRule (capacityOf t) (DropMark a)) m b x vt et t places code code-is n h
 
     module _ (z : code ≡ 0) where
       named : Named (x .set) a true
@@ -166,17 +187,17 @@ module _ (b : Bounds) (x : Version) (vt et t places : List ℕ) (m : Machine) (h
           go (at q) f g = omega (arith, h .inside a q f, h .marks .known a q f .2, h .journal .steps)
 
       pub go-done : (q n : ℕ) → q ≡ getD places (a - 1) 0 → n ≡ distance (x .current .position .place) q → (x′ : Version) (vt′ et′ : List ℕ) → x′ .set ≡ x .set
-          → Journal b (x′ .current .position) (st (x′ .current .head) vt′ et′) t (placed q (m .line)) → Follows (going a) m b x′ 0 n vt′ et′ t places
+          → Journal b (x′ .current .position) (st (x′ .current .head) vt′ et′) t (placed q (m .line)) → Follows (historyRule (capacityOf t) (GoTo a)) m b x′ 0 n vt′ et′ t places
       go-done q n w d x′ vt′ et′ s j =
           let p : q ≡ placeOr (m .line .place) (m .marks a) = w ∙ mark-place (m .line .place) in
-          accepted (going a) m b x′ vt′ et′ t places n (sym code-is ∙ z)
+          accepted (historyRule (capacityOf t) (GoTo a)) m b x′ vt′ et′ t places n (sym code-is ∙ z)
           (d ∙ ap (λ (k : ℕ). distance k q) (h .journal .place) ∙ ap (distance (m .line .place)) p)
           (moved-to x′ vt′ et′ (placeOr (m .line .place) (m .marks a)) s
           (subst (λ (k : ℕ). Journal b (x′ .current .position) (st (x′ .current .head) vt′ et′) t (placed k (m .line))) p j))
 
       pub drop-done : (x′ : Version) → x′ .current ≡ x .current → Marked (marked a gone (m .marks)) (x′ .set) places
-          → Follows (dropping a) m b x′ 0 0 vt et t places
-      drop-done x′ p k = accepted (dropping a) m b x′ vt et t places 0 (sym code-is ∙ z) refl (record {
+          → Follows (historyRule (capacityOf t) (DropMark a)) m b x′ 0 0 vt et t places
+      drop-done x′ p k = accepted (historyRule (capacityOf t) (DropMark a)) m b x′ vt et t places 0 (sym code-is ∙ z) refl (record {
         journal = rw p (h .journal);
         marks = k;
         inside = drop-inside (m .marks) a (length (m .line .steps)) (h .inside);
@@ -185,15 +206,15 @@ module _ (b : Bounds) (x : Version) (vt et t places : List ℕ) (m : Machine) (h
   -- ---- 17
 
   module _ (a code : ℕ) (e : code ≡ freshCode (x .set) a) where
-    set-code : code ≡ (outside (a ∷ []) ⇒ 11 else stands (m .marks a) ⇒ 12 else 0)
+    set-code : code ≡ (outside a ⇒ 11 else stands (m .marks a) ⇒ 12 else 0)
     set-code = e ∙ fresh-is m (x .set) places (h .marks) a
 
-    pub set-refused : code ≢ 0 → Follows (setting a) m b x code 0 vt et t places
-    set-refused n = refused (setting a) m b x vt et t places code set-code n h
+    pub set-refused : code ≢ 0 → Follows (historyRule (capacityOf t) (SetMark a)) m b x code 0 vt et t places
+    set-refused n = refused (historyRule (capacityOf t) (SetMark a)) m b x vt et t places code set-code n h
 
     pub set-done : code ≡ 0 → (x′ : Version) (places′ : List ℕ) → x′ .current ≡ x .current
-        → Marked (marked a (at (x .current .position .place)) (m .marks)) (x′ .set) places′ → Follows (setting a) m b x′ 0 0 vt et t places′
-    set-done z x′ places′ p k = accepted (setting a) m b x′ vt et t places′ 0 (sym set-code ∙ z) refl (record {
+        → Marked (marked a (at (x .current .position .place)) (m .marks)) (x′ .set) places′ → Follows (historyRule (capacityOf t) (SetMark a)) m b x′ 0 0 vt et t places′
+    set-done z x′ places′ p k = accepted (historyRule (capacityOf t) (SetMark a)) m b x′ vt et t places′ 0 (sym set-code ∙ z) refl (record {
       journal = rw p (h .journal);
       marks = subst (λ (i : ℕ). Marked (marked a (at i) (m .marks)) (x′ .set) places′) (h .journal .place) k;
       inside = set-inside (m .marks) a (m .line .place) (length (m .line .steps)) (h .journal .inside) (h .inside);
@@ -202,27 +223,28 @@ module _ (b : Bounds) (x : Version) (vt et t places : List ℕ) (m : Machine) (h
   -- ---- 22
 
   pub commit-done : (x′ : Version) (n : ℕ) → n ≡ x .current .position .place → Journal b (x′ .current .position) (st (x′ .current .head) vt et) t (begun (current (m .line)))
-      → Marked noMarks (x′ .set) places → Follows committing m b x′ 0 n vt et t places
-  commit-done x′ n e j k = accepted committing m b x′ vt et t places n refl (e ∙ h .journal .place) (record { journal = j; marks = k; inside = λ k q e. absurd (none-at k q e) })
+      → Marked noMarks (x′ .set) places → Follows (historyRule (capacityOf t) Commit) m b x′ 0 n vt et t places
+  commit-done x′ n e j k = accepted (historyRule (capacityOf t) Commit) m b x′ vt et t places n refl (e ∙ h .journal .place) (record { journal = j; marks = k; inside = λ k q e. absurd (none-at k q e) })
 
   -- ---- 49, 50 and 51
 
   module _ (a c : ℕ) (code : ℕ) (e : code ≡ bothCode (namedCode (x .set) a) (namedCode (x .set) c)) where
-    pub between-refused : code ≢ 0 → Obeys (measuring a c) m code 0
-    between-refused n = obeys-refused (measuring a c) m code (e ∙ both-is m (x .set) places (h .marks) a c) n
+    pub between-refused : code ≢ 0 → Follows (historyRule (capacityOf t) (Between a c)) m b x code 0 vt et t places
+    between-refused n = refused (historyRule (capacityOf t) (Between a c)) m b x vt et t places code (e ∙ both-is m (x .set) places (h .marks) a c) n h
 
-    pub between-done : code ≡ 0 → (p q n : ℕ) → p ≡ getD places (a - 1) 0 → q ≡ getD places (c - 1) 0 → n ≡ distance p q → Obeys (measuring a c) m 0 n
+    pub between-done : code ≡ 0 → (p q n : ℕ) → p ≡ getD places (a - 1) 0 → q ≡ getD places (c - 1) 0 → n ≡ distance p q →
+        Follows (historyRule (capacityOf t) (Between a c)) m b x 0 n vt et t places
     between-done z p q n u v w =
         let s = both-none (x .set) a c (sym e ∙ z) in
-        obeys-accepted (measuring a c) m n (sym (both-is m (x .set) places (h .marks) a c) ∙ sym e ∙ z)
+        accepted (historyRule (capacityOf t) (Between a c)) m b x vt et t places n (sym (both-is m (x .set) places (h .marks) a c) ∙ sym e ∙ z)
         (w ∙ ap (λ (k : ℕ). distance k q) (u ∙ mark-place a (namedCode (x .set) a) refl (s .0) 0)
-        ∙ ap (distance (placeOr 0 (m .marks a))) (v ∙ mark-place c (namedCode (x .set) c) refl (s .1) 0))
+        ∙ ap (distance (placeOr 0 (m .marks a))) (v ∙ mark-place c (namedCode (x .set) c) refl (s .1) 0)) h
 
-  pub count-done : (n : ℕ) → n ≡ standing (m .marks) → Obeys counting m 0 n
-  count-done n e = obeys-accepted counting m n refl e
+  pub count-done : (n : ℕ) → n ≡ standing (m .marks) → Follows (historyRule (capacityOf t) StandingMarks) m b x 0 n vt et t places
+  count-done n e = accepted (historyRule (capacityOf t) StandingMarks) m b x vt et t places n refl e h
 
   pub rows-fit : x .current .position .used ≤ capacityOf t
   rows-fit = omega (arith, h .journal .rows .within, h .journal .rows .upto)
 
-  pub free-done : (n c : ℕ) → c ≡ capacityOf t → n ≡ freeOf c (m .line) → Obeys (freeing (capacityOf t)) m 0 n
-  free-done n c q e = obeys-accepted (freeing (capacityOf t)) m n refl (e ∙ ap (λ (k : ℕ). freeOf k (m .line)) q)
+  pub free-done : (n c : ℕ) → c ≡ capacityOf t → n ≡ freeOf c (m .line) → Follows (historyRule (capacityOf t) Free) m b x 0 n vt et t places
+  free-done n c q e = accepted (historyRule (capacityOf t) Free) m b x vt et t places n refl (e ∙ ap (λ (k : ℕ). freeOf k (m .line)) q) h

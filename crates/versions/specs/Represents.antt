@@ -1,13 +1,13 @@
 -- What the program's state, tables, journal and places have to do with the plain machine.
 use Prim.Native.Nat.{ℕ, _/_, _≤_}
 use mathlib.Core.Path.{_≡_}
-use mathlib.Core.Bool.{not}
-use mathlib.Core.List.{List, [], _∷_}
+use mathlib.Core.Bool.{Bool, not}
+use mathlib.Core.List.{List}
 use lib.ListN.{length}
-use Rattle.lists.specs.Choice.{_⇒_else_, _==_}
+use Rattle.lists.specs.Choice.{_⇒_else_, _==_, within}
 use Rattle.graph.specs.WellFormed.{Bounds}
 use Rattle.history.specs.Machine.{Machine, at}
-use Rattle.history.specs.Rules.{Rule, Obeys, followed, outside}
+use Rattle.machine.specs.Rules.{Rule, Obeys, followed}
 use Rattle.marks.specs.Marked.{inSet, Marked}
 use Rattle.tables.specs.Tables.{st}
 use Rattle.timeline.specs.Steps.{Journal}
@@ -30,13 +30,17 @@ pub record Follows (r : Rule) (m : Machine) (b : Bounds) (x : Version) (code num
 
 -- ---- codes, read off the set
 
+-- 11 "a mark named is not 1 to 64"
+abbrev pub outside : ℕ → Bool
+outside a = not (within 1 64 a)
+
 -- for a mark that must stand: 11, 13
 abbrev pub namedCode : ℕ → ℕ → ℕ
-namedCode set a = outside (a ∷ []) ⇒ 11 else not (inSet set a) ⇒ 13 else 0
+namedCode set a = outside a ⇒ 11 else not (inSet set a) ⇒ 13 else 0
 
 -- for a mark that is set: 11, 12
 abbrev pub freshCode : ℕ → ℕ → ℕ
-freshCode set a = outside (a ∷ []) ⇒ 11 else inSet set a ⇒ 12 else 0
+freshCode set a = outside a ⇒ 11 else inSet set a ⇒ 12 else 0
 
 -- the code of two marks named, from the code of each: the lowest that applies
 abbrev pub bothCode : ℕ → ℕ → ℕ

@@ -1,18 +1,22 @@
 // The graph with its history: each history call on the tables, the journal and the marks.
+use commands::HistoryCall;
 use graph::Change;
 use tables::Head;
 use timeline::Current;
 use timeline::Position;
 ghost use mathlib.Core.Path.{_≡_};
 ghost use mathlib.Core.List.{List};
-ghost use Prim.Native.Nat.{ℕ, _^_, _≤_, _<_};
+ghost use Prim.Native.Nat.{ℕ, _+_, _^_, _≤_, _<_};
 ghost use lib.ListN.{length};
 ghost use Rattle.graph.specs.Graph.{Graph};
 ghost use Rattle.graph.specs.WellFormed.{Bounds, Within};
 ghost use Rattle.graph.specs.Changes.{Allowed};
 ghost use Rattle.history.specs.Machine.{Standing, at, Machine, cutMarks, present, fresh};
-ghost use Rattle.history.specs.Rules.{Obeys, changing, setting, dropping, undoing, redoing, going, committing, measuring, counting, freeing};
+ghost use Rattle.machine.specs.Rules.{changeRule, historyRule};
+ghost use Rattle.commands.specs.declared.HistoryCall.the-variants as call;
 ghost use Rattle.marks.specs.Marked.{Marked};
+ghost use Rattle.journal.specs.Written.{Written};
+ghost use Rattle.queries.specs.Plans.{planS, OneEdit};
 ghost use Rattle.tables.specs.Tables.{st};
 ghost use Rattle.tables.specs.Holds.{Holds};
 ghost use Rattle.tables.specs.Capacities.{Sized};
@@ -31,10 +35,34 @@ pub struct Done {
     pub number: u32,
 }
 
-// Code and number of a call that changes nothing.
-pub struct Answer {
-    pub code: u32,
-    pub number: u32,
+// The same version, built word by word (see tables::same).
+pub fn same(x: Version) -> Version
+    ensures { λ r. ⌜ r ≡ x ⌝ }
+{
+    let head = tables::same(x.current.head);
+    Version {
+        current: Current {
+            head,
+            position: Position {
+                place: x.current.position.place,
+                steps: x.current.position.steps,
+                used: x.current.position.used,
+            },
+        },
+        set: x.set,
+    }
+}
+
+// A call that changes nothing.
+pub fn stay(x: Version, code: u32, number: u32) -> Done
+    ensures { λ r. ⌜ r ≡ record { version = x; code = code; number = number } ⌝ }
+{
+    let version = same(x);
+    Done {
+        version,
+        code,
+        number,
+    }
 }
 
 // No step yet, and no mark.
@@ -69,18 +97,14 @@ pub fn change(
     change: Change,
 ) -> Done
     requires { ⌜ ((b : Bounds) × (m : Machine) × Allowed b (present m) change × Represents b x (now vt) (now et) (now t) (now places) m) ⌝ }
-    ensures { λ r. ⌜ ((b : Bounds) → (m : Machine) → Allowed b (present m) change → Represents b x (now (vt .entry)) (now (et .entry)) (now (t .entry)) (now (places .entry)) m → Follows (changing (capacityOf (now (t .entry))) change) m b (r .version) (r .code) (r .number) (now (vt .exit)) (now (et .exit)) (now (t .exit)) (now (places .entry))) ⌝ }
+    ensures { λ r. ⌜ ((b : Bounds) → (m : Machine) → Allowed b (present m) change → Represents b x (now (vt .entry)) (now (et .entry)) (now (t .entry)) (now (places .entry)) m → Follows (changeRule (capacityOf (now (t .entry))) change) m b (r .version) (r .code) (r .number) (now (vt .exit)) (now (et .exit)) (now (t .exit)) (now (places .entry))) ⌝ }
 {
     let old = x.current;
     let cost = changes::cost_of(old.head, vt, et, change);
     let capacity = (t.len() / 12) as u32;
     let free = timeline::free_changes(old.position, capacity);
     if free < cost {
-        return Done {
-            version: x,
-            code: 10,
-            number: 0,
-        };
+        return stay(x, 10, 0);
     }
     let current = changes::make_step(old, vt, et, t, change, cost);
     let set = cut(x.set, old.position, places);
@@ -91,18 +115,32 @@ pub fn change(
     }
 }
 
+// A change of one edit that was written down and carried out, and left this head: the step that it is.
+pub fn made(x: Version, places: &[u32; 64], head: Head, cost: u32) -> Done
+    requires { ⌜ (x .current .position .place + 1 < 2 ^ 32) × (x .current .position .used + cost < 2 ^ 32) ⌝ }
+    ensures { λ r. ⌜ ((b : Bounds) → (m : Machine) → (change : Change) → (vt et t vt′ et′ t′ : List ℕ) → Allowed b (present m) change → OneEdit change → cost ≡ 1
+        → x .current .position .used + 1 ≤ capacityOf t → Represents b x vt et t (now (places .entry)) m
+        → Written (planS change (st (x .current .head) vt et)) 1 (x .current .position .used) (st (x .current .head) vt et) t (st head vt′ et′) t′
+        → Follows (changeRule (capacityOf t) change) m b (r .version) (r .code) (r .number) vt′ et′ t′ (now (places .entry))) ⌝ }
+{
+    let old = x.current;
+    let current = timeline::lent::stepped(old, head, cost);
+    let set = cut(x.set, old.position, places);
+    Done {
+        version: Version { current, set },
+        code: 0,
+        number: cost,
+    }
+}
+
 // Kind 19: one step back.
-pub fn undo(x: Version, vt: &mut [u32], et: &mut [u32], t: &[u32]) -> Done
+fn undo(x: Version, vt: &mut [u32], et: &mut [u32], t: &[u32]) -> Done
     requires { ⌜ ((b : Bounds) × (places : List ℕ) × (m : Machine) × Represents b x (now vt) (now et) (now t) places m) ⌝ }
-    ensures { λ r. ⌜ ((b : Bounds) → (places : List ℕ) → (m : Machine) → Represents b x (now (vt .entry)) (now (et .entry)) (now (t .entry)) places m → Follows undoing m b (r .version) (r .code) (r .number) (now (vt .exit)) (now (et .exit)) (now (t .entry)) places) ⌝ }
+    ensures { λ r. ⌜ ((b : Bounds) → (places : List ℕ) → (m : Machine) → Represents b x (now (vt .entry)) (now (et .entry)) (now (t .entry)) places m → Follows (historyRule (capacityOf (now (t .entry))) call.Undo) m b (r .version) (r .code) (r .number) (now (vt .exit)) (now (et .exit)) (now (t .entry)) places) ⌝ }
 {
     let position = x.current.position;
     if position.place == 0 {
-        return Done {
-            version: x,
-            code: 14,
-            number: 0,
-        };
+        return stay(x, 14, 0);
     }
     let current = timeline::undo(x.current, vt, et, t);
     Done {
@@ -116,17 +154,13 @@ pub fn undo(x: Version, vt: &mut [u32], et: &mut [u32], t: &[u32]) -> Done
 }
 
 // Kind 20: one step on.
-pub fn redo(x: Version, vt: &mut [u32], et: &mut [u32], t: &[u32]) -> Done
+fn redo(x: Version, vt: &mut [u32], et: &mut [u32], t: &[u32]) -> Done
     requires { ⌜ ((b : Bounds) × (places : List ℕ) × (m : Machine) × Represents b x (now vt) (now et) (now t) places m) ⌝ }
-    ensures { λ r. ⌜ ((b : Bounds) → (places : List ℕ) → (m : Machine) → Represents b x (now (vt .entry)) (now (et .entry)) (now (t .entry)) places m → Follows redoing m b (r .version) (r .code) (r .number) (now (vt .exit)) (now (et .exit)) (now (t .entry)) places) ⌝ }
+    ensures { λ r. ⌜ ((b : Bounds) → (places : List ℕ) → (m : Machine) → Represents b x (now (vt .entry)) (now (et .entry)) (now (t .entry)) places m → Follows (historyRule (capacityOf (now (t .entry))) call.Redo) m b (r .version) (r .code) (r .number) (now (vt .exit)) (now (et .exit)) (now (t .entry)) places) ⌝ }
 {
     let position = x.current.position;
     if position.place == position.steps {
-        return Done {
-            version: x,
-            code: 14,
-            number: 0,
-        };
+        return stay(x, 14, 0);
     }
     let current = timeline::redo(x.current, vt, et, t);
     Done {
@@ -188,7 +222,7 @@ fn both(c: u32, d: u32) -> u32
 }
 
 // Kind 21: to the place of mark a.
-pub fn go_to_mark(
+fn go_to_mark(
     x: Version,
     vt: &mut [u32],
     et: &mut [u32],
@@ -197,15 +231,11 @@ pub fn go_to_mark(
     a: u32,
 ) -> Done
     requires { ⌜ ((b : Bounds) × (m : Machine) × Represents b x (now vt) (now et) (now t) (now places) m) ⌝ }
-    ensures { λ r. ⌜ ((b : Bounds) → (m : Machine) → Represents b x (now (vt .entry)) (now (et .entry)) (now (t .entry)) (now (places .entry)) m → Follows (going a) m b (r .version) (r .code) (r .number) (now (vt .exit)) (now (et .exit)) (now (t .entry)) (now (places .entry))) ⌝ }
+    ensures { λ r. ⌜ ((b : Bounds) → (m : Machine) → Represents b x (now (vt .entry)) (now (et .entry)) (now (t .entry)) (now (places .entry)) m → Follows (historyRule (capacityOf (now (t .entry))) (call.GoTo a)) m b (r .version) (r .code) (r .number) (now (vt .exit)) (now (et .exit)) (now (t .entry)) (now (places .entry))) ⌝ }
 {
     let code = named(x.set, a);
     if code != 0 {
-        return Done {
-            version: x,
-            code,
-            number: 0,
-        };
+        return stay(x, code, 0);
     }
     let q = marks::place_of(places, a);
     let r = timeline::go_to(x.current, vt, et, t, q);
@@ -221,17 +251,13 @@ pub fn go_to_mark(
 }
 
 // Kind 17: mark a at the present place.
-pub fn set_mark(x: Version, places: &mut [u32; 64], a: u32) -> Done
-    ensures { λ r. ⌜ ((b : Bounds) → (vt et t : List ℕ) → (m : Machine) → Represents b x vt et t (now (places .entry)) m → Follows (setting a) m b (r .version) (r .code) (r .number) vt et t (now (places .exit))) ⌝ }
+fn set_mark(x: Version, places: &mut [u32; 64], a: u32) -> Done
+    ensures { λ r. ⌜ ((b : Bounds) → (vt et t : List ℕ) → (m : Machine) → Represents b x vt et t (now (places .entry)) m → Follows (historyRule (capacityOf t) (call.SetMark a)) m b (r .version) (r .code) (r .number) vt et t (now (places .exit))) ⌝ }
 {
     let current = x.current;
     let code = unnamed(x.set, a);
     if code != 0 {
-        return Done {
-            version: x,
-            code,
-            number: 0,
-        };
+        return stay(x, code, 0);
     }
     let set = marks::set_mark(x.set, places, a, current.position.place);
     Done {
@@ -242,17 +268,13 @@ pub fn set_mark(x: Version, places: &mut [u32; 64], a: u32) -> Done
 }
 
 // Kind 18: mark a goes.
-pub fn drop_mark(x: Version, a: u32) -> Done
-    ensures { λ r. ⌜ ((b : Bounds) → (vt et t places : List ℕ) → (m : Machine) → Represents b x vt et t places m → Follows (dropping a) m b (r .version) (r .code) (r .number) vt et t places) ⌝ }
+fn drop_mark(x: Version, a: u32) -> Done
+    ensures { λ r. ⌜ ((b : Bounds) → (vt et t places : List ℕ) → (m : Machine) → Represents b x vt et t places m → Follows (historyRule (capacityOf t) (call.DropMark a)) m b (r .version) (r .code) (r .number) vt et t places) ⌝ }
 {
     let current = x.current;
     let code = named(x.set, a);
     if code != 0 {
-        return Done {
-            version: x,
-            code,
-            number: 0,
-        };
+        return stay(x, code, 0);
     }
     let set = marks::drop_mark(x.set, a);
     Done {
@@ -263,8 +285,8 @@ pub fn drop_mark(x: Version, a: u32) -> Done
 }
 
 // Kind 22: the present graph is the start, and no mark stands.
-pub fn commit(x: Version) -> Done
-    ensures { λ r. ⌜ ((b : Bounds) → (vt et t places : List ℕ) → (m : Machine) → Represents b x vt et t places m → Follows committing m b (r .version) (r .code) (r .number) vt et t places) ⌝ }
+fn commit(x: Version) -> Done
+    ensures { λ r. ⌜ ((b : Bounds) → (vt et t places : List ℕ) → (m : Machine) → Represents b x vt et t places m → Follows (historyRule (capacityOf t) call.Commit) m b (r .version) (r .code) (r .number) vt et t places) ⌝ }
 {
     let head = x.current.head;
     let old = x.current.position;
@@ -281,41 +303,60 @@ pub fn commit(x: Version) -> Done
 }
 
 // Kind 49: the steps between marks a and b.
-pub fn between(x: Version, places: &[u32; 64], a: u32, b: u32) -> Answer
-    ensures { λ r. ⌜ ((bounds : Bounds) → (vt et t : List ℕ) → (m : Machine) → Represents bounds x vt et t (now (places .entry)) m → Obeys (measuring a b) m (r .code) (r .number)) ⌝ }
+fn between(x: Version, places: &[u32; 64], a: u32, b: u32) -> Done
+    ensures { λ r. ⌜ ((bounds : Bounds) → (vt et t : List ℕ) → (m : Machine) → Represents bounds x vt et t (now (places .entry)) m → Follows (historyRule (capacityOf t) (call.Between a b)) m bounds (r .version) (r .code) (r .number) vt et t (now (places .entry))) ⌝ }
 {
     let c = named(x.set, a);
     let d = named(x.set, b);
     let code = both(c, d);
     if code != 0 {
-        return Answer { code, number: 0 };
+        return stay(x, code, 0);
     }
     let p = marks::place_of(places, a);
     let q = marks::place_of(places, b);
-    Answer {
-        code: 0,
-        number: marks::between(p, q),
-    }
+    let number = marks::between(p, q);
+    stay(x, 0, number)
 }
 
 // Kind 50: how many marks stand.
-pub fn standing(x: Version) -> Answer
-    ensures { λ r. ⌜ ((b : Bounds) → (vt et t places : List ℕ) → (m : Machine) → Represents b x vt et t places m → Obeys counting m (r .code) (r .number)) ⌝ }
+fn standing(x: Version) -> Done
+    ensures { λ r. ⌜ ((b : Bounds) → (vt et t places : List ℕ) → (m : Machine) → Represents b x vt et t places m → Follows (historyRule (capacityOf t) call.Standing) m b (r .version) (r .code) (r .number) vt et t places) ⌝ }
 {
-    Answer {
-        code: 0,
-        number: marks::count_marks(x.set),
-    }
+    let number = marks::count_marks(x.set);
+    stay(x, 0, number)
 }
 
 // Kind 51: free changes.
-pub fn free_changes(x: Version, t: &[u32]) -> Answer
+fn free_changes(x: Version, t: &[u32]) -> Done
     requires { ⌜ ((b : Bounds) × (vt et places : List ℕ) × (m : Machine) × Represents b x vt et (now t) places m) ⌝ }
-    ensures { λ r. ⌜ ((b : Bounds) → (vt et places : List ℕ) → (m : Machine) → Represents b x vt et (now (t .entry)) places m → Obeys (freeing (capacityOf (now (t .entry)))) m (r .code) (r .number)) ⌝ }
+    ensures { λ r. ⌜ ((b : Bounds) → (vt et places : List ℕ) → (m : Machine) → Represents b x vt et (now (t .entry)) places m → Follows (historyRule (capacityOf (now (t .entry))) call.Free) m b (r .version) (r .code) (r .number) vt et (now (t .entry)) places) ⌝ }
 {
     let capacity = (t.len() / 12) as u32;
-    Answer {
-        code: 0,
-        number: timeline::free_changes(x.current.position, capacity),
+    let number = timeline::free_changes(x.current.position, capacity);
+    stay(x, 0, number)
+}
+
+// Any history call.
+pub fn recall(
+    x: Version,
+    vt: &mut [u32],
+    et: &mut [u32],
+    t: &[u32],
+    places: &mut [u32; 64],
+    call: HistoryCall,
+) -> Done
+    requires { ⌜ ((b : Bounds) × (m : Machine) × Represents b x (now vt) (now et) (now t) (now places) m) ⌝ }
+    ensures { λ r. ⌜ ((b : Bounds) → (m : Machine) → Represents b x (now (vt .entry)) (now (et .entry)) (now (t .entry)) (now (places .entry)) m → Follows (historyRule (capacityOf (now (t .entry))) call) m b (r .version) (r .code) (r .number) (now (vt .exit)) (now (et .exit)) (now (t .entry)) (now (places .exit))) ⌝ }
+{
+    match call {
+        HistoryCall::SetMark(a) => set_mark(x, places, a),
+        HistoryCall::DropMark(a) => drop_mark(x, a),
+        HistoryCall::Undo => undo(x, vt, et, t),
+        HistoryCall::Redo => redo(x, vt, et, t),
+        HistoryCall::GoTo(a) => go_to_mark(x, vt, et, t, places, a),
+        HistoryCall::Commit => commit(x),
+        HistoryCall::Between(a, b) => between(x, places, a, b),
+        HistoryCall::Standing => standing(x),
+        HistoryCall::Free => free_changes(x, t),
     }
 }

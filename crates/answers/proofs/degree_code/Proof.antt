@@ -2,7 +2,7 @@ use native.Mathlib.Omega.{arith}
 use lib.Dec.{leb, ltb}
 use borrow.Author.Tests.{le-leb, lt-leb, lt-ltb, le-ltb}
 use Rattle.lists.specs.Choice.{_⇒_else_}
-use Rattle.commands.specs.Meaning.{lacksVertex}
+use Rattle.machine.specs.Codes.{lacksVertex}
 use Rattle.checks.proofs.Codes.{stops, passes}
 use borrow.Author.Needs.{needs}
 use Rattle.answers.proofs.degree_code.Statement.{statement}

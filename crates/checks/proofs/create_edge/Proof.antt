@@ -5,7 +5,7 @@ use lib.Dec.{leb}
 use lib.ListN.{length}
 use Rattle.lists.specs.Choice.{_⇒_else_, within}
 use Rattle.graph.specs.Graph.{hasEdge}
-use Rattle.commands.specs.Meaning.{lacksVertex}
+use Rattle.machine.specs.Codes.{lacksVertex}
 use Rattle.checks.proofs.Codes.{stops, passes}
 use borrow.Author.Needs.{needs}
 use Rattle.checks.proofs.create_edge.Statement.{statement}

@@ -1,5 +1,5 @@
 use native.Mathlib.Omega.{arith}
-use Rattle.commands.specs.Meaning.{lacksEdge}
+use Rattle.machine.specs.Codes.{lacksEdge}
 use Rattle.checks.proofs.Codes.{either, second}
 use borrow.Author.Needs.{needs}
 use Rattle.checks.proofs.edges_code.Statement.{statement}

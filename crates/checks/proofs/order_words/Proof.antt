@@ -2,7 +2,7 @@ use mathlib.Core.Bool.{not, _||_}
 use native.Mathlib.Omega.{arith}
 use Rattle.lists.specs.Choice.{_⇒_else_, _==_}
 use Rattle.graph.specs.Graph.{edgeOf, this}
-use Rattle.commands.specs.Meaning.{lacksEdge}
+use Rattle.machine.specs.Codes.{lacksEdge}
 use Rattle.checks.proofs.Codes.{stops-2, passes-2}
 use borrow.Author.Needs.{needs}
 use Rattle.checks.proofs.order_words.Statement.{statement}

@@ -1,7 +1,7 @@
 use native.Mathlib.Omega.{arith}
 use lib.Dec.{leb}
 use Rattle.lists.specs.Choice.{_⇒_else_}
-use Rattle.commands.specs.Meaning.{lacksEdge}
+use Rattle.machine.specs.Codes.{lacksEdge}
 use Rattle.checks.proofs.Codes.{stops, passes}
 use borrow.Author.Needs.{needs}
 use Rattle.checks.proofs.retype_edge.Statement.{statement}

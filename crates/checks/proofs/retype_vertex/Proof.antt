@@ -1,7 +1,7 @@
 use native.Mathlib.Omega.{arith}
 use lib.Dec.{leb}
 use Rattle.lists.specs.Choice.{_⇒_else_}
-use Rattle.commands.specs.Meaning.{lacksVertex}
+use Rattle.machine.specs.Codes.{lacksVertex}
 use Rattle.checks.proofs.Codes.{stops, passes}
 use borrow.Author.Needs.{needs}
 use Rattle.checks.proofs.retype_vertex.Statement.{statement}

@@ -1,6 +1,6 @@
 use native.Mathlib.Omega.{arith}
 use Rattle.lists.specs.Choice.{_⇒_else_}
-use Rattle.commands.specs.Meaning.{lacksVertex, lacksEdge}
+use Rattle.machine.specs.Codes.{lacksVertex, lacksEdge}
 use Rattle.checks.proofs.Codes.{stops, passes}
 use borrow.Author.Needs.{needs}
 use Rattle.checks.proofs.set_end.Statement.{statement}

@@ -2,7 +2,7 @@ use mathlib.Core.Bool.{not}
 use native.Mathlib.Omega.{arith}
 use Rattle.lists.specs.Choice.{_⇒_else_}
 use Rattle.graph.specs.Graph.{isReading}
-use Rattle.commands.specs.Meaning.{lacksEdge}
+use Rattle.machine.specs.Codes.{lacksEdge}
 use Rattle.checks.proofs.Codes.{stops, passes}
 use borrow.Author.Needs.{needs}
 use Rattle.checks.proofs.set_reading.Statement.{statement}

@@ -1,5 +1,5 @@
 use native.Mathlib.Omega.{arith}
-use Rattle.commands.specs.Meaning.{lacksVertex}
+use Rattle.machine.specs.Codes.{lacksVertex}
 use Rattle.checks.proofs.Codes.{either, second}
 use borrow.Author.Needs.{needs}
 use Rattle.checks.proofs.vertices_code.Statement.{statement}

@@ -1,5 +1,5 @@
 use borrow.Author.Tests.{ne-eqb}
-use Rattle.machine.specs.Calls.{changeOf}
+use Rattle.commands.specs.Commands.{changeOf}
 use Rattle.commands.proofs.change_of.Statement.{statement}
 use Rattle.commands.proofs.change_of.Tie as tie
 

@@ -1,3 +1,4 @@
+use Rattle.versions.proofs.Following.{stayed}
 use mathlib.Core.Path.{refl}
 use Rattle.history.specs.Machine.{present}
 use Rattle.tables.specs.Tables.{st}
@@ -27,12 +28,16 @@ same-length c = search needs
 same-length-2 : tie.Need-same-length-2
 same-length-2 c = search needs
 
+stay-requires : tie.Need-stay-requires
+stay-requires c κs = search needs
+
 returns : tie.Need-returns
 returns c =
-    let a = c .before .before .before .before .before .before .before .before .before .args in
+    let a = c .before .before .before .before .before .before .before .before .before .before .args in
     let s₀ = st (a .x .current .head) (a .vt .now) (a .et .now) in
     λ b m i h.
-    change-refused b (a .x) (a .vt .now) (a .et .now) (a .t .now) (a .places .now) m h (a .change) _ _ (c .before .before .cost-of .ensures b (present m) (holds-current b (a .x .current .position) s₀ (a .t .now) (m .line) (h .journal)) i) _ refl (c .before .free-changes .ensures b s₀ (a .t .now) (m .line) (h .journal)) (c .if1 .taken)
+    stayed _ m b _ _ _ _ (c .stay .ensures)
+    (change-refused b (a .x) (a .vt .now) (a .et .now) (a .t .now) (a .places .now) m h (a .change) _ _ (c .before .before .before .cost-of .ensures b (present m) (holds-current b (a .x .current .position) s₀ (a .t .now) (m .line) (h .journal)) i) _ refl (c .before .before .free-changes .ensures b s₀ (a .t .now) (m .line) (h .journal)) (c .before .if1 .taken))
 
 make-step-requires : tie.Need-make-step-requires
 make-step-requires c κs =
@@ -70,6 +75,7 @@ change-spec =
     cost-of-requires
     cast-capacity
     free-changes-requires
+    stay-requires
     same-length
     same-length-2
     returns

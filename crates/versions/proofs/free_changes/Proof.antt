@@ -1,3 +1,4 @@
+use Rattle.versions.proofs.Following.{stayed}
 use mathlib.Core.Path.{refl}
 use Rattle.versions.proofs.Calls.{free-done}
 use borrow.Author.Needs.{needs}
@@ -10,11 +11,15 @@ cast-capacity c = search needs
 free-changes-requires : tie.Need-free-changes-requires
 free-changes-requires c κs = search needs
 
+stay-requires : tie.Need-stay-requires
+stay-requires c κs = search needs
+
 returns : tie.Need-returns
 returns c =
     λ b vt et places m h.
-    let a = c .before .before .args in
-    free-done b (a .x) vt et (a .t .now) places m h _ _ refl (c .free-changes .ensures b _ (a .t .now) (m .line) (h .journal))
+    let a = c .before .before .before .args in
+    stayed _ m b _ _ _ _ (c .stay .ensures)
+    (free-done b (a .x) vt et (a .t .now) places m h _ _ refl (c .before .free-changes .ensures b _ (a .t .now) (m .line) (h .journal)))
 
 pub free-changes-spec : {M : Type 1} → statement M
-free-changes-spec = tie.close (tie.spec cast-capacity free-changes-requires returns)
+free-changes-spec = tie.close (tie.spec cast-capacity free-changes-requires stay-requires returns)

@@ -1,3 +1,4 @@
+use Rattle.versions.proofs.Following.{stayed}
 use Prim.Native.Nat.{ℕ, _≤_}
 use mathlib.Core.Path.{refl, sym, subst}
 use Rattle.versions.proofs.Codes.{named-none}
@@ -9,11 +10,15 @@ use Rattle.versions.proofs.go_to_mark.Tie as tie
 named-requires : tie.Need-named-requires
 named-requires c κs = search needs
 
+stay-requires : tie.Need-stay-requires
+stay-requires c κs = search needs
+
 returns : tie.Need-returns
 returns c =
     λ b m h.
-    let a = c .before .before .before .before .before .args in
-    go-refused b (a .x) (a .vt .now) (a .et .now) (a .t .now) (a .places .now) m h (a .a) _ (c .before .named .ensures) (c .if1 .taken)
+    let a = c .before .before .before .before .before .before .args in
+    stayed _ m b _ _ _ _ (c .stay .ensures)
+    (go-refused b (a .x) (a .vt .now) (a .et .now) (a .t .now) (a .places .now) m h (a .a) _ (c .before .before .named .ensures) (c .before .if1 .taken))
 
 place-of-requires : tie.Need-place-of-requires
 place-of-requires c κs =
@@ -46,6 +51,7 @@ go-to-mark-spec =
     tie.close
     (tie.spec
     named-requires
+    stay-requires
     returns
     place-of-requires
     go-to-requires

@@ -1,14 +1,19 @@
+use Rattle.versions.proofs.Following.{stayed}
 use mathlib.Core.Path.{refl}
 use Rattle.versions.proofs.Calls.{redo-refused, redo-done}
 use borrow.Author.Needs.{needs}
 use Rattle.versions.proofs.redo.Statement.{statement}
 use Rattle.versions.proofs.redo.Tie as tie
 
+stay-requires : tie.Need-stay-requires
+stay-requires c κs = search needs
+
 returns : tie.Need-returns
 returns c =
     λ b places m h.
-    let a = c .before .before .before .before .before .before .args in
-    redo-refused b (a .x) (a .vt .now) (a .et .now) (a .t .now) places m h (c .if1 .taken)
+    let a = c .before .before .before .before .before .before .before .args in
+    stayed _ m b _ _ _ _ (c .stay .ensures)
+    (redo-refused b (a .x) (a .vt .now) (a .et .now) (a .t .now) places m h (c .before .if1 .taken))
 
 redo-requires : tie.Need-redo-requires
 redo-requires c κs = search needs
@@ -26,4 +31,4 @@ returns-2 c =
     redo-done b (a .x) (a .vt .now) (a .et .now) (a .t .now) places m h (c .before .before .before .before .before .before .before .if1 .left) _ _ _ refl (c .before .before .before .before .redo .ensures b (m .line) (h .journal))
 
 pub redo-spec : {M : Type 1} → statement M
-redo-spec = tie.close (tie.spec returns redo-requires same-length same-length-2 returns-2)
+redo-spec = tie.close (tie.spec stay-requires returns redo-requires same-length same-length-2 returns-2)

@@ -1,3 +1,4 @@
+use Rattle.versions.proofs.Following.{stayed}
 use Rattle.versions.proofs.Calls.{count-done}
 use borrow.Author.Needs.{needs}
 use Rattle.versions.proofs.standing.Statement.{statement}
@@ -6,10 +7,14 @@ use Rattle.versions.proofs.standing.Tie as tie
 count-marks-requires : tie.Need-count-marks-requires
 count-marks-requires c κs = search needs
 
+stay-requires : tie.Need-stay-requires
+stay-requires c κs = search needs
+
 returns : tie.Need-returns
 returns c =
     λ b vt et t places m h.
-    count-done b (c .before .args .x) vt et t places m h _ (c .count-marks .ensures places (m .marks) (h .marks))
+    stayed _ m b _ _ _ _ (c .stay .ensures)
+    (count-done b (c .before .before .args .x) vt et t places m h _ (c .before .count-marks .ensures places (m .marks) (h .marks)))
 
 pub standing-spec : {M : Type 1} → statement M
-standing-spec = tie.close (tie.spec count-marks-requires returns)
+standing-spec = tie.close (tie.spec count-marks-requires stay-requires returns)

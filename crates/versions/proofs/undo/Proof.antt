@@ -1,14 +1,19 @@
+use Rattle.versions.proofs.Following.{stayed}
 use mathlib.Core.Path.{refl}
 use Rattle.versions.proofs.Calls.{undo-refused, undo-done}
 use borrow.Author.Needs.{needs}
 use Rattle.versions.proofs.undo.Statement.{statement}
 use Rattle.versions.proofs.undo.Tie as tie
 
+stay-requires : tie.Need-stay-requires
+stay-requires c κs = search needs
+
 returns : tie.Need-returns
 returns c =
     λ b places m h.
-    let a = c .before .before .before .before .before .before .args in
-    undo-refused b (a .x) (a .vt .now) (a .et .now) (a .t .now) places m h _ refl (c .if1 .taken)
+    let a = c .before .before .before .before .before .before .before .args in
+    stayed _ m b _ _ _ _ (c .stay .ensures)
+    (undo-refused b (a .x) (a .vt .now) (a .et .now) (a .t .now) places m h _ refl (c .before .if1 .taken))
 
 undo-requires : tie.Need-undo-requires
 undo-requires c κs = search needs
@@ -26,4 +31,4 @@ returns-2 c =
     undo-done b (a .x) (a .vt .now) (a .et .now) (a .t .now) places m h _ refl (c .before .before .before .before .before .before .before .if1 .left) _ _ _ refl (c .before .before .before .before .undo .ensures b (m .line) (h .journal))
 
 pub undo-spec : {M : Type 1} → statement M
-undo-spec = tie.close (tie.spec returns undo-requires same-length same-length-2 returns-2)
+undo-spec = tie.close (tie.spec stay-requires returns undo-requires same-length same-length-2 returns-2)

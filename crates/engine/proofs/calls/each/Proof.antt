@@ -5,7 +5,8 @@ use native.Mathlib.Omega.{arith}
 use lib.ListN.{length, take, length-set, length-take, length-drop}
 use borrow.Author.Needs.{needs}
 use Rattle.history.specs.Machine.{Machine}
-use Rattle.machine.specs.Calls.{Parameters, callsOf}
+use Rattle.machine.specs.Calls.{Parameters}
+use Rattle.commands.specs.Calls.{callsOf}
 use Rattle.engine.specs.Running.{Running}
 use Rattle.engine.specs.Calls.{AfterCalls}
 use Rattle.engine.proofs.CallLaws.{after-calls-none, after-calls-more, after-calls-all}
@@ -54,6 +55,9 @@ step-requires c κs =
     let g = c .before .before .before .before .before .before .before .loop .inv .5 (p .0) (p .1) (p .2) in
     (p .0, _, g .stands)
 
+same-requires : tie.Need-same-requires Inv-loop μ-loop
+same-requires c κs = search needs
+
 mul-answers : tie.Need-mul-answers Inv-loop μ-loop
 mul-answers c = omega (arith, c .before .before .before .before .before .before .before .before .before .before .before .before .before .before)
 
@@ -92,8 +96,8 @@ loop-again c =
       s .kept .1 .1 .1 .0 ∙ l .inv .3,
       simp length-set (l .inv .4),
       λ w m h.
-          after-calls-more w m _ _ _ _ _ _ _ _ _ (a .calls .now) (l .k) _ (s .result) _ _ _ _ (l .inv .5 w m h) (c .before .before .before .before .before .before .before .before .before .before .before .before .decode .ensures) (s .ensures)
-          (omega (arith, c .before .before .before .before .before .before .before .before .before .before .before .before .before .before)) (omega (arith, c .before .before .before .before .before .before .before .before .before .before .before .before .before .before)),
+          rw (c .same .ensures) (after-calls-more w m _ _ _ _ _ _ _ _ _ (a .calls .now) (l .k) _ (s .result) _ _ _ _ (l .inv .5 w m h) (c .before .before .before .before .before .before .before .before .before .before .before .before .decode .ensures) (s .ensures)
+          (omega (arith, c .before .before .before .before .before .before .before .before .before .before .before .before .before .before)) (omega (arith, c .before .before .before .before .before .before .before .before .before .before .before .before .before .before))),
     )
 
 same-length : tie.Need-same-length Inv-loop μ-loop
@@ -129,6 +133,7 @@ each-spec =
     part-decode-end
     decode-requires
     step-requires
+    same-requires
     mul-answers
     mul-answers-2
     slice-write-answers

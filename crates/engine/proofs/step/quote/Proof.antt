@@ -1,26 +1,21 @@
+use Rattle.history.specs.Machine.{present}
+use Rattle.machine.specs.Calls.{boundsIn}
+use Rattle.engine.proofs.StepLaws.{quote-answers, sized, holds, stays-by}
 use borrow.Author.Needs.{needs}
 use Rattle.engine.proofs.step.quote.Statement.{statement}
 use Rattle.engine.proofs.step.quote.Tie as tie
 
-enum-known-call : tie.Need-enum-known-call
-enum-known-call c = search needs
+quote-requires : tie.Need-quote-requires
+quote-requires c κs =
+    let p = c .before .before .pre in
+    let h = p .6 in
+    (boundsIn (p .0), _, present (p .1), sized (p .0) (p .1) _ _ _ (p .2) (p .3) (p .4) (p .5) h, holds (p .0) (p .1) _ _ _ (p .2) (p .3) (p .4) (p .5) h)
 
-range-requires : tie.Need-range-requires
-range-requires c κs = search needs
-
-enum-known-call-2 : tie.Need-enum-known-call-2
-enum-known-call-2 c = search needs
-
-grade-requires : tie.Need-grade-requires
-grade-requires c κs = search needs
+stay-requires : tie.Need-stay-requires
+stay-requires c κs = search needs
 
 returns : tie.Need-returns
-returns c = λ w m t places closed types h. rw (c .before .before .call .given .1) (c .range .ensures w m t places closed types h)
-
-returns-2 : tie.Need-returns-2
-returns-2 c = λ w m t places closed types h. rw (c .before .before .call2 .given .1) (c .grade .ensures w m t places closed types h)
+returns c = λ w m t places closed types h. stays-by w m _ _ _ _ _ _ _ (c .stay .ensures) (quote-answers w m _ _ _ t places closed types h _ (c .before .quote .result) (c .before .quote .ensures _ (present m) (holds w m _ _ _ t places closed types h)))
 
 pub quote-spec : {M : Type 1} → statement M
-quote-spec =
-    tie.close
-    (tie.spec enum-known-call range-requires enum-known-call-2 grade-requires returns returns-2)
+quote-spec = tie.close (tie.spec quote-requires stay-requires returns)

@@ -1,3 +1,6 @@
+use mathlib.Core.Path.{refl}
+use Rattle.machine.specs.Calls.{boundsIn}
+use Rattle.engine.proofs.StepLaws.{recall-answers}
 use borrow.Author.Needs.{needs}
 use Rattle.engine.proofs.step.step.Statement.{statement}
 use Rattle.engine.proofs.step.step.Tie as tie
@@ -12,7 +15,7 @@ enum-known-command-2 : tie.Need-enum-known-command-2
 enum-known-command-2 c = search needs
 
 recall-requires : tie.Need-recall-requires
-recall-requires c κs = search needs
+recall-requires c κs = let p = c .before .before .before .before .before .before .before .before .before .before .pre in (boundsIn (p .0), p .1, p .2 .represents)
 
 enum-known-command-3 : tie.Need-enum-known-command-3
 enum-known-command-3 c = search needs
@@ -54,7 +57,7 @@ same-length-6 : tie.Need-same-length-6
 same-length-6 c = search needs
 
 returns-2 : tie.Need-returns-2
-returns-2 c = λ w m h. rw (c .before .before .before .before .before .before .before .before .before .before .command2 .given .1) (c .before .before .before .before .recall .ensures w m _ _ h)
+returns-2 c = λ w m h. rw (c .before .before .before .before .before .before .before .before .before .before .command2 .given .1) (recall-answers w m _ _ _ _ _ _ _ h _ _ _ _ _ _ _ _ refl (c .before .before .before .before .recall .ensures (boundsIn w) m (h .represents)))
 
 same-length-7 : tie.Need-same-length-7
 same-length-7 c = search needs

@@ -1,0 +1,35 @@
+-- A table of codes: when each applies, and the lowest that does.
+use Prim.Native.Nat.{ℕ}
+use mathlib.Core.Path.{_≡_}
+use mathlib.Core.Bool.{Bool, true, false, _||_}
+use mathlib.Core.List.{List, [], _∷_}
+use Rattle.lists.specs.Choice.{_⇒_else_}
+
+-- a code, and whether it applies
+pub record Row : Type 0 where
+  pub code : ℕ
+  pub applies : Bool
+
+-- "The lowest code that applies is given, and no code otherwise.": of rows whose codes rise; 0 where none applies
+abbrev pub lowest : List Row → ℕ
+lowest [] = 0
+lowest (r ∷ rs) = r .applies ⇒ r .code else lowest rs
+
+abbrev pub row : ℕ → Bool → Row
+row k t = record { code = k; applies = t }
+
+-- the test holds of one of these numbers
+abbrev pub some : (ℕ → Bool) → List ℕ → Bool
+some p [] = false
+some p (x ∷ []) = p x
+some p (x ∷ y ∷ ys) = p x || some p (y ∷ ys)
+
+-- k is the code of a row that applies, and no row before it does
+pub data Lowest (k : ℕ) : List Row → Type 0 where
+  found : {r : Row} {rs : List Row} → r .applies ≡ true → r .code ≡ k → Lowest k (r ∷ rs)
+  later : {r : Row} {rs : List Row} → r .applies ≡ false → Lowest k rs → Lowest k (r ∷ rs)
+
+-- no row applies
+pub data NoneApplies : List Row → Type 0 where
+  none : NoneApplies []
+  passed : {r : Row} {rs : List Row} → r .applies ≡ false → NoneApplies rs → NoneApplies (r ∷ rs)

@@ -1,0 +1,150 @@
+-- The code of each family of commands, from the rows that can apply to it; and the steps that commands make.
+use Prim.Native.Nat.{ℕ, _≤_}
+use mathlib.Core.Path.{_≡_, refl, sym, ap, _∙_}
+use mathlib.Core.Bool.{Bool, true, false}
+use mathlib.Core.List.{List, [], _∷_, _++_}
+use native.Mathlib.Omega.{arith}
+use lib.Dec.{leb}
+use lib.ListN.{length}
+use borrow.Author.Tests.{ne-eqb, eqb-true, eqb-false, leb-true}
+use Rattle.lists.specs.Choice.{_⇒_else_, _==_}
+use Rattle.lists.specs.Lists.{All, done, more}
+use Rattle.lists.proofs.Sums.{all-bool}
+use Rattle.graph.specs.declared.Change.{Change}
+use Rattle.graph.specs.declared.Change.the-variants.{CreateVertex, DeleteVertex, CreateEdge, DeleteEdge, RetypeVertex, RetypeEdge, SetValue, SetReading, SetAlpha, SetOmega, VertexBefore, VertexAfter, EdgeBefore, EdgeAfter, WordBefore, WordAfter}
+use Rattle.history.specs.Machine.{Step, Machine, present}
+use Rattle.machine.specs.HistoryCodes.{tooDear, historyTable}
+use Rattle.machine.specs.Rules.{Effect, steps, marks, unmarks, goes, clears, nothing, historyDeed, historyRule}
+use Rattle.commands.specs.declared.HistoryCall.{HistoryCall}
+use Rattle.commands.specs.declared.HistoryCall.the-variants.{SetMark, DropMark, Undo, Redo, GoTo, Commit, Between, Standing, Free}
+use Rattle.commands.specs.declared.Question.{Question}
+use Rattle.commands.specs.declared.Question.the-variants.{FirstVertex, NextVertex, FirstEdge, NextEdge, FirstWord, NextWord, Alpha, Omega, This, That, VertexType, EdgeType, Value, ReadingKind, Decimetres, Degree, VertexOrder, EdgeOrder, WordOrder, Below}
+use Rattle.commands.specs.declared.PriceCall.{PriceCall}
+use Rattle.commands.specs.declared.PriceCall.the-variants.{Range, Grade}
+use Rattle.commands.specs.declared.Command.the-variants.{Alter, Recall, Ask, Quote}
+use Rattle.commands.specs.Tables.{Row, lowest}
+use Rattle.commands.specs.Commands.{changeOf, changeCall}
+use Rattle.machine.specs.Calls.{Parameters, boundsIn}
+use Rattle.machine.specs.Codes.{chartTable, lastTable, refusal, changeCode, questionCode, priceCode}
+
+-- ---- two tables, one after the other
+
+abbrev pub Coded : List Row → Type 0
+Coded rs = All (λ (r : Row). 1 ≤ r .code) rs
+
+-- the first code that is not 0
+abbrev pub orElse : ℕ → ℕ → ℕ
+orElse r s = (r == 0) ⇒ s else r
+
+lowest-both : (rs ss : List Row) → Coded rs → lowest (rs ++ ss) ≡ orElse (lowest rs) (lowest ss)
+lowest-both [] ss done = refl
+lowest-both (r ∷ rs) ss (more h hs) = go (r .applies) (lowest-both rs ss hs)
+  where
+    go : (t : Bool) → lowest (rs ++ ss) ≡ orElse (lowest rs) (lowest ss) → (t ⇒ r .code else lowest (rs ++ ss)) ≡ orElse (t ⇒ r .code else lowest rs) (lowest ss)
+    go true i = rw (ne-eqb (r .code) 0 (omega arith))
+    go false i = i
+
+both-zero : (r : ℕ) (t : Bool) → orElse r (t ⇒ 10 else 0) ≡ 0 → (r ≡ 0) × (t ≡ false)
+both-zero r t e = go (r == 0) refl t e
+  where
+    go : (s : Bool) → (r == 0) ≡ s → (t : Bool) → _≡_ {A = ℕ} (s ⇒ (t ⇒ 10 else 0) else r) 0 → (r ≡ 0) × (t ≡ false)
+    go true a false i = (eqb-true r 0 a, refl)
+    go true a true i = absurd (omega arith)
+    go false a t i = absurd (eqb-false r 0 a i)
+
+module _ (w : Parameters) (m : Machine) where
+  -- ---- changes: 2 to 9, then 10
+
+  room-only : (c : Change) → lowest (historyTable (w .changes) m (changeCall c) ++ lastTable (present m) (changeCall c)) ≡ (tooDear (w .changes) m c ⇒ 10 else 0)
+  unfolding changeOf
+  room-only (CreateVertex n t x) = refl
+  room-only (DeleteVertex a) = refl
+  room-only (CreateEdge n a o t) = refl
+  room-only (DeleteEdge a) = refl
+  room-only (RetypeVertex a t) = refl
+  room-only (RetypeEdge a t) = refl
+  room-only (SetValue a x) = refl
+  room-only (SetReading a k d) = refl
+  room-only (SetAlpha e v) = refl
+  room-only (SetOmega e v) = refl
+  room-only (VertexBefore a b) = refl
+  room-only (VertexAfter a b) = refl
+  room-only (EdgeBefore a b) = refl
+  room-only (EdgeAfter a b) = refl
+  room-only (WordBefore a b) = refl
+  room-only (WordAfter a b) = refl
+
+  pub change-refusal : (c : Change) → refusal w m (Alter c) ≡ orElse (changeCode (boundsIn w) (present m) c) (tooDear (w .changes) m c ⇒ 10 else 0)
+  unfolding refusal
+  change-refusal c =
+      let t = chartTable (boundsIn w) (present m) (changeCall c) in
+      lowest-both t (historyTable (w .changes) m (changeCall c) ++ lastTable (present m) (changeCall c)) (all-bool (λ (r : Row). leb 1 (r .code)) (λ r e. leb-true 1 (r .code) e) t refl)
+      ∙ ap (orElse (lowest t)) (room-only c)
+
+  -- what an accepted change has passed
+  pub change-passed : (c : Change) → (refusal w m (Alter c) == 0) ≡ true → (changeCode (boundsIn w) (present m) c ≡ 0) × (tooDear (w .changes) m c ≡ false)
+  change-passed c e = both-zero _ _ (sym (change-refusal c) ∙ eqb-true (refusal w m (Alter c)) 0 e)
+
+  -- ---- the other families
+
+  pub history-refusal : (h : HistoryCall) → refusal w m (Recall h) ≡ historyRule (w .changes) h .code m
+  unfolding refusal
+  history-refusal (SetMark k) = refl
+  history-refusal (DropMark k) = refl
+  history-refusal Undo = refl
+  history-refusal Redo = refl
+  history-refusal (GoTo k) = refl
+  history-refusal Commit = refl
+  history-refusal (Between j k) = refl
+  history-refusal Standing = refl
+  history-refusal Free = refl
+
+  pub question-refusal : (q : Question) → refusal w m (Ask q) ≡ questionCode (length (w .rows)) (present m) q
+  unfolding refusal
+  question-refusal FirstVertex = refl
+  question-refusal (NextVertex a) = refl
+  question-refusal FirstEdge = refl
+  question-refusal (NextEdge a) = refl
+  question-refusal (FirstWord a) = refl
+  question-refusal (NextWord a) = refl
+  question-refusal (Alpha a) = refl
+  question-refusal (Omega a) = refl
+  question-refusal (This a) = refl
+  question-refusal (That a) = refl
+  question-refusal (VertexType a) = refl
+  question-refusal (EdgeType a) = refl
+  question-refusal (Value a) = refl
+  question-refusal (ReadingKind a) = refl
+  question-refusal (Decimetres a) = refl
+  question-refusal (Degree a t c) = refl
+  question-refusal (VertexOrder a b) = refl
+  question-refusal (EdgeOrder a b) = refl
+  question-refusal (WordOrder a b) = refl
+  question-refusal (Below s t) = refl
+
+  pub price-refusal : (p : PriceCall) → refusal w m (Quote p) ≡ priceCode (present m) p
+  unfolding refusal
+  price-refusal (Range a b) = refl
+  price-refusal (Grade a b) = refl
+
+-- ---- steps are made by changes alone
+
+-- P holds of the step, where there is one
+abbrev pub Makes : (Step → Type 0) → Effect → Type 0
+Makes P (steps s) = P s
+Makes P (marks n) = Unit {0}
+Makes P (unmarks n) = Unit {0}
+Makes P (goes p) = Unit {0}
+Makes P clears = Unit {0}
+Makes P nothing = Unit {0}
+
+pub history-makes : (P : Step → Type 0) (capacity : ℕ) (h : HistoryCall) (m : Machine) → Makes P (historyDeed capacity h m .effect)
+history-makes P capacity (SetMark k) m = tt
+history-makes P capacity (DropMark k) m = tt
+history-makes P capacity Undo m = tt
+history-makes P capacity Redo m = tt
+history-makes P capacity (GoTo k) m = tt
+history-makes P capacity Commit m = tt
+history-makes P capacity (Between j k) m = tt
+history-makes P capacity Standing m = tt
+history-makes P capacity Free m = tt

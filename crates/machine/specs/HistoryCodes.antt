@@ -1,0 +1,59 @@
+-- Rows 10 to 14 of the table of codes, read on a call's words and the machine as the call begins.
+use Prim.Native.Nat.{ℕ}
+use mathlib.Core.Bool.{Bool, false, not, _&&_}
+use mathlib.Core.List.{List, [], _∷_}
+use lib.ListN.{length}
+use lib.Dec.{ltb}
+use Rattle.lists.specs.Choice.{_⇒_else_, _==_, within}
+use Rattle.lists.specs.Lists.{_is_}
+use Rattle.graph.specs.declared.Change.{Change}
+use Rattle.graph.specs.Changes.{cost}
+use Rattle.commands.specs.Calls.{Call}
+use Rattle.commands.specs.Tables.{Row, row, some}
+use Rattle.commands.specs.Commands.{changeOf}
+use Rattle.history.specs.Machine.{Machine, freeOf, stands, present}
+
+abbrev pub isChange : ℕ → Bool
+isChange k = within 1 16 k
+
+abbrev pub marksNamed : Call → List ℕ
+marksNamed x =
+    (x .kind is (17 ∷ 18 ∷ 21 ∷ [])) ⇒ (x .a ∷ []) else
+    (x .kind == 49) ⇒ (x .a ∷ x .b ∷ []) else
+    []
+
+-- "cost above free changes"
+abbrev pub tooDear : ℕ → Machine → Change → Bool
+tooDear capacity m c = ltb (freeOf capacity (m .line)) (cost c (present m))
+
+-- 10 "cost above free changes"
+abbrev pub noRoom : ℕ → Machine → Call → Bool
+noRoom capacity m x = isChange (x .kind) && tooDear capacity m (changeOf x)
+
+-- 11 "a mark named is not 1 to 64"
+abbrev pub markOutside : Call → Bool
+markOutside x = some (λ n. not (within 1 64 n)) (marksNamed x)
+
+-- 12 "17: mark already stands"
+abbrev pub markStands : Machine → Call → Bool
+markStands m x = (x .kind == 17) && stands (m .marks (x .a))
+
+-- 13 "other than 17: a mark named does not stand"
+abbrev pub markMissing : Machine → Call → Bool
+markMissing m x = not (x .kind == 17) && some (λ n. not (stands (m .marks n))) (marksNamed x)
+
+-- 14 "p is 0 (undo), p is m (redo)"
+abbrev pub atAnEnd : Machine → Call → Bool
+atAnEnd m x =
+    (x .kind == 19) ⇒ (m .line .place == 0) else
+    (x .kind == 20) ⇒ (m .line .place == length (m .line .steps)) else
+    false
+
+abbrev pub historyTable : ℕ → Machine → Call → List Row
+historyTable capacity m x =
+    row 10 (noRoom capacity m x) ∷
+    row 11 (markOutside x) ∷
+    row 12 (markStands m x) ∷
+    row 13 (markMissing m x) ∷
+    row 14 (atAnEnd m x) ∷
+    []

@@ -1,0 +1,79 @@
+-- What an accepted change and an accepted history call do, and the rule of each: its code, its number and the state after it.
+use Prim.Native.Nat.{ℕ, suc, _-_}
+use mathlib.Core.Path.{_≡_}
+use Rattle.lists.specs.Choice.{_⇒_else_, _==_}
+use Rattle.graph.specs.declared.Change.{Change}
+use Rattle.graph.specs.Changes.{cost}
+use Rattle.commands.specs.declared.HistoryCall.{HistoryCall}
+use Rattle.commands.specs.declared.HistoryCall.the-variants.{SetMark, DropMark, Undo, Redo, GoTo, Commit, Between, Standing, Free}
+use Rattle.commands.specs.Tables.{lowest}
+use Rattle.commands.specs.Commands.{historyCall}
+use Rattle.history.specs.Machine.{Step, stepOf, Machine, freeOf, distance, placeOr, standing, present, changes, moves, sets, drops, commits}
+use Rattle.machine.specs.HistoryCodes.{tooDear, historyTable}
+
+-- what an accepted call does: a step, a mark set or dropped, another place, a commit, or nothing
+pub data Effect : Type 0 where
+  steps : Step → Effect
+  marks unmarks goes : ℕ → Effect
+  clears nothing : Effect
+
+abbrev pub effected : Effect → Machine → Machine
+effected (steps s) m = changes s m
+effected (marks n) m = sets n m
+effected (unmarks n) m = drops n m
+effected (goes p) m = moves p m
+effected clears m = commits m
+effected nothing m = m
+
+-- the number that an accepted call answers, and what it does
+pub record Deed : Type 0 where
+  pub number : ℕ
+  pub effect : Effect
+
+abbrev pub deed : ℕ → Effect → Deed
+deed n e = record { number = n; effect = e }
+
+-- "The number answered: a change its cost"
+abbrev pub changeDeed : Change → Machine → Deed
+changeDeed c m = deed (cost c (present m)) (steps (stepOf c (present m)))
+
+-- "undo, redo 1; go to mark the number of steps moved; kind 49 the distance of the two places, 50 the number of standing marks,
+-- 51 the free changes; commit the old p; set and drop 0."
+abbrev pub historyDeed : ℕ → HistoryCall → Machine → Deed
+historyDeed capacity (SetMark k) m = deed 0 (marks k)
+historyDeed capacity (DropMark k) m = deed 0 (unmarks k)
+historyDeed capacity Undo m = deed 1 (goes (m .line .place - 1))
+historyDeed capacity Redo m = deed 1 (goes (suc (m .line .place)))
+historyDeed capacity (GoTo k) m =
+    deed (distance (m .line .place) (placeOr (m .line .place) (m .marks k))) (goes (placeOr (m .line .place) (m .marks k)))
+historyDeed capacity Commit m = deed (m .line .place) clears
+historyDeed capacity (Between j k) m = deed (distance (placeOr 0 (m .marks j)) (placeOr 0 (m .marks k))) nothing
+historyDeed capacity Standing m = deed (standing (m .marks)) nothing
+historyDeed capacity Free m = deed (freeOf capacity (m .line)) nothing
+
+-- ---- rules
+
+-- the code, 0 where the call is accepted, and the deed of an accepted call
+pub record Rule : Type 0 where
+  pub code : Machine → ℕ
+  pub deed : Machine → Deed
+
+-- "A refused call answers its code and 0."
+abbrev pub answered : Rule → Machine → ℕ
+answered r m = (r .code m == 0) ⇒ r .deed m .number else 0
+
+-- a refused call changes nothing
+abbrev pub followed : Rule → Machine → Machine
+followed r m = (r .code m == 0) ⇒ effected (r .deed m .effect) m else m
+
+-- code and number are the machine's
+pub record Obeys (r : Rule) (m : Machine) (code number : ℕ) : Type 0 where
+  pub coded : code ≡ r .code m
+  pub numbered : number ≡ answered r m
+
+-- a change whose codes 2 to 9 do not apply: 10
+abbrev pub changeRule : ℕ → Change → Rule
+changeRule capacity c = record { code = λ m. tooDear capacity m c ⇒ 10 else 0; deed = changeDeed c }
+
+abbrev pub historyRule : ℕ → HistoryCall → Rule
+historyRule capacity h = record { code = λ m. lowest (historyTable capacity m (historyCall h)); deed = historyDeed capacity h }

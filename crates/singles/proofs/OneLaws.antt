@@ -1,0 +1,193 @@
+-- A change that is refused, one that is made, and what it takes to make it.
+use Prim.Native.Nat.{ℕ, _+_, _*_, _≤_}
+use mathlib.Core.Path.{_≡_, refl, sym, ap, subst, _∙_}
+use mathlib.Core.Logic.{_≢_}
+use mathlib.Core.Bool.{Bool, true, false}
+use mathlib.Core.List.{List}
+use native.Mathlib.Omega.{arith}
+use lib.ListN.{length}
+use borrow.Author.Tests.{eqb-true, eqb-false}
+use Rattle.lists.specs.Choice.{_==_, _⇒_else_}
+use denote.Enum.Declared.{tagOf}
+use Rattle.graph.proofs.Change.{the-type}
+use Rattle.graph.specs.declared.Change.{Change}
+use Rattle.graph.specs.declared.Change.the-variants.{CreateVertex, DeleteVertex, CreateEdge, DeleteEdge, RetypeVertex, RetypeEdge, SetValue, SetReading, SetAlpha, SetOmega, VertexBefore, VertexAfter, EdgeBefore, EdgeAfter, WordBefore, WordAfter}
+use Rattle.graph.specs.declared.Edit.{Edit}
+use Rattle.graph.specs.declared.Edit.the-variants.{InsertEdge, RemoveEdge, SetVertex, SetEdge, MoveVertex, MoveEdge, MoveWord}
+use Rattle.graph.specs.declared.Reading.the-variants.{Untested}
+use Rattle.graph.specs.Graph.{Graph, edge, readingKind, decimetres, readingOf}
+use Rattle.graph.specs.WellFormed.{Bounds}
+use Rattle.graph.specs.Changes.{EdgeThere, Allowed}
+use Rattle.graph.specs.Plans.{plan}
+use Rattle.graph.proofs.Readings.{reading-words}
+use Rattle.graph.proofs.PlanLaws.{plan-applies}
+use Rattle.tables.specs.declared.Head.{Head}
+use Rattle.tables.specs.Tables.{State, st, ekind, edecimetres}
+use Rattle.tables.specs.Edits.{Can, Room}
+use Rattle.tables.specs.Holds.{Holds}
+use Rattle.tables.specs.Capacities.{Sized, boundsOf}
+use Rattle.tables.proofs.Callers.{small, vertex-in, edge-in}
+use Rattle.tables.proofs.Refines.{can-edit}
+use Rattle.journal.specs.Rows.{IsWords}
+use Rattle.journal.specs.Written.{Written}
+use Rattle.queries.specs.Plans.{planS, OneEdit}
+use Rattle.queries.proofs.Answers.{reading-at, reading-kind, reading-decimetres}
+use Rattle.queries.proofs.PlanLaws.{can-plan, plan-is, one-edit}
+use Rattle.machine.specs.Codes.{changeCode}
+use Rattle.checks.specs.Held.{HoldsVE}
+use Rattle.commands.specs.Fits.{ChangeFits}
+use Rattle.machine.proofs.Allows.{allows}
+use Rattle.singles.specs.declared.Made.{Made}
+use Rattle.singles.specs.One.{Stands, ReadingWords, Ready, Makes, One, withRoom}
+
+pub no-code : (free c : ℕ) → withRoom free c ≡ 0 → c ≡ 0
+no-code free c e = go (c == 0) refl e
+  where
+    go : (p : Bool) → (c == 0) ≡ p → (p ⇒ ((free == 0) ⇒ 10 else 0) else c) ≡ 0 → c ≡ 0
+    go true q z = eqb-true c 0 q
+    go false q z = z
+
+pub some-room : (free c : ℕ) → withRoom free c ≡ 0 → free ≢ 0
+some-room free c e = go (c == 0) refl (free == 0) refl e
+  where
+    go : (p : Bool) → (c == 0) ≡ p → (r : Bool) → (free == 0) ≡ r → (p ⇒ (r ⇒ 10 else 0) else c) ≡ 0 → free ≢ 0
+    go true q true k z = absurd (omega arith)
+    go true q false k z = eqb-false free 0 k
+    go false q r k z = absurd (eqb-false c 0 q z)
+
+-- ---- what is allowed can be made
+
+module _ (b : Bounds) (s : State) (z : Sized b s) (g : Graph) (h : Holds s g) where
+  edge-words : (n : ℕ) → EdgeThere g n → IsWords (ekind (s .et) n) (edecimetres (s .et) n)
+  edge-words n c =
+      let r = reading-at s g h n c in
+      (ap readingKind r ∙ sym (reading-kind s g h n c), ap decimetres r ∙ sym (reading-decimetres s g h n c))
+
+  reads-words : (c : Change) → Allowed b g c → ReadingWords c s
+  reads-words (CreateVertex n t x) a = tt
+  reads-words (DeleteVertex v) a = tt
+  reads-words (CreateEdge n x o t) a = tt
+  reads-words (DeleteEdge n) a = edge-words n a
+  reads-words (RetypeVertex v t) a = tt
+  reads-words (RetypeEdge e t) a = edge-words e (a .0)
+  reads-words (SetValue v x) a = tt
+  reads-words (SetReading e k d) a = (edge-words e (a .0), reading-words k d (a .1))
+  reads-words (SetAlpha e v) a = tt
+  reads-words (SetOmega e v) a = tt
+  reads-words (VertexBefore x y) a = tt
+  reads-words (VertexAfter x y) a = tt
+  reads-words (EdgeBefore x y) a = tt
+  reads-words (EdgeAfter x y) a = tt
+  reads-words (WordBefore x y) a = tt
+  reads-words (WordAfter x y) a = tt
+
+  has-room : (c : Change) → Allowed b g c → Room (planS c s) s
+  has-room (CreateVertex n t x) a = vertex-in b s z n (a .0) (a .1)
+  has-room (DeleteVertex v) a = tt
+  has-room (CreateEdge n x o t) a = edge-in b s z n (a .0) (a .1)
+  has-room (DeleteEdge n) a = tt
+  has-room (RetypeVertex v t) a = tt
+  has-room (RetypeEdge e t) a = tt
+  has-room (SetValue v x) a = tt
+  has-room (SetReading e k d) a = tt
+  has-room (SetAlpha e v) a = tt
+  has-room (SetOmega e v) a = tt
+  has-room (VertexBefore x y) a = tt
+  has-room (VertexAfter x y) a = tt
+  has-room (EdgeBefore x y) a = tt
+  has-room (EdgeAfter x y) a = tt
+  has-room (WordBefore x y) a = tt
+  has-room (WordAfter x y) a = tt
+
+  ready : (c : Change) → OneEdit c → Allowed b g c → Ready c s
+  ready c k a =
+      let e = plan-is s g h b c a in
+      let r = subst (λ (x : Edit). Room x s) e (has-room c a) in
+      let i = can-edit s g h (small b s z) (plan c g) (plan-applies b g (h .sound) c a (one-edit c k g .0)) r in
+      (can-plan b s z g h c a, subst (λ (x : Edit). Can x s) (sym e) i, reads-words c a)
+
+-- ---- one change
+
+module _ (x : Change) (types i free : ℕ) (h : Head) (vt et t : List ℕ) (f : ChangeFits x) (c code : ℕ)
+    (e : (g : Graph) → HoldsVE vt et g → c ≡ changeCode (boundsOf vt et types) g x) (w : code ≡ withRoom free c) where
+  pub one-refused : code ≢ 0 → (k n : ℕ) (h′ : Head) → (h′ ≡ h) × (k ≡ code) → One x types i free (st h vt et) t k n (st h′ vt et) t
+  one-refused n k m h′ a = record {
+    fits = f;
+    answers = λ g y. a .1 ∙ w ∙ ap (withRoom free) (e g y);
+    stays = λ _. ap (λ (z : Head). st z vt et) (a .0);
+    keeps = λ _. refl;
+    made = λ z. absurd (n (sym (a .1) ∙ z));
+  }
+
+  -- and no code: it can be made, and there is a row for it
+  pub one-can : code ≡ 0 → OneEdit x → Stands types (st h vt et) × (free ≢ 0 → 12 * i + 12 ≤ length t) → Ready x (st h vt et) × (12 * i + 12 ≤ length t)
+  one-can z k p =
+      let y = p .0 in
+      let a = allows (boundsOf vt et types) (y .graph) (y .holds .sound) x f (sym (e (y .graph) (h, y .holds)) ∙ no-code free c (sym w ∙ z)) in
+      (ready (boundsOf vt et types) (st h vt et) (y .sized) (y .graph) (y .holds) x k a, p .1 (some-room free c (sym w ∙ z)))
+
+  pub one-made : code ≡ 0 → (k n : ℕ) (s′ : State) (t′ : List ℕ) → Makes (planS x (st h vt et)) i (st h vt et) t k n s′ t′ → One x types i free (st h vt et) t k n s′ t′
+  one-made z k n s′ t′ m = record {
+    fits = f;
+    answers = λ g y. m .coded ∙ sym z ∙ w ∙ ap (withRoom free) (e g y);
+    stays = λ d. absurd (d (m .coded));
+    keeps = λ d. absurd (d (m .coded));
+    made = λ _. m;
+  }
+
+-- in an arm of the match
+pub one-by : {x y : Change} {types i free : ℕ} {s s′ : State} {t t′ : List ℕ} {k n : ℕ} → x ≡ y → One y types i free s t k n s′ t′ → One x types i free s t k n s′ t′
+one-by {types = types} {i = i} {free = free} {s = s} {s′ = s′} {t = t} {t′ = t′} {k = k} {n = n} e o = subst (λ (z : Change). One z types i free s t k n s′ t′) (sym e) o
+
+-- a change that is one edit is no deletion of a vertex
+pub no-deletion : (c : Change) → OneEdit c → tagOf the-type c ≡ 1 → ⊥
+no-deletion (CreateVertex n t x) o z = omega arith
+no-deletion (DeleteVertex a) o z = o
+no-deletion (CreateEdge n a y t) o z = omega arith
+no-deletion (DeleteEdge a) o z = omega arith
+no-deletion (RetypeVertex a t) o z = omega arith
+no-deletion (RetypeEdge a t) o z = omega arith
+no-deletion (SetValue a x) o z = omega arith
+no-deletion (SetReading a k d) o z = omega arith
+no-deletion (SetAlpha e v) o z = omega arith
+no-deletion (SetOmega e v) o z = omega arith
+no-deletion (VertexBefore a b) o z = omega arith
+no-deletion (VertexAfter a b) o z = omega arith
+no-deletion (EdgeBefore a b) o z = omega arith
+no-deletion (EdgeAfter a b) o z = omega arith
+no-deletion (WordBefore a b) o z = omega arith
+no-deletion (WordAfter a b) o z = omega arith
+
+-- ---- what is written is the plan
+
+pub makes-by : {e e′ : Edit} {i : ℕ} {s : State} {h : Head} {vt et t t′ : List ℕ} {r : Made} → e ≡ e′ → Written e 1 i s t (st h vt et) t′ → r ≡ record { head = h; code = 0; cost = 1 }
+    → Makes e′ i s t (r .code) (r .cost) (st (r .head) vt et) t′
+makes-by {e′ = e′} {i = i} {s = s} {h = h} {vt = vt} {et = et} {t = t} {t′ = t′} p w q =
+    let v = subst (λ (x : Edit). Written x 1 i s t (st h vt et) t′) p w in
+    subst (λ (x : Made). Makes e′ i s t (x .code) (x .cost) (st (x .head) vt et) t′) (sym q) (record { coded = refl; costs = refl; written = v })
+
+pub words-by : {k k′ d d′ : ℕ} → k ≡ k′ → d ≡ d′ → IsWords k′ d′ → IsWords k d
+words-by p q w = rw (p, q) w
+
+pub insert-edge-by : (n a z s p : ℕ) {o o′ i i′ : ℕ} → o ≡ o′ → i ≡ i′ → InsertEdge n a z s Untested p o i ≡ InsertEdge n a z s Untested p o′ i′
+insert-edge-by n a z s p eo ei = λ j. InsertEdge n a z s Untested p (eo j) (ei j)
+
+pub remove-edge-by : (n : ℕ) {a a′ z z′ s s′ k k′ d d′ p p′ o o′ i i′ : ℕ} → a ≡ a′ → z ≡ z′ → s ≡ s′ → k ≡ k′ → d ≡ d′ → p ≡ p′ → o ≡ o′ → i ≡ i′ →
+    RemoveEdge n a z s (readingOf k d) p o i ≡ RemoveEdge n a′ z′ s′ (readingOf k′ d′) p′ o′ i′
+remove-edge-by n ea ez es ek ed ep eo ei = λ j. RemoveEdge n (ea j) (ez j) (es j) (readingOf (ek j) (ed j)) (ep j) (eo j) (ei j)
+
+pub set-vertex-by : (n : ℕ) {s s′ x x′ u u′ y y′ : ℕ} → s ≡ s′ → x ≡ x′ → u ≡ u′ → y ≡ y′ → SetVertex n s x u y ≡ SetVertex n s′ x′ u′ y′
+set-vertex-by n es ex eu ey = λ j. SetVertex n (es j) (ex j) (eu j) (ey j)
+
+pub set-edge-by : (n : ℕ) {s s′ k k′ d d′ u u′ l l′ f f′ : ℕ} → s ≡ s′ → k ≡ k′ → d ≡ d′ → u ≡ u′ → l ≡ l′ → f ≡ f′ →
+    SetEdge n s (readingOf k d) u (readingOf l f) ≡ SetEdge n s′ (readingOf k′ d′) u′ (readingOf l′ f′)
+set-edge-by n es ek ed eu el ef = λ j. SetEdge n (es j) (readingOf (ek j) (ed j)) (eu j) (readingOf (el j) (ef j))
+
+pub move-vertex-by : (n : ℕ) {p p′ q q′ : ℕ} → p ≡ p′ → q ≡ q′ → MoveVertex n p q ≡ MoveVertex n p′ q′
+move-vertex-by n ep eq = λ j. MoveVertex n (ep j) (eq j)
+
+pub move-edge-by : (n : ℕ) {p p′ q q′ : ℕ} → p ≡ p′ → q ≡ q′ → MoveEdge n p q ≡ MoveEdge n p′ q′
+move-edge-by n ep eq = λ j. MoveEdge n (ep j) (eq j)
+
+pub move-word-by : (w : ℕ) {v v′ p p′ u u′ q q′ : ℕ} → v ≡ v′ → p ≡ p′ → u ≡ u′ → q ≡ q′ → MoveWord w v p u q ≡ MoveWord w v′ p′ u′ q′
+move-word-by w ev ep eu eq = λ j. MoveWord w (ev j) (ep j) (eu j) (eq j)

@@ -1,0 +1,66 @@
+-- A change of one edit: what it asks of the tables, its code, and what it leaves.
+use Prim.Native.Nat.{ℕ}
+use mathlib.Core.Path.{_≡_}
+use mathlib.Core.Logic.{_≢_}
+use mathlib.Core.List.{List}
+use Rattle.lists.specs.Choice.{_==_, _⇒_else_}
+use Rattle.graph.specs.declared.Edit.{Edit}
+use Rattle.graph.specs.declared.Change.{Change}
+use Rattle.graph.specs.declared.Change.the-variants.{CreateVertex, DeleteVertex, CreateEdge, DeleteEdge, RetypeVertex, RetypeEdge, SetValue, SetReading, SetAlpha, SetOmega, VertexBefore, VertexAfter, EdgeBefore, EdgeAfter, WordBefore, WordAfter}
+use Rattle.graph.specs.Graph.{Graph}
+use Rattle.tables.specs.Tables.{State, ekind, edecimetres}
+use Rattle.tables.specs.Edits.{Can}
+use Rattle.tables.specs.Holds.{Holds}
+use Rattle.tables.specs.Capacities.{Sized, boundsOf}
+use Rattle.journal.specs.Rows.{IsWords}
+use Rattle.journal.specs.Written.{Written}
+use Rattle.queries.specs.Plans.{planS, CanPlan}
+use Rattle.machine.specs.Codes.{changeCode}
+use Rattle.checks.specs.Held.{HoldsVE}
+use Rattle.commands.specs.Fits.{ChangeFits}
+
+-- the head and the tables hold a graph, within the limits
+pub record Stands (types : ℕ) (s : State) : Type 0 where
+  pub graph : Graph
+  pub holds : Holds s graph
+  pub sized : Sized (boundsOf (s .vt) (s .et) types) s
+
+-- the words of a reading that is read, and of one that is set
+abbrev pub ReadingWords : Change → State → Type 0
+ReadingWords (CreateVertex n t x) s = Unit {0}
+ReadingWords (DeleteVertex a) s = Unit {0}
+ReadingWords (CreateEdge n a o t) s = Unit {0}
+ReadingWords (DeleteEdge a) s = IsWords (ekind (s .et) a) (edecimetres (s .et) a)
+ReadingWords (RetypeVertex a t) s = Unit {0}
+ReadingWords (RetypeEdge a t) s = IsWords (ekind (s .et) a) (edecimetres (s .et) a)
+ReadingWords (SetValue a x) s = Unit {0}
+ReadingWords (SetReading a k d) s = IsWords (ekind (s .et) a) (edecimetres (s .et) a) × IsWords k d
+ReadingWords (SetAlpha e v) s = Unit {0}
+ReadingWords (SetOmega e v) s = Unit {0}
+ReadingWords (VertexBefore a b) s = Unit {0}
+ReadingWords (VertexAfter a b) s = Unit {0}
+ReadingWords (EdgeBefore a b) s = Unit {0}
+ReadingWords (EdgeAfter a b) s = Unit {0}
+ReadingWords (WordBefore a b) s = Unit {0}
+ReadingWords (WordAfter a b) s = Unit {0}
+
+-- the rows that a change reads are there, and its edit can be made
+abbrev pub Ready : Change → State → Type 0
+Ready c s = CanPlan c s × Can (planS c s) s × ReadingWords c s
+
+-- the edit is row i, a step of cost 1, and is carried out
+pub record Makes (e : Edit) (i : ℕ) (s : State) (t : List ℕ) (code cost : ℕ) (s′ : State) (t′ : List ℕ) : Type 0 where
+  pub coded : code ≡ 0
+  pub costs : cost ≡ 1
+  pub written : Written e 1 i s t s′ t′
+
+-- the lowest code of a change of cost 1
+abbrev pub withRoom : ℕ → ℕ → ℕ
+withRoom free c = (c == 0) ⇒ ((free == 0) ⇒ 10 else 0) else c
+
+pub record One (x : Change) (types i free : ℕ) (s : State) (t : List ℕ) (code cost : ℕ) (s′ : State) (t′ : List ℕ) : Type 0 where
+  pub fits : ChangeFits x
+  pub answers : (g : Graph) → HoldsVE (s .vt) (s .et) g → code ≡ withRoom free (changeCode (boundsOf (s .vt) (s .et) types) g x)
+  pub stays : code ≢ 0 → s′ ≡ s
+  pub keeps : code ≢ 0 → t′ ≡ t
+  pub made : code ≡ 0 → Makes (planS x s) i s t code cost s′ t′
