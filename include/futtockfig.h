@@ -32,6 +32,9 @@
 extern "C" {
 #endif
 
+/* What a caller sees; raised with every change to it (docs/CHANGES.md). */
+#define FUTTOCKFIG_VERSION 1
+
 /* Words a row in each table, and the most rows that a table may have. The fewest is 1. */
 #define FUTTOCKFIG_VERTEX_WORDS 8
 #define FUTTOCKFIG_EDGE_WORDS 12

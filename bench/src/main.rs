@@ -197,9 +197,5 @@ fn check_alone(all: &[loads::Load], time: Duration) {
     check("one word too few is not 106", Buffers::new(&case).outcome(futtockfig_run, &case) == Outcome::Refused(106));
     let times = best(&case, &[by_hand_run, futtockfig_run], time);
     println!();
-    println!(
-        "The check of a full image alone (a run refused with 106): C by hand {:.1} µs, engine {:.1} µs.",
-        micros(times[0]),
-        micros(times[1])
-    );
+    println!("The check of a full image alone (a run refused with 106): C by hand {:.1} µs, engine {:.1} µs.", micros(times[0]), micros(times[1]));
 }

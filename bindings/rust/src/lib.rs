@@ -33,6 +33,9 @@ pub mod raw;
 use core::fmt;
 use raw::{futtockfig_part, futtockfig_run};
 
+/// The version of what a caller sees, that of `include/futtockfig.h`.
+pub const VERSION: u32 = 1;
+
 /// Kind, a, b, c, d.
 pub type Call = [u32; 5];
 

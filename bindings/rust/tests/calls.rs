@@ -57,3 +57,9 @@ fn empty_slices() {
     assert_eq!(run(&[], &[], &[], lent()), Err(Refused::Capacity));
     assert_eq!(run(&[], &[], &[1, 1, 0, 0, 0], lent()), Err(Refused::Answers));
 }
+
+#[test]
+fn version_of_the_header() {
+    let header = include_str!("../../../include/futtockfig.h");
+    assert!(header.contains(&format!("#define FUTTOCKFIG_VERSION {}\n", futtockfig::VERSION)));
+}
