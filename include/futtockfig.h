@@ -5,15 +5,15 @@
  * All words are unsigned, 32 bits; all figures are decimal.
  *
  * THE GRAPH
- *   A vertex has a number (1 to the vertex capacity), a type and a value (any word).
- *   An edge has a number (1 to the edge capacity), a start vertex alpha, an end vertex omega, a type and a reading.
+ *   A vertex has a number (1 to the vertex capacity), a type, and a value, which may be any word.
+ *   An edge has a number (1 to the edge capacity), a start alpha and an end omega, both vertices, a type and a reading.
  *   A reading is two words, kind and decimetres: 0 0 untested, 1 0 silent, 2 D heard at D decimetres, D from 0 to 9,999.
  *   Vertices have an order (Vseq), and so have edges (Eseq).
  *   An oriented word is 2 * edge (out, seen from alpha) or 2 * edge + 1 (in, seen from omega). "this" is the vertex
  *   that it is seen from, "that" the other end. The list of a vertex holds, in an order of its own, each oriented
- *   word whose this is the vertex; a loop is there twice.
- *   Types are 0 to n - 1, n from 1 to 64. Bit t of row s declares type s below type t. Every type is also below
- *   itself and below 0, and all of this is closed under chaining. An element is in class t when its type is below t.
+ *   word whose this is the vertex; both words of a loop are in it.
+ *   There are n types, 0 to n - 1, at most 64. Bit t of row s declares type s below type t. Besides, each type is below
+ *   itself and type 0, and what is below a type is below all that the type is below. Class t has the types below t.
  *
  * HISTORY
  *   Each accepted change (kinds 1 to 16) is a step. Undo and redo move the place by one step. A change made at an
@@ -52,7 +52,7 @@ extern "C" {
 #define FUTTOCKFIG_IMAGE_WORDS(vertices, edges) ((size_t)6 + (size_t)3 * (vertices) + (size_t)8 * (edges))
 
 /*
- * Kinds of call. A call is five words: kind, a, b, c, d. A word that a kind does not use is ignored.
+ * Kinds of call. A call has five words, the kind and then a, b, c, d. A word that a kind does not use is ignored.
  * The comment gives the words used and the number answered.
  */
 enum futtockfig_kind {
@@ -118,14 +118,14 @@ enum futtockfig_code {
     FUTTOCKFIG_NUMBER_IN_USE = 3,      /* kinds 1, 3 */
     FUTTOCKFIG_NO_SUCH_VERTEX = 4,     /* a vertex named is missing */
     FUTTOCKFIG_NO_SUCH_EDGE = 5,       /* an edge named is missing; an oriented word names its edge */
-    FUTTOCKFIG_NO_SUCH_TYPE = 6,       /* a type or class named is n or above */
+    FUTTOCKFIG_NO_SUCH_TYPE = 6,       /* some type or class that is named is not under n */
     FUTTOCKFIG_NOT_A_READING = 7,
     FUTTOCKFIG_OTHER_LIST = 8,         /* kinds 15, 16, 48: the words are seen from different vertices */
     FUTTOCKFIG_SAME_TWICE = 9,         /* kinds 11 to 16: a equals b */
     FUTTOCKFIG_NO_ROOM = 10,           /* the cost is above the free changes */
     FUTTOCKFIG_BAD_MARK = 11,          /* a mark named is not 1 to 64 */
     FUTTOCKFIG_MARK_STANDS = 12,       /* kind 17 */
-    FUTTOCKFIG_NO_SUCH_MARK = 13,      /* other than 17: a mark named does not stand */
+    FUTTOCKFIG_NO_SUCH_MARK = 13,      /* kinds 18, 21, 49: some mark that is named is not standing */
     FUTTOCKFIG_NO_STEP = 14,           /* nothing to undo or redo */
     FUTTOCKFIG_BAD_SIDE = 15,          /* kind 45: c above 2 */
     FUTTOCKFIG_NOTHING_HEARD = 16,     /* kinds 53, 54: a way has nothing heard */

@@ -1,4 +1,4 @@
-/* Document 01's Seven through the C header: answers, image and parts are compared with what the document says. */
+/* Seven (REFERENCE 15.1) through the C header: answers, image and parts are compared with worked ones. */
 #include "../../include/futtockfig.h"
 
 #include <stdio.h>
@@ -93,6 +93,6 @@ int main(void) {
         if (span.len) expect("offset of part", part, span.offset, parts[part][0]);
         expect("length of part, one word short,", part, futtockfig_part(image, r.words - 1, part).len, 0);
     }
-    if (!wrong) printf("seven: %d calls through the C header, as document 01 says\n", CALLS);
+    if (!wrong) printf("seven: %d calls through the C header, as worked out\n", CALLS);
     return wrong;
 }

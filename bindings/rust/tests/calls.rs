@@ -1,4 +1,4 @@
-//! Document 01's examples through the safe functions.
+//! Examples of docs/REFERENCE.md through the safe functions.
 
 use futtockfig::{answers, image_words, kind, part, run, Done, Lent, Part, Refused, EMPTY};
 

@@ -6,7 +6,7 @@ use lib.ListN.{length}
 use Rattle.lists.specs.Choice.{_⇒_else_, _==_}
 use Rattle.answers.specs.declared.Answer.{Answer}
 
--- "A refused call answers its code and 0."
+-- REFERENCE 2.2: a refused call has the number 0
 pub record AnswerIs (r : Answer) (code number : ℕ) : Type 0 where
   pub coded : r .code ≡ code
   pub numbered : r .number ≡ ((code == 0) ⇒ number else 0)

@@ -3,7 +3,7 @@ use Prim.Native.Nat.{ℕ}
 use mathlib.Core.List.{List, [], _∷_}
 use lib.ListN.{getD}
 
--- "A call is five words: kind, a, b, c, d."
+-- REFERENCE 2.1
 pub record Call : Type 0 where
   pub kind : ℕ
   pub a : ℕ

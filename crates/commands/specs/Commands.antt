@@ -139,7 +139,7 @@ commandOf x =
     k : ℕ
     k = x .kind
 
--- ---- the words of a command: its kind, what it reads, and 0 for the rest: "Unused words are ignored."
+-- ---- the words of a command: its kind, what it reads, and 0 for the rest (REFERENCE 2.1)
 
 abbrev pub changeCall : Change → Call
 changeCall (CreateVertex n t x) = five 1 n t x 0

@@ -10,7 +10,7 @@ pub record Row : Type 0 where
   pub code : ℕ
   pub applies : Bool
 
--- "The lowest code that applies is given, and no code otherwise.": of rows whose codes rise; 0 where none applies
+-- REFERENCE 7.0: the first row that applies, of rows whose codes rise; 0 where none does
 abbrev pub lowest : List Row → ℕ
 lowest [] = 0
 lowest (r ∷ rs) = r .applies ⇒ r .code else lowest rs

@@ -1,4 +1,4 @@
--- Demand 3 of what `run` leaves: from its contract, for every list that is not refused; and what a refused list leaves.
+-- The way back of what `run` leaves: from its contract, for every list that is not refused; and what a refused list leaves.
 use mathlib.Core.Path.{_≡_, sym, subst}
 use mathlib.Core.List.{List}
 use Prim.Native.Nat.{ℕ}
@@ -14,7 +14,7 @@ module _ (l : Lent) (r : Outcome) (answers image : List ℕ) (h : runResult r an
   pub meets-demand-3 : listRefusal l ≡ 0 → Demand3 l (runResult r answers image)
   meets-demand-3 e = subst (λ (x : RunResult). Demand3 l x) (sym h) (demand-3 l e)
 
-  -- "A refused list returns its code, 0, 0 and writes nowhere."
+  -- REFERENCE 9.8
   pub leaves-refused : (listRefusal l ≡ 0 → ⊥) → runResult r answers image ≡ refused (listRefusal l) l
   unfolding run
   leaves-refused n = rw (ne-eqb (listRefusal l) 0 n) at h

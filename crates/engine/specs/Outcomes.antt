@@ -9,7 +9,7 @@ use Rattle.machine.specs.Run.{Lent, RunResult, listRefusal, run}
 use Rattle.engine.specs.declared.run.Outcome.{Outcome}
 use Rattle.engine.specs.Slices.{Slice}
 
--- "Lent: start chart, type rows, calls, tables .., answers, end chart."
+-- REFERENCE 9.1
 abbrev pub lent : List ℕ → List ℕ → List ℕ → List ℕ → List ℕ → List ℕ → List ℕ → List ℕ → Lent
 lent start rows calls vertices edges journal answers image = record {
   start = start;
@@ -22,7 +22,7 @@ lent start rows calls vertices edges journal answers image = record {
   end = image;
 }
 
--- "The result has a code, the calls done and the words of end chart", with the two slices that a run writes
+-- REFERENCE 9.4, with the two slices that a run writes
 abbrev pub runResult : Outcome → List ℕ → List ℕ → RunResult
 runResult r answers image = record { code = r .code; done = r .done; words = r .words; answers = answers; end = image }
 
@@ -40,10 +40,10 @@ left r answers image = runResult r (now (answers .exit)) (now (image .exit))
 abbrev pub Same : Slice → Type 0
 Same s = now (s .exit) ≡ now (s .entry)
 
--- "A refused list .. writes nowhere": the tables
+-- REFERENCE 9.8, for the tables
 abbrev pub Untouched : Lent → Slice → Slice → Slice → Type 0
 Untouched l vertices edges journal = (listRefusal l ≡ 0 → ⊥) → Same vertices × Same edges × Same journal
 
--- a list that is not refused meets demand 3
+-- REFERENCE 14.3, for a list that is not refused
 abbrev pub MeetsDemand3 : Lent → RunResult → Type 0
 MeetsDemand3 l r = listRefusal l ≡ 0 → Demand3 l r

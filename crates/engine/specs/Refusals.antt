@@ -8,7 +8,7 @@ use lib.ListN.{length}
 use Rattle.lists.specs.Choice.{_⇒_else_, _==_, within}
 use Rattle.machine.specs.Run.{Lent}
 
--- "1 to 1,000 vertices, 1 to 4,000 edges, 1 to 20,000 changes"
+-- REFERENCE 12.1
 abbrev pub inLimits : ℕ → ℕ → ℕ → Bool
 inLimits vertices edges changes = within 1 1000 vertices && within 1 4000 edges && within 1 20000 changes
 

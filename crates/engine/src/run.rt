@@ -58,7 +58,7 @@ fn accepted(
 }
 
 // The result, the answers and the end image are those of the specification's run of the lent words, whatever they are.
-// A refused list writes nowhere. After an accepted one, what the tables and the journal hold is left open, and demand 3 is met.
+// A refused list writes nowhere. After an accepted one, what the tables and the journal hold is left open, and the way back holds.
 pub fn run(
     start: &[u32],
     rows: &[u64],

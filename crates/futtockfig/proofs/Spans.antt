@@ -78,7 +78,7 @@ module _ (k : ℕ) (ws : List ℕ) (some : length (part k ws) ≡ 0 → ⊥) whe
     ]
   ]
 
--- "that very part of the caller's words"
+-- the span's words are the part
 pub part-at : (k : ℕ) (ws : List ℕ) → take (length (part k ws)) (drop (partOffset k ws) ws) ≡ part k ws
 part-at k ws = elim (same? (length (part k ws)) 0) [ same e f ↦ rw e (sym (no-words (part k ws) e)) | differ e f ↦ some-at k ws e ]
   where

@@ -146,7 +146,7 @@ pub removals-vertices : (ns : List ℕ) (k : ℕ) (g : Graph) → countBy vn k (
 removals-vertices [] k g = refl
 removals-vertices (n ∷ ns) k g = removals-vertices ns k (apply (removal n g) g) ∙ removal-vertices n k g
 
--- ---- how often an edge is at a vertex: "A loop is there twice", and counts once in a cost
+-- ---- how often an edge is at a vertex: a loop twice, though it counts once in a cost
 
 edge-words : (n : ℕ) (l : List ℕ) → countBy edgeOf n l ≡ countBy wd (outWord n) l + countBy wd (inWord n) l
 edge-words n [] = refl

@@ -17,7 +17,7 @@ reading-back Untested = refl
 reading-back Silent = refl
 reading-back (Heard d) = refl
 
--- "heard at some decimetres, 0 to 9,999"
+-- REFERENCE 1.4: at most 9,999
 pub reading-range : (r : Reading) → isReading (readingKind r) (decimetres r) ≡ true → (readingKind r ≤ 2) × (decimetres r ≤ 9999)
 reading-range Untested h = (omega arith, omega arith)
 reading-range Silent h = (omega arith, omega arith)

@@ -65,7 +65,7 @@ module _ (k u : ℕ) (e : Edge) where
       tests false false (ap bit (ne-eqb (outWord (e .number)) k a)) (ap bit (ne-eqb (inWord (e .number)) k b)) (u == e .alpha) (u == e .omega)
       ∙ rw (zero (u == e .alpha), zero (u == e .omega))
 
--- "The incidence list of v holds each oriented edge whose this is v, once."
+-- REFERENCE 1.7
 pub words-this : (k u : ℕ) (es : List Edge) → countBy en (k / 2) es ≤ 1 → count k (wordsAt es u) ≡ pick (thisIn es k) u (countBy en (k / 2) es) 0
 unfolding wordsAt
 words-this k u [] h = sym (pick-both (thisIn [] k) u 0)

@@ -61,11 +61,11 @@ onEseq f g = record { vseq = g .vseq; eseq = f (g .eseq) }
 
 -- ---- the changes
 
--- "1 create vertex (number, type, value), last in Vseq."
+-- kind 1: REFERENCE 3.1
 unfoldable pub createVertex : ℕ → ℕ → ℕ → Graph → Graph
 createVertex n t x = onVseq (λ vs. vs ++ (record { number = n; type = t; value = x; incidences = [] } ∷ []))
 
--- "4 delete edge": both words leave their lists
+-- kind 4, both words leave their lists: REFERENCE 3.4
 unfoldable pub deleteEdge : ℕ → Graph → Graph
 deleteEdge e g = record {
   vseq = detach (detach (g .vseq) (edge g e .omega) (inWord e)) (edge g e .alpha) (outWord e);
@@ -81,19 +81,19 @@ deleteEdges (e ∷ es) g = deleteEdges es (deleteEdge e g)
 abbrev pub edgesAt : Graph → ℕ → List ℕ
 edgesAt g a = firsts (map edgeOf (listOf g a))
 
--- "2 delete vertex a: first the edges of its list, then it."
+-- kind 2: REFERENCE 3.2
 unfoldable pub deleteVertex : ℕ → Graph → Graph
 unfolding deleteEdges
 deleteVertex a g = onVseq (rem vn a) (deleteEdges (edgesAt g a) g)
 
--- "3 create edge (number, alpha, omega, type), untested; last in Eseq; out word last at alpha, then in word last at omega."
+-- kind 3: REFERENCE 3.3. Of a loop, the in word comes after the out word
 unfoldable pub createEdge : ℕ → ℕ → ℕ → ℕ → Graph → Graph
 createEdge n a o t g = record {
   vseq = append (append (g .vseq) a (outWord n)) o (inWord n);
   eseq = g .eseq ++ (record { number = n; alpha = a; omega = o; type = t; reading = Untested } ∷ []);
 }
 
--- "5, 6 retype vertex, edge (a, type). 7 vertex value (a, value). 8 reading (a, kind, decimetres)."
+-- kinds 5 to 8: REFERENCE 3.5, 3.6 and 3.7
 unfoldable pub retypeVertex : ℕ → ℕ → Graph → Graph
 retypeVertex a t = onVseq (upd vn a (λ v. withVertex t (v .value) v))
 
@@ -106,16 +106,14 @@ setValue a x = onVseq (upd vn a (λ v. withVertex (v .type) x v))
 unfoldable pub setReading : ℕ → ℕ → ℕ → Graph → Graph
 setReading a k d = onEseq (upd en a (λ e. withEdge (e .type) (readingOf k d) e))
 
--- "9, 10 new alpha, omega (edge, vertex): the oriented word leaves its old list and becomes last in the new one, also where
--- both are the same vertex."
+-- kinds 9 and 10: REFERENCE 3.8. A word that stays at its vertex moves to the end of the list
 unfoldable pub reattach : ℕ → ℕ → Graph → Graph
 reattach w u g = record {
   vseq = append (detach (g .vseq) (this g w) w) u w;
   eseq = upd en (edgeOf w) (withEnd w u) (g .eseq);
 }
 
--- "11, 12 put vertex a directly before, after b in Vseq. 13, 14 the same for edges in Eseq. 15, 16 the same for oriented
--- words in their list."
+-- kinds 11 to 16: REFERENCE 3.9
 unfoldable pub vertexBefore : ℕ → ℕ → Graph → Graph
 vertexBefore a b = onVseq (putBefore vn noVertex a b)
 
@@ -153,7 +151,7 @@ changed (EdgeAfter a b) g = edgeAfter a b g
 changed (WordBefore a b) g = wordBefore a b g
 changed (WordAfter a b) g = wordAfter a b g
 
--- "Its cost is 1, for kind 2 it is 1 + the number of distinct edges at the vertex."
+-- REFERENCE 3.10
 abbrev pub cost : Change → Graph → ℕ
 cost (CreateVertex n t x) g = 1
 cost (DeleteVertex a) g = 1 + length (edgesAt g a)

@@ -1,4 +1,4 @@
--- The graph (document 01: the chart): vertices (units) and edges (readings), each in an order.
+-- The graph: vertices and edges, each in an order. REFERENCE 1.2 to 1.8.
 use Prim.Native.Nat.{ℕ, _+_, _*_, _/_, _%_}
 use mathlib.Core.Bool.{Bool, _&&_, _||_}
 use mathlib.Core.List.{List, [], map}
@@ -9,15 +9,14 @@ use Rattle.lists.specs.Keyed.{find}
 use Rattle.graph.specs.declared.Reading.{Reading}
 use Rattle.graph.specs.declared.Reading.the-variants.{Untested, Silent, Heard}
 
--- "A vertex (unit) has a number, a type and a value (any word)."
--- "The incidence list of v holds each oriented edge whose this is v, once."
+-- REFERENCE 1.2, with its list (1.7)
 pub record Vertex : Type 0 where
   pub number : ℕ
   pub type : ℕ
   pub value : ℕ
   pub incidences : List ℕ
 
--- "An edge (reading) has a number, a start vertex alpha, an end vertex omega, a type and a reading"
+-- REFERENCE 1.3
 pub record Edge : Type 0 where
   pub number : ℕ
   pub alpha : ℕ
@@ -25,7 +24,7 @@ pub record Edge : Type 0 where
   pub type : ℕ
   pub reading : Reading
 
--- "Vseq lists all vertices, Eseq all edges."
+-- REFERENCE 1.6
 pub record Graph : Type 0 where
   pub vseq : List Vertex
   pub eseq : List Edge
@@ -35,7 +34,7 @@ empty = record { vseq = []; eseq = [] }
 
 -- ---- readings
 
--- "Reading kinds are 0, 1, 2; decimetres are 0 for kinds 0 and 1."
+-- the two words of a reading: REFERENCE 1.4
 abbrev pub readingKind : Reading → ℕ
 readingKind Untested = 0
 readingKind Silent = 1
@@ -46,7 +45,7 @@ decimetres Untested = 0
 decimetres Silent = 0
 decimetres (Heard d) = d
 
--- "heard at some decimetres, 0 to 9,999"
+-- whether two words are a reading
 abbrev pub isReading : ℕ → ℕ → Bool
 isReading k d = (leb k 1 && (d == 0)) || ((k == 2) && leb d 9999)
 
@@ -105,14 +104,14 @@ edgeNumbers g = map en (g .eseq)
 
 -- ---- oriented edges
 
--- "written 2 × number (out, seen from alpha) or 2 × number + 1 (in, seen from omega)"
+-- the two oriented words of an edge: REFERENCE 1.5
 abbrev pub outWord : ℕ → ℕ
 outWord e = 2 * e
 
 abbrev pub inWord : ℕ → ℕ
 inWord e = 2 * e + 1
 
--- "a call that names such a word names its edge"
+-- the edge that a word belongs to
 abbrev pub edgeOf : ℕ → ℕ
 edgeOf w = w / 2
 
@@ -123,7 +122,7 @@ isOut w = w % 2 == 0
 abbrev pub bySide {ℓ} : {A : Type ℓ} → ℕ → A → A → A
 bySide w x y = pick (w % 2) 0 x y
 
--- "this is the vertex it is seen from, that is the other end"
+-- the end that sees the word, and the one across: REFERENCE 1.5
 abbrev pub thisIn : List Edge → ℕ → ℕ
 thisIn es w = bySide w (edgeIn es (edgeOf w) .alpha) (edgeIn es (edgeOf w) .omega)
 

@@ -6,10 +6,10 @@ use Rattle.lists.specs.Choice.{_==_}
 use Rattle.lists.specs.Lists.{keep}
 use Rattle.graph.specs.Graph.{Graph, edge, edgeOf, isOut, listOf}
 
--- "c: 0 all, 1 out, 2 in"
+-- the sides of kind 45: all, out words, in words
 abbrev pub onSide : ℕ → ℕ → Bool
 onSide c w = (c == 0) || ((c == 1) && isOut w) || ((c == 2) && not (isOut w))
 
--- "45 degree of vertex a in class b": the words of a's list on that side whose edge has a type in the class
+-- REFERENCE 5.4: the words of a's list on that side whose edge has a type in the class
 unfoldable pub degree : (ℕ → Bool) → ℕ → Graph → ℕ → ℕ
 degree inClass c g a = length (keep (λ w. inClass (edge g (edgeOf w) .type) && onSide c w) (listOf g a))

@@ -16,7 +16,7 @@ pub record Bounds : Type 0 where
   pub edges : ℕ
   pub types : ℕ
 
--- the oriented words of an edge, of edges, whose this is v: "A loop is there twice."
+-- the oriented words of an edge, of edges, whose this is v: both, of a loop at v (REFERENCE 1.8)
 abbrev pub wordsOf : ℕ → Edge → List ℕ
 wordsOf v e = ((v == e .alpha) ⇒ (outWord (e .number) ∷ []) else []) ++ ((v == e .omega) ⇒ (inWord (e .number) ∷ []) else [])
 
@@ -28,7 +28,7 @@ wordsAt (e ∷ es) v = wordsOf v e ++ wordsAt es v
 abbrev pub sameWords : List ℕ → List ℕ → Bool
 sameWords xs ys = all (λ w. count w xs == count w ys) (xs ++ ys)
 
--- "The incidence list of v holds each oriented edge whose this is v, once."
+-- REFERENCE 1.12, and 1.7 of its list
 abbrev pub soundVertex : Bounds → Graph → Vertex → Bool
 soundVertex b g v =
     within 1 (b .vertices) (v .number) && ltb (v .type) (b .types) && ltb (v .value) (2 ^ 32)

@@ -47,7 +47,7 @@ costs-new (suc p) (x ∷ ss) s h = omega (arith, costs-new p ss s (omega arith))
 -- ---- a change that makes s
 
 module _ (s : Step) (m : Machine) (h : m .line .place ≤ length (m .line .steps)) where
-  -- "adds f(Gp), and p grows by 1"
+  -- a change makes the graph held afterwards
   pub change-present : present (changes s m) ≡ s .graph
   change-present = graph-new (m .line .start) (m .line .steps) s (m .line .place) h
 
@@ -55,15 +55,15 @@ module _ (s : Step) (m : Machine) (h : m .line .place ≤ length (m .line .steps
   pub change-undone : present (moves (m .line .place) (changes s m)) ≡ present m
   change-undone = graph-kept (m .line .start) (m .line .steps) s (m .line .place) (m .line .place) (omega arith) h
 
-  -- "cuts the charts after p": nothing is left to redo
+  -- nothing is left to redo
   pub change-last : length (changes s m .line .steps) ≡ changes s m .line .place
   change-last = length-cut (m .line .place) (m .line .steps) s h
 
-  -- "so cut steps give their places back"
+  -- what was cut is free again
   pub change-free : (capacity : ℕ) → freeOf capacity (changes s m .line) ≡ freeOf capacity (m .line) - s .cost
   change-free capacity = omega (arith, costs-new (m .line .place) (m .line .steps) s h)
 
--- ---- "the marks whose place is above p" are cut, and no other: a mark at p stays
+-- ---- marks at places above p are cut, and no other: one at p stays
 
 pub cut-keeps : (p q : ℕ) → (cut p (at q) ≡ at q) ↔ (q ≤ p)
 cut-keeps p q = (λ e. go (ltb p q) refl e, λ h. rw (le-ltb p q h))

@@ -10,31 +10,30 @@ use Rattle.graph.specs.declared.Change.{Change}
 use Rattle.graph.specs.Graph.{Graph}
 use Rattle.graph.specs.Changes.{changed, cost}
 
--- "each G1 to Gm with the cost of the step that made it"
+-- a graph after the first, and what it cost to make
 pub record Step : Type 0 where
   pub cost : ℕ
   pub graph : Graph
 
--- "charts G0 to Gm .. a place p"
+-- G0, then the steps G1 to Gm, and the place among them
 pub record Timeline : Type 0 where
   pub start : Graph
   pub steps : List Step
   pub place : ℕ
 
--- "for each standing mark a place"
+-- a mark stands at a place, or does not stand
 pub data Standing : Type 0 where
   gone : Standing
   at : ℕ → Standing
 
--- "Its state is charts G0 to Gm, each G1 to Gm with the cost of the step that made it, a place p, and for each standing
--- mark a place."
+-- REFERENCE 4.1
 pub record Machine : Type 0 where
   pub line : Timeline
   pub marks : ℕ → Standing
 
 -- ---- the timeline
 
--- "f(Gp)" with its cost
+-- the step that a change makes
 unfoldable pub stepOf : Change → Graph → Step
 unfolding changed
 stepOf c g = record { cost = cost c g; graph = changed c g }
@@ -52,22 +51,22 @@ graphAt (suc i) g (s ∷ ss) = graphAt i (s .graph) ss
 abbrev pub current : Timeline → Graph
 current t = graphAt (t .place) (t .start) (t .steps)
 
--- "Undo and redo move p by 1." "Go to mark sets p."
+-- the same history at place p
 abbrev pub placed : ℕ → Timeline → Timeline
 placed p t = record { start = t .start; steps = t .steps; place = p }
 
--- "An accepted change f cuts the charts after p .., adds f(Gp), and p grows by 1."
+-- REFERENCE 4.3, its graphs
 abbrev pub extended : Step → Timeline → Timeline
 extended s t = record { start = t .start; steps = take (t .place) (t .steps) ++ (s ∷ []); place = suc (t .place) }
 
 abbrev pub costs : List Step → ℕ
 costs ss = sumOf (λ (s : Step). s .cost) ss
 
--- "Free changes are the capacity less the costs of steps 1 to p"
+-- REFERENCE 4.4
 abbrev pub freeOf : ℕ → Timeline → ℕ
 freeOf capacity t = capacity - costs (take (t .place) (t .steps))
 
--- "the steps between two places are their distance"
+-- how many steps lie between two places
 abbrev pub distance : ℕ → ℕ → ℕ
 distance p q = (p - q) + (q - p)
 
@@ -88,7 +87,7 @@ placeOr other (at q) = q
 abbrev pub marked : ℕ → Standing → (ℕ → Standing) → ℕ → Standing
 marked n s ms k = (k == n) ⇒ s else ms k
 
--- a change at place p cuts "the marks whose place is above p"
+-- REFERENCE 4.3, its marks: a mark at p itself stays
 abbrev pub cut : ℕ → Standing → Standing
 cut p gone = gone
 cut p (at q) = ltb p q ⇒ gone else at q
@@ -96,13 +95,13 @@ cut p (at q) = ltb p q ⇒ gone else at q
 abbrev pub cutMarks : ℕ → (ℕ → Standing) → ℕ → Standing
 cutMarks p ms k = cut p (ms k)
 
--- "50 how many marks stand": marks are numbered from 1 to 64
+-- how many of marks 1 to 64 stand
 unfoldable pub standing : (ℕ → Standing) → ℕ
 standing ms = length (keep (λ n. stands (ms (suc n))) (upto 64))
 
 -- ---- the machine
 
--- "Fresh is one chart (the start chart), p = 0, no marks."
+-- REFERENCE 4.2
 abbrev pub fresh : Graph → Machine
 fresh g = record { line = begun g; marks = noMarks }
 
@@ -116,13 +115,13 @@ changes s m = record { line = extended s (m .line); marks = cutMarks (m .line .p
 abbrev pub moves : ℕ → Machine → Machine
 moves p m = record { line = placed p (m .line); marks = m .marks }
 
--- "Set mark records p."
+-- mark n stands at the present place
 abbrev pub sets : ℕ → Machine → Machine
 sets n m = record { line = m .line; marks = marked n (at (m .line .place)) (m .marks) }
 
 abbrev pub drops : ℕ → Machine → Machine
 drops n m = record { line = m .line; marks = marked n gone (m .marks) }
 
--- "Commit keeps Gp alone, as G0, p = 0, no marks."
+-- REFERENCE 4.9
 abbrev pub commits : Machine → Machine
 commits m = fresh (present m)

@@ -52,7 +52,7 @@ rem-short w (y ∷ ys) = elim (same? y w) [
   | differ e f ↦ rw (pick-no y w) (omega (arith, rem-short w ys))
 ]
 
--- "number 0 or above capacity" refused: at most as many numbers as the capacity
+-- numbers that are distinct and at most the capacity: no more of them than the capacity
 pub distinct-few : (cap : ℕ) (xs : List ℕ) → ((n : ℕ) → count n xs ≤ 1) → ((n : ℕ) → 1 ≤ count n xs → (1 ≤ n) × (n ≤ cap)) → length xs ≤ cap
 distinct-few zero [] d k = omega arith
 distinct-few zero (x ∷ xs) d k = let q = k x (omega (arith, self-one x)) in absurd (omega (arith, q .0, q .1))

@@ -1,4 +1,4 @@
--- Two of document 01's examples, by computation.
+-- Two worked examples (REFERENCE 11.5 and 8.5), by computation.
 use mathlib.Core.Path.{_≡_, refl}
 use mathlib.Core.Bool.{true, false}
 use mathlib.Core.List.{[], _∷_}
@@ -29,7 +29,7 @@ loads-chartrun : loadable bounds (save graph) ≡ true
 unfolding loadable save graph bounds
 loads-chartrun = refl
 
--- "start chart not loadable"
+-- words that do not load
 code-105 : loadable bounds (0 ∷ 0 ∷ 6 ∷ 6 ∷ 6 ∷ 7 ∷ []) ≡ false
 unfolding loadable
 code-105 = refl

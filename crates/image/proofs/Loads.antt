@@ -114,7 +114,7 @@ loaded b ws h =
 pub loaded-same : (b : Bounds) (ws : List ℕ) → loadable b ws ≡ true → save (load ws) ≡ ws
 loaded-same b ws h = loaded b ws h .again
 
--- "Loading takes exactly the words that some chart within the capacities and types saves as."
+-- REFERENCE 10.6
 pub loads : (b : Bounds) (ws : List ℕ) → (loadable b ws ≡ true) ↔ ((g : Graph) × (wellFormed b g ≡ true) × (save g ≡ ws))
 loads b ws = (to, from)
   where

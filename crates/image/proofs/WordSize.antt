@@ -18,11 +18,11 @@ use Rattle.image.specs.Image.{vertexRecord, edgeRecord, incidencesOf, ve
 use Rattle.image.proofs.Formed.{formed, vertex-facts, edge-facts}
 use Rattle.image.proofs.Room.{few-vertices, few-edges}
 
--- "A word is unsigned, 32 bits."
+-- REFERENCE 1.1
 abbrev pub Word : ℕ → Type 0
 Word w = w < 2 ^ 32
 
--- the upper limits of "1 to 1,000 vertices, 1 to 4,000 edges" and "n from 1 to 64"
+-- the upper limits of REFERENCE 12.1
 pub record InRange (b : Bounds) : Type 0 where
   pub vertices : b .vertices ≤ 1000
   pub edges : b .edges ≤ 4000

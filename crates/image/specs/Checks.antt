@@ -1,4 +1,4 @@
--- What a check says of words: sound, or where the first word stands that cannot follow the words before it.
+-- What a check says of words: sound, or the offset at which it stops, going through records and lists in turn.
 use Prim.Native.Nat.{ℕ, zero, suc, _+_}
 use mathlib.Core.Bool.{Bool, true, not, _&&_}
 use mathlib.Core.List.{List, [], _∷_}
@@ -13,7 +13,7 @@ use Rattle.image.specs.Image.{vertexSize, edgeSize, vertexOffset, edgeOf
 use Rattle.image.specs.declared.Verdict.{Verdict}
 use Rattle.image.specs.declared.Verdict.the-variants.{Sound, BadHeader, BadRecord, BadIncidence}
 
--- code 105, "start chart not loadable": of a verdict, and of words
+-- code 105 (REFERENCE 8.5): of a verdict, and of words
 abbrev pub codeOf : Verdict → ℕ
 codeOf Sound = 0
 codeOf BadHeader = 105

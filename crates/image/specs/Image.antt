@@ -1,4 +1,4 @@
--- The image of a graph (document 01: the saved chart): the words that it saves as, and the graph that words say.
+-- The image of a graph (REFERENCE 10.1 to 10.7): the words that it saves as, and the graph that words say.
 use Prim.Native.Nat.{ℕ, zero, suc, _+_, _*_}
 use mathlib.Core.Bool.{Bool, not, _&&_}
 use mathlib.Core.List.{List, [], _∷_, _++_}
@@ -10,25 +10,25 @@ use Rattle.graph.specs.WellFormed.{Bounds, wordsAt, wellFormed}
 
 -- ---- saving
 
--- "Vertex part, in Vseq order: number, type, value."
+-- REFERENCE 10.2
 abbrev pub vertexSize : ℕ
 vertexSize = 3
 
 abbrev pub vertexRecord : Vertex → List ℕ
 vertexRecord v = v .number ∷ v .type ∷ v .value ∷ []
 
--- "Edge part, in Eseq order: number, alpha, omega, type, reading kind, decimetres."
+-- REFERENCE 10.3
 abbrev pub edgeSize : ℕ
 edgeSize = 6
 
 abbrev pub edgeRecord : Edge → List ℕ
 edgeRecord e = e .number ∷ e .alpha ∷ e .omega ∷ e .type ∷ readingKind (e .reading) ∷ decimetres (e .reading) ∷ []
 
--- "Incidence part: each vertex's list, in Vseq order."
+-- REFERENCE 10.4
 abbrev pub incidencesOf : Vertex → List ℕ
 incidencesOf v = v .incidences
 
--- "The offsets are 6, 6 + 3V, 6 + 3V + 6E; the total is 6 + 3V + 8E"
+-- where the parts begin, and the length
 abbrev pub vertexOffset : ℕ
 vertexOffset = 6
 
@@ -41,7 +41,7 @@ incidenceOffset v e = edgeOffset v + edgeSize * e
 abbrev pub imageLength : ℕ → ℕ → ℕ
 imageLength v e = edgeOffset v + 8 * e
 
--- "vertex count V, edge count E, offsets of the vertex, edge and incidence parts, total"
+-- REFERENCE 10.1
 abbrev pub headerOf : ℕ → ℕ → List ℕ
 headerOf v e = v ∷ e ∷ vertexOffset ∷ edgeOffset v ∷ incidenceOffset v e ∷ imageLength v e ∷ []
 
@@ -58,7 +58,7 @@ vertexCount ws = getD ws 0 0
 abbrev pub edgeCount : List ℕ → ℕ
 edgeCount ws = getD ws 1 0
 
--- "a sound header (length, offsets, total)", "the total .. equals the length"
+-- REFERENCE 10.5
 unfoldable pub soundHeader : List ℕ → Bool
 soundHeader ws =
     same (take 6 ws) (headerOf (vertexCount ws) (edgeCount ws)) && (length ws == imageLength (vertexCount ws) (edgeCount ws))
@@ -72,7 +72,7 @@ edgePart ws = take (edgeSize * edgeCount ws) (drop (edgeOffset (vertexCount ws))
 abbrev pub incidencePart : List ℕ → List ℕ
 incidencePart ws = drop (incidenceOffset (vertexCount ws) (edgeCount ws)) ws
 
--- "Part 1, 2 or 3 of words with a sound header (length, offsets, total) can be had as that very part of the caller's words; else the part is empty."
+-- REFERENCE 10.7
 unfoldable pub part : ℕ → List ℕ → List ℕ
 unfolding soundHeader
 part k ws =
@@ -112,7 +112,7 @@ load ws =
     let es = edgesFrom (edgeCount ws) (edgePart ws) in
     record { vseq = verticesFrom vertexSize es (vertexCount ws) (vertexPart ws) (incidencePart ws); eseq = es }
 
--- "Loading takes exactly the words that some chart within the capacities and types saves as." (proofs/Loads: loads)
+-- REFERENCE 10.6, as a test (proofs/Loads: loads)
 unfoldable pub loadable : Bounds → List ℕ → Bool
 unfolding soundHeader load save wellFormed
 loadable b ws = soundHeader ws && wellFormed b (load ws) && same ws (save (load ws))

@@ -1,4 +1,4 @@
-// The image of a graph (document 01: the saved chart): whether words can be loaded, and their parts.
+// The image of a graph: whether words can be loaded, and their parts. REFERENCE 10.5 to 10.7.
 mod words; // words.rt: words of slices, with nothing past the end
 mod header; // header.rt: the header and the counts in it
 mod records; // records.rt: one vertex record, one edge record
@@ -9,7 +9,7 @@ ghost use Prim.Native.Nat.{_≤_};
 ghost use Rattle.image.specs.Image.{part as partOf};
 ghost use Rattle.image.specs.Checks.{bounds, verdict, codeOf, loadCode};
 
-// What words are: those that some graph saves as, or the offset of the first word that cannot follow the words before it.
+// What words are: an image, or the offset at which the check stops, going through records and lists in turn.
 // Where the header or a count is bad there is no offset.
 pub enum Verdict {
     Sound,

@@ -60,7 +60,7 @@ module _ {P : ℕ → Type 0} where
   all-keys f done = done
   all-keys f (more p s) = more p (all-keys f s)
 
--- "0 means none": the first and the one after a are 0 or stand in the list
+-- the first and the one after a are in the list, or 0 where there is none
 abbrev pub NoneOrIn : List ℕ → ℕ → Type 0
 NoneOrIn xs n = (n ≡ 0) ⊎ (has n xs ≡ true)
 

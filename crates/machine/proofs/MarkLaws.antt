@@ -1,4 +1,4 @@
--- Demand 3's sentence on marks.
+-- When marks stand and what going to one gives: REFERENCE 4.11 and 4.12.
 use Prim.Native.Nat.{ℕ, _≤_, _<_}
 use mathlib.Core.Path.{_≡_, refl, sym, ap, _∙_, subst}
 use mathlib.Core.Logic.{_⊎_, inl, inr}

@@ -1,4 +1,4 @@
--- The table of codes read on a call's words as they came gives the code of its command: "Unused words are ignored."
+-- The table of codes read on a call's words as they came gives the code of its command, so words that a kind does not read change nothing.
 use Prim.Native.Nat.{ℕ, suc, _≤_, _<_}
 use mathlib.Core.Path.{_≡_, refl, sym, ap, _∙_, subst}
 use mathlib.Core.Logic.{_⊎_, inl, inr}

@@ -1,4 +1,4 @@
--- Every list that is not refused meets demand 3.
+-- The way back (REFERENCE 14.2, 14.3) holds for every list that is not refused.
 use Prim.Native.Nat.{ℕ, zero, suc, _*_, _/_, _≤_, _+_, _<_}
 use mathlib.Core.Path.{_≡_, refl, ap, _∙_}
 use mathlib.Core.List.{List, [], _∷_, _++_, map}

@@ -9,7 +9,7 @@ use Rattle.graph.specs.Graph.{edgeOf}
 use Rattle.graph.specs.WellFormed.{Bounds}
 use Rattle.commands.specs.Calls.{Call}
 
--- "It is fed the start chart, the type rows, the capacities and the calls' words": what stays the same over a list
+-- what stays the same over a list
 pub record Parameters : Type 0 where
   pub rows : List ℕ
   pub vertices : ℕ
@@ -21,7 +21,7 @@ boundsIn w = record { vertices = w .vertices; edges = w .edges; types = length (
 
 -- ---- kinds
 
--- 1 to 22, 30 to 54: those that document 01 names
+-- those with a row in REFERENCE 2.5
 abbrev pub known : ℕ → Bool
 known k = within 1 22 k || within 30 54 k
 
@@ -35,7 +35,7 @@ verticesNamed x =
     (x .kind == 3) ⇒ (x .b ∷ x .c ∷ []) else
     []
 
--- "a call that names such a word names its edge"
+-- REFERENCE 2.4: an oriented word names its edge
 abbrev pub edgesNamed : Call → List ℕ
 edgesNamed x =
     (x .kind is (4 ∷ 6 ∷ 8 ∷ 9 ∷ 10 ∷ 33 ∷ 36 ∷ 37 ∷ 41 ∷ 43 ∷ 44 ∷ [])) ⇒ (x .a ∷ []) else

@@ -20,20 +20,20 @@ use Rattle.commands.specs.Tables.{Row, row, lowest, some}
 use Rattle.commands.specs.Commands.{changeOf, changeCall, questionCall, priceCall, callOf}
 use Rattle.machine.specs.Calls.{Parameters, boundsIn, known, verticesNamed, edgesNamed, typesNamed}
 
--- "51 free changes"
+-- REFERENCE 4.4
 unfoldable pub free : Parameters → Machine → ℕ
 free w m = freeOf (w .changes) (m .line)
 
 -- ---- when each code applies, read on the call's words and the graph as it begins
 
--- 2 "create: number 0 or above capacity"
+-- REFERENCE 7.2
 abbrev pub numberOutside : Bounds → Call → Bool
 numberOutside b x =
     (x .kind == 1) ⇒ not (within 1 (b .vertices) (x .a)) else
     (x .kind == 3) ⇒ not (within 1 (b .edges) (x .a)) else
     false
 
--- 3 "create: number in use"
+-- REFERENCE 7.3
 abbrev pub numberInUse : Graph → Call → Bool
 numberInUse g x = (x .kind == 1) ⇒ hasVertex g (x .a) else (x .kind == 3) ⇒ hasEdge g (x .a) else false
 
@@ -43,35 +43,35 @@ lacksVertex g v = not (hasVertex g v)
 abbrev pub lacksEdge : Graph → ℕ → Bool
 lacksEdge g e = not (hasEdge g e)
 
--- 4 "a vertex named is missing"
+-- REFERENCE 7.4
 abbrev pub vertexMissing : Graph → Call → Bool
 vertexMissing g x = some (lacksVertex g) (verticesNamed x)
 
--- 5 "an edge named is missing"
+-- REFERENCE 7.5
 abbrev pub edgeMissing : Graph → Call → Bool
 edgeMissing g x = some (lacksEdge g) (edgesNamed x)
 
--- 6 "a type or class named is n or above"
+-- REFERENCE 7.6
 abbrev pub typeOutside : Bounds → Call → Bool
 typeOutside b x = some (leb (b .types)) (typesNamed x)
 
--- 7 "not a reading"
+-- REFERENCE 7.7
 abbrev pub notReading : Call → Bool
 notReading x = (x .kind == 8) && not (isReading (x .b) (x .c))
 
--- 8 "15, 16, 48: this differs"
+-- REFERENCE 7.8
 abbrev pub thisDiffers : Graph → Call → Bool
 thisDiffers g x = (x .kind is (15 ∷ 16 ∷ 48 ∷ [])) && not (this g (x .a) == this g (x .b))
 
--- 9 "11 to 16: the same twice"
+-- REFERENCE 7.9
 abbrev pub sameTwice : Call → Bool
 sameTwice x = within 11 16 (x .kind) && (x .a == x .b)
 
--- 15 "kind 45: c above 2"
+-- REFERENCE 7.15
 abbrev pub sideOutside : Call → Bool
 sideOutside x = (x .kind == 45) && ltb 2 (x .c)
 
--- 16 "a way has nothing heard"
+-- REFERENCE 7.16
 abbrev pub nothingToRange : Graph → Call → Bool
 nothingToRange g x = (x .kind is (53 ∷ 54 ∷ [])) && nothingHeard g (x .a) (x .b)
 

@@ -1,4 +1,4 @@
--- Demand 3 as one claim about a whole list that is not refused.
+-- The way back as one claim about a whole list that is not refused: REFERENCE 14.2 and 14.3.
 use mathlib.Core.Path.{_≡_}
 use mathlib.Core.List.{List, _∷_, _++_, map}
 use lib.ListN.{length}
@@ -10,7 +10,7 @@ use Rattle.machine.specs.Machine.{Answer, answer, answers, step, last}
 use Rattle.machine.specs.Marks.{Event, events, MarkSentence}
 use Rattle.machine.specs.Run.{Lent, RunResult, parametersOf, answerWords}
 
--- the plain machine as the list begins: "The list starts from a fresh store"
+-- the plain machine as the list begins
 abbrev pub begins : Lent → Machine
 begins l = fresh (load (l .start))
 
@@ -20,18 +20,18 @@ after l xs = last (parametersOf l) (begins l) xs
 
 -- what the result r of the list l has to be
 pub record Demand3 (l : Lent) (r : RunResult) : Type 0 where
-  -- "An accepted list has code 0 and all its calls done, refused ones counted"
+  -- REFERENCE 9.5
   pub code : r .code ≡ 0
   pub done : r .done ≡ length (callsOf (l .calls))
-  -- "Every answer, code and number .. are those of document 01's plain machine"; "words beyond those .. stay"
+  -- the answers are the plain machine's, and the words behind them stay
   pub answered : r .answers ≡ over (answerWords (answers (parametersOf l) (begins l) (callsOf (l .calls)))) (l .answers)
-  -- "end chart begins with exactly the words that this Gp saves as, and the result tells how many"
+  -- the end image is that of the last graph, and its length is told
   pub saved : r .end ≡ over (save (present (after l (callsOf (l .calls))))) (l .end)
   pub words : r .words ≡ length (save (present (after l (callsOf (l .calls)))))
-  -- "each call finds what the one before left there"
+  -- REFERENCE 2.3
   pub each-call : (xs ys : List Call) (x : Call) → xs ++ (x ∷ ys) ≡ callsOf (l .calls) →
       answers (parametersOf l) (begins l) (callsOf (l .calls)) ≡
       answers (parametersOf l) (begins l) xs ++ (answer (parametersOf l) (after l xs) x ∷ answers (parametersOf l) (step (parametersOf l) (after l xs) x) ys)
-  -- "At every point of the list, its end included": the events are the calls with the codes answered
+  -- at each point, also after the last call: the events are the calls with the codes answered
   pub event-codes : (xs : List Call) → map (λ (e : Event). e .code) (events (parametersOf l) (begins l) xs) ≡ map (λ (a : Answer). a .code) (answers (parametersOf l) (begins l) xs)
   pub every-point : (xs ys : List Call) → xs ++ ys ≡ callsOf (l .calls) → MarkSentence (parametersOf l) (load (l .start)) xs

@@ -22,27 +22,27 @@ marksNamed x =
     (x .kind == 49) ⇒ (x .a ∷ x .b ∷ []) else
     []
 
--- "cost above free changes"
+-- the cost is more than the free changes
 abbrev pub tooDear : ℕ → Machine → Change → Bool
 tooDear capacity m c = ltb (freeOf capacity (m .line)) (cost c (present m))
 
--- 10 "cost above free changes"
+-- REFERENCE 7.10
 abbrev pub noRoom : ℕ → Machine → Call → Bool
 noRoom capacity m x = isChange (x .kind) && tooDear capacity m (changeOf x)
 
--- 11 "a mark named is not 1 to 64"
+-- REFERENCE 7.11
 abbrev pub markOutside : Call → Bool
 markOutside x = some (λ n. not (within 1 64 n)) (marksNamed x)
 
--- 12 "17: mark already stands"
+-- REFERENCE 7.12
 abbrev pub markStands : Machine → Call → Bool
 markStands m x = (x .kind == 17) && stands (m .marks (x .a))
 
--- 13 "other than 17: a mark named does not stand"
+-- REFERENCE 7.13
 abbrev pub markMissing : Machine → Call → Bool
 markMissing m x = not (x .kind == 17) && some (λ n. not (stands (m .marks n))) (marksNamed x)
 
--- 14 "p is 0 (undo), p is m (redo)"
+-- REFERENCE 7.14
 abbrev pub atAnEnd : Machine → Call → Bool
 atAnEnd m x =
     (x .kind == 19) ⇒ (m .line .place == 0) else

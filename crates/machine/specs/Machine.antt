@@ -43,7 +43,7 @@ use Rattle.machine.specs.Codes.{refusal}
 
 -- ---- numbers of questions and prices
 
--- "Questions (0 means none)"
+-- REFERENCE 5.1 to 5.6
 abbrev pub questionNumber : List ℕ → Graph → Question → ℕ
 questionNumber rows g FirstVertex = first (vertexNumbers g)
 questionNumber rows g (NextVertex a) = after a (vertexNumbers g)
@@ -66,12 +66,12 @@ questionNumber rows g (EdgeOrder a b) = bit (before a b (edgeNumbers g))
 questionNumber rows g (WordOrder a b) = bit (before a b (listOf g (this g a)))
 questionNumber rows g (Below s t) = bit (below rows s t)
 
--- "53 two-way range of vertices a and b", "54 grade: that range ÷ 250, rounded down"
+-- REFERENCE 6.2 and 6.3
 abbrev pub priceNumber : Graph → PriceCall → ℕ
 priceNumber g (Range a b) = twoWay g a b
 priceNumber g (Grade a b) = grade g a b
 
--- ---- one command: the number and the effect of an accepted one; "All else changes nothing."
+-- ---- one command: the number and the effect of an accepted one; questions and prices have none
 
 abbrev pub deedOf : Parameters → Command → Machine → Deed
 deedOf w (Alter c) m = changeDeed c m
@@ -87,7 +87,7 @@ pub record Answer : Type 0 where
   pub code : ℕ
   pub number : ℕ
 
--- "an accepted call has code 0"; "A refused call answers its code and 0."
+-- REFERENCE 2.2
 unfoldable pub answerTo : Parameters → Machine → Command → Answer
 answerTo w m c = record { code = refusal w m c; number = answered (ruleOf w c) m }
 
@@ -103,7 +103,7 @@ answer w m x = answerTo w m (commandOf x)
 abbrev pub step : Parameters → Machine → Call → Machine
 step w m x = stepTo w m (commandOf x)
 
--- "each call finds what the one before left there"
+-- REFERENCE 2.3
 unfoldable pub answers : Parameters → Machine → List Call → List Answer
 answers w m [] = []
 answers w m (x ∷ xs) = answer w m x ∷ answers w (step w m x) xs

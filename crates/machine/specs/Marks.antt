@@ -1,4 +1,4 @@
--- Demand 3's sentence on marks, over the calls and answers so far.
+-- When a mark stands and what going to it gives (REFERENCE 4.11, 4.12), told by the calls and answers so far.
 use Prim.Native.Nat.{ℕ}
 use mathlib.Core.Path.{_≡_}
 use mathlib.Core.Logic.{_↔_}
@@ -49,7 +49,7 @@ setsBy nothing k = false
 abbrev pub setsMark : ℕ → Event → Bool
 setsMark k e = (e .code == 0) && setsBy (e .effect) k
 
--- for mark k with place q and a call at place p: it set k anew, dropped k, committed, or was a change made at a place before q
+-- whether an accepted call at place p ends mark k, which stands at q: k set anew or dropped, a commit, a change with p below q
 abbrev pub endsBy : Effect → ℕ → ℕ → ℕ → Bool
 endsBy (steps s) k q p = ltb p q
 endsBy (marks n) k q p = k == n

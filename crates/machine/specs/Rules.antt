@@ -33,12 +33,11 @@ pub record Deed : Type 0 where
 abbrev pub deed : ℕ → Effect → Deed
 deed n e = record { number = n; effect = e }
 
--- "The number answered: a change its cost"
+-- a change answers its cost (REFERENCE 3.10)
 abbrev pub changeDeed : Change → Machine → Deed
 changeDeed c m = deed (cost c (present m)) (steps (stepOf c (present m)))
 
--- "undo, redo 1; go to mark the number of steps moved; kind 49 the distance of the two places, 50 the number of standing marks,
--- 51 the free changes; commit the old p; set and drop 0."
+-- REFERENCE 4.5 to 4.10
 abbrev pub historyDeed : ℕ → HistoryCall → Machine → Deed
 historyDeed capacity (SetMark k) m = deed 0 (marks k)
 historyDeed capacity (DropMark k) m = deed 0 (unmarks k)
@@ -58,7 +57,7 @@ pub record Rule : Type 0 where
   pub code : Machine → ℕ
   pub deed : Machine → Deed
 
--- "A refused call answers its code and 0."
+-- REFERENCE 2.2
 abbrev pub answered : Rule → Machine → ℕ
 answered r m = (r .code m == 0) ⇒ r .deed m .number else 0
 

@@ -14,7 +14,7 @@ use Rattle.commands.specs.Tables.{Row, row, lowest}
 use Rattle.machine.specs.Calls.{Parameters, boundsIn}
 use Rattle.machine.specs.Machine.{Answer, answers, last}
 
--- "Lent: start chart, type rows, calls, tables .., answers, end chart." Of the tables only the lengths matter
+-- REFERENCE 9.1. Of the tables only the lengths matter
 pub record Lent : Type 0 where
   pub start : List ℕ
   pub rows : List ℕ
@@ -25,7 +25,7 @@ pub record Lent : Type 0 where
   pub answers : List ℕ
   pub end : List ℕ
 
--- "The result has a code, the calls done and the words of end chart", and the two lent slices that a run writes, as it ends
+-- REFERENCE 9.4, and the two lent slices that a run writes, as it ends
 pub record RunResult : Type 0 where
   pub code : ℕ
   pub done : ℕ
@@ -33,11 +33,11 @@ pub record RunResult : Type 0 where
   pub answers : List ℕ
   pub end : List ℕ
 
--- "Capacities are lengths ÷ 8, 12, 12, rounded down"
+-- REFERENCE 9.2
 abbrev pub parametersOf : Lent → Parameters
 parametersOf l = record { rows = l .rows; vertices = l .vertexTable / 8; edges = l .edgeTable / 12; changes = l .changeTable / 12 }
 
--- "1 to 1,000 vertices, 1 to 4,000 edges, 1 to 20,000 changes", and 1 to 64 types
+-- REFERENCE 12.1
 pub record Limits (w : Parameters) : Type 0 where
   pub some-vertices : 1 ≤ w .vertices
   pub few-vertices : w .vertices ≤ 1000
@@ -48,7 +48,7 @@ pub record Limits (w : Parameters) : Type 0 where
   pub some-types : 1 ≤ length (w .rows)
   pub few-types : length (w .rows) ≤ 64
 
--- 101 to 106; 106 asks for "6 + 3 × vertices + 8 × edges of capacity", the length of an image with as many
+-- REFERENCE 8.1 to 8.6; 106 asks for the length of an image as large as the capacities
 unfoldable pub listTable : Lent → List Row
 unfolding goodRows loadable
 listTable l =
@@ -68,13 +68,12 @@ unfoldable pub listRefusal : Lent → ℕ
 unfolding listTable
 listRefusal l = lowest (listTable l)
 
--- "Answers take two words a call, code and number"
+-- REFERENCE 9.6
 abbrev pub answerWords : List Answer → List ℕ
 answerWords [] = []
 answerWords (x ∷ xs) = x .code ∷ x .number ∷ answerWords xs
 
--- "An accepted list has code 0 and all its calls done, refused ones counted"; "words beyond those, and beyond the end
--- chart, stay"
+-- REFERENCE 9.5 to 9.7
 unfoldable pub accepted : Lent → RunResult
 unfolding load save answers last
 accepted l =
@@ -89,7 +88,7 @@ accepted l =
       end = over image (l .end);
     }
 
--- "A refused list returns its code, 0, 0 and writes nowhere."
+-- REFERENCE 9.8
 unfoldable pub refused : ℕ → Lent → RunResult
 refused code l = record { code = code; done = 0; words = 0; answers = l .answers; end = l .end }
 

@@ -1,4 +1,4 @@
--- Seven, the graph of table 1.1 in document 004, and its twelve cases.
+-- Seven (REFERENCE 15.1) and its twelve cases.
 use Prim.Native.Nat.{ℕ}
 use mathlib.Core.List.{List, [], _∷_}
 use Rattle.lists.specs.Choice.{bit}
@@ -17,7 +17,7 @@ use Rattle.machine.specs.Codes.{refusal}
 use Rattle.machine.specs.Machine.{answerTo, stepTo, answers, last}
 use Rattle.machine.specs.Run.{answerWords}
 
--- "capacities 10, 10, 20, one type row 0"
+-- what the cases and the examples of codes are run with
 abbrev pub parameters : Parameters
 parameters = record { rows = 0 ∷ []; vertices = 10; edges = 10; changes = 20 }
 
@@ -30,14 +30,14 @@ plainVertex n ws = record { number = n; type = 0; value = 0; incidences = ws }
 abbrev pub untested : ℕ → ℕ → ℕ → Edge
 untested n a o = record { number = n; alpha = a; omega = o; type = 0; reading = Untested }
 
--- "vertices 1 to 4, edges 1 to 7 as 1→1, 1→2, 1→2, 2→1, 4→1, 4→2, 4→4, .. all untested, types and values 0"
+-- as a literal
 abbrev pub seven : Graph
 seven = record {
   vseq = plainVertex 1 (2 ∷ 3 ∷ 4 ∷ 6 ∷ 9 ∷ 11 ∷ []) ∷ plainVertex 2 (5 ∷ 7 ∷ 8 ∷ 13 ∷ []) ∷ plainVertex 3 [] ∷ plainVertex 4 (10 ∷ 12 ∷ 14 ∷ 15 ∷ []) ∷ [];
   eseq = untested 1 1 1 ∷ untested 2 1 2 ∷ untested 3 1 2 ∷ untested 4 2 1 ∷ untested 5 4 1 ∷ untested 6 4 2 ∷ untested 7 4 4 ∷ [];
 }
 
--- "made in that order": proofs/Cases shows that these calls make it from the empty graph
+-- proofs/Cases shows that these calls make it from the empty graph
 abbrev pub making : List Call
 making =
     call 1 1 0 0 0 ∷ call 1 2 0 0 0 ∷ call 1 3 0 0 0 ∷ call 1 4 0 0 0 ∷
@@ -48,7 +48,7 @@ unfoldable pub builtList : ℕ → List ℕ
 unfolding last stepTo commandOf changeOf historyOf questionOf refusal stepOf changed
 builtList v = listOf (present (last parameters (fresh empty) making)) v
 
--- "On fresh Seven each time": the machine after the calls, and the words of their answers
+-- each case starts anew: the machine after the calls, and the words of their answers
 unfoldable pub then : List Call → Machine
 unfolding last stepTo commandOf changeOf historyOf questionOf refusal stepOf changed
 then xs = last parameters (fresh seven) xs
@@ -60,7 +60,7 @@ answersAfter xs = answerWords (answers parameters (fresh seven) xs)
 abbrev pub listAfter : List Call → ℕ → List ℕ
 listAfter xs v = listOf (present (then xs)) v
 
--- "where delete is kind 2"
+-- deleting is kind 2 here
 abbrev pub delete : ℕ → Call
 delete v = call 2 v 0 0 0
 
@@ -86,7 +86,7 @@ standsAfter xs k = bit (stands (then xs .marks k)) ∷ []
 pub data Letter : Type 0 where
   A B C D E F G H I J K L : Letter
 
--- what the plain machine gives, and what document 01 says
+-- what the plain machine gives, and what REFERENCE 15.2 says
 pub record Case : Type 0 where
   pub letter : Letter
   pub found : List ℕ
@@ -95,7 +95,7 @@ pub record Case : Type 0 where
 abbrev pub row : Letter → List ℕ → List ℕ → Case
 row l f s = record { letter = l; found = f; said = s }
 
--- "A to L"; an answer is a code and a number
+-- REFERENCE 15.2; an answer is a code and a number
 unfoldable pub twelve : List Case
 unfolding builtList then answersAfter save
 twelve =

@@ -16,7 +16,7 @@ digits (suc n) k b = bit (b k) + 2 * digits n (suc k) b
 abbrev pub inSet : ℕ → ℕ → Bool
 inSet set a = set / 2 ^ (a - 1) % 2 == 1
 
--- "standing marks are one 64-bit set": digit k says whether mark k + 1 stands, and each that stands has its place
+-- the standing marks as a set of 64 bits: digit k says whether mark k + 1 stands, and each that stands has its place
 pub record Marked (ms : ℕ → Standing) (set : ℕ) (places : List ℕ) : Type 0 where
   pub room : length places ≡ 64
   pub bits : set ≡ digits 64 1 (λ k. stands (ms k))

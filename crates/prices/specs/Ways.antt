@@ -11,7 +11,7 @@ use Rattle.prices.specs.declared.Way.{Way}
 use Rattle.prices.specs.declared.Way.the-variants.{Nothing, Heard}
 use Rattle.prices.specs.declared.Price.{Price}
 
--- "One way is the largest heard decimetres on edges from a to b": of the list of these decimetres
+-- one way (REFERENCE 6.1), of the list of its decimetres
 abbrev pub wayOf : List ℕ → Way
 wayOf [] = Nothing
 wayOf (d ∷ ds) = Heard (largest (d ∷ ds))
@@ -36,7 +36,7 @@ abbrev pub along : (ℕ → Reading) → Way → List ℕ → Way
 along f way [] = way
 along f way (w ∷ ws) = along f (withReading way (f w)) ws
 
--- "two-way is the smaller of both ways", code 16: "a way has nothing heard"
+-- REFERENCE 6.2, and code 16
 abbrev pub bothWays : Way → Way → Price
 bothWays Nothing back = record { code = 16; range = 0 }
 bothWays (Heard x) Nothing = record { code = 16; range = 0 }

@@ -14,7 +14,7 @@ heardIn Untested = []
 heardIn Silent = []
 heardIn (Heard d) = d ∷ []
 
--- the heard decimetres "on edges from a to b"
+-- what is heard on the edges with alpha a and omega b
 unfoldable pub heard : Graph → ℕ → ℕ → List ℕ
 heard g a b = each (λ (e : Edge). ((e .alpha == a) && (e .omega == b)) ⇒ heardIn (e .reading) else []) (g .eseq)
 
@@ -26,22 +26,22 @@ abbrev pub largest : List ℕ → ℕ
 largest [] = 0
 largest (d ∷ ds) = max d (largest ds)
 
--- "One way is the largest heard decimetres on edges from a to b"
+-- REFERENCE 6.1
 unfoldable pub oneWay : Graph → ℕ → ℕ → ℕ
 unfolding heard
 oneWay g a b = largest (heard g a b)
 
--- code 16: "a way has nothing heard"
+-- code 16 (REFERENCE 7.16)
 unfoldable pub nothingHeard : Graph → ℕ → ℕ → Bool
 unfolding heard
 nothingHeard g a b = isNone (heard g a b) || isNone (heard g b a)
 
--- "two-way is the smaller of both ways; a may equal b"
+-- REFERENCE 6.2
 unfoldable pub twoWay : Graph → ℕ → ℕ → ℕ
 unfolding oneWay
 twoWay g a b = min (oneWay g a b) (oneWay g b a)
 
--- "54 grade: that range ÷ 250, rounded down."
+-- REFERENCE 6.3
 abbrev pub gradeOf : ℕ → ℕ
 gradeOf range = range / 250
 

@@ -1,5 +1,5 @@
 -- Doubly linked lists in a table of words: where the links stand, what it is to hold a list, and what unlinking and inserting leave.
--- Document 01: "Vseq lists all vertices, Eseq all edges", and the incidence list of each vertex: each is a list of this kind.
+-- Vseq, Eseq and the incidence list of each vertex are lists of this kind.
 use Prim.Native.Nat.{ℕ, zero, suc, _+_, _-_, _*_, _≤_, _<_}
 use mathlib.Core.Path.{_≡_}
 use mathlib.Core.List.{List, [], _∷_}

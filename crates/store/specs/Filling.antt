@@ -36,7 +36,7 @@ pub record CanWord (w : ℕ) (s : State) : Type 0 where
   pub word : WIn (s .et) w
   pub back : CanAttach (wthis (s .et) w) (vlast (s .vt) (wthis (s .et) w)) w s
 
--- "Loading takes exactly the words that some chart within the capacities and types saves as."
+-- what is loaded: REFERENCE 10.6
 -- What loading asks: the words are such words, for the capacities of the tables and some number of types.
 pub record CanLoad (words vt et : List ℕ) : Type 0 where
   pub bounds : Bounds

@@ -14,8 +14,7 @@ use Rattle.tables.specs.Tables.{State, vlane, elane, ilane, vends, eends, endsA
 use Rattle.tables.specs.Holds.{Holds}
 use Rattle.tables.specs.Capacities.{Sized}
 
--- "Vertex part, in Vseq order: number, type, value. Edge part, in Eseq order: number, alpha, omega, type, reading kind, decimetres.
--- Incidence part: each vertex's list, in Vseq order.": the record of vertex v, of edge e, and the list of v
+-- REFERENCE 10.2 to 10.4, read off tables: the record of vertex v, of edge e, and the list of v
 abbrev pub vertexWords : List ℕ → ℕ → List ℕ
 vertexWords vt v = v ∷ vtype vt v ∷ vvalue vt v ∷ []
 
@@ -44,7 +43,7 @@ Fits at ws out = at + length ws ≤ length out
 abbrev pub Some : Lane → List ℕ → Ends → Type 0
 Some lane t e = (l : List ℕ) × Held lane t e l
 
--- what saving asks: the tables hold a graph within their capacities, and there is room for its image, "6 + 3V + 8E"
+-- what saving asks: the tables hold a graph within their capacities, and there is room for its image
 pub record CanSave (s : State) (size : ℕ) : Type 0 where
   pub graph : Graph
   pub bounds : Bounds

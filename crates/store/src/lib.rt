@@ -1,4 +1,4 @@
-// Images into the tables and out of them (document 01: the saved chart, loaded and saved).
+// Images into the tables and out of them.
 mod fill; // fill.rt: the tables, from the parts of an image
 mod write; // write.rt: the parts of an image, from the tables
 

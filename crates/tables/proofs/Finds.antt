@@ -49,7 +49,7 @@ module _ (s : State) (g : Graph) (h : Holds s g) (n : ℕ) where
       go false true p = refl
       go false false p = simp (eq-eqb (getD (s .et) (eat 3 n) 0) 0 (h .core .erows n (positive n p) .live ∙ c))
 
-  -- the same as one equation with the test of document 01's codes 3, 4 and 5
+  -- the same as one equation with the test of codes 3, 4 and 5
   pub found-vertex : foundV (s .vt) n ≡ (hasVertex g n ⇒ Found (8 * n - 8) else Missing)
   found-vertex = go (hasVertex g n) refl
     where

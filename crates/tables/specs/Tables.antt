@@ -1,4 +1,4 @@
--- The tables, "8 words a vertex, 12 an edge": where each word stands, and what each step does to the words.
+-- The tables (REFERENCE 13.1, 13.2): where each word stands, and what each step does to the words.
 use Prim.Native.Nat.{ℕ, _+_, _-_, _*_, _^_, _≤_, _<_}
 use mathlib.Core.Path.{_≡_}
 use mathlib.Core.List.{List}
@@ -15,7 +15,7 @@ use Rattle.tables.specs.declared.Head.{Head}
 use Rattle.tables.specs.declared.Lookup.{Lookup}
 use Rattle.tables.specs.declared.Lookup.the-variants.{Found, Missing}
 
--- the links of "Vseq lists all vertices, Eseq all edges", and of the incidence lists
+-- the links of Vseq, of Eseq and of the incidence lists
 abbrev pub vlane : Lane
 vlane = record { stride = 8; skip = 2 }
 
@@ -262,7 +262,7 @@ pub record CanRemoveEdge (n a z : ℕ) (s : State) : Type 0 where
   pub out : CanDetach a (2 * n) (detachS z (2 * n + 1) s)
   pub row : CanDropEdge n (detachS a (2 * n) (detachS z (2 * n + 1) s))
 
--- ---- look-ups: "lookup returns Found or Missing; let .. else leaves with the refusal code"
+-- ---- look-ups
 
 unfoldable pub foundV : List ℕ → ℕ → Lookup
 foundV vt v = (v == 0) ⇒ Missing else ltb (length vt) (8 * v) ⇒ Missing else (getD vt (vat 0 v) 0 == 0) ⇒ Missing else Found (8 * v - 8)
@@ -270,12 +270,12 @@ foundV vt v = (v == 0) ⇒ Missing else ltb (length vt) (8 * v) ⇒ Missing else
 unfoldable pub foundE : List ℕ → ℕ → Lookup
 foundE et e = (e == 0) ⇒ Missing else ltb (length et) (12 * e) ⇒ Missing else (getD et (eat 3 e) 0 == 0) ⇒ Missing else Found (12 * e - 12)
 
--- "A call that names a missing unit or reading stops there with its code": code 4, "a vertex named is missing"
+-- the code of a look-up that fails: REFERENCE 7.4
 abbrev pub vertexCode : Lookup → ℕ
 vertexCode (Found at) = 0
 vertexCode Missing = 4
 
--- code 5, "an edge named is missing"
+-- REFERENCE 7.5
 abbrev pub edgeCode : Lookup → ℕ
 edgeCode (Found at) = 0
 edgeCode Missing = 5

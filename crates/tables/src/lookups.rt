@@ -40,7 +40,7 @@ pub fn find_edge(et: &[u32], e: u32) -> Lookup
     Lookup::Found(at)
 }
 
-// Where the row of word w's edge starts: "a call that names such a word names its edge".
+// Where the row of word w's edge starts: an oriented word stands for its edge (REFERENCE 2.4).
 pub fn find_word(et: &[u32], w: u32) -> Lookup
     ensures { λ r. ⌜ r ≡ foundE (now (et .entry)) (w / 2) ⌝ }
 {

@@ -1,4 +1,4 @@
--- Examples of document 01, computed from the definitions.
+-- Examples of chartrun's text, computed from the definitions.
 use mathlib.Core.Path.{_≡_, refl}
 use mathlib.Core.List.{List, [], _∷_, _++_}
 use Prim.Native.Nat.{ℕ}

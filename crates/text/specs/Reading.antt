@@ -1,4 +1,4 @@
--- "Program chartrun reads up to 1,000 lines of standard input (60,000 bytes), five numbers a line, one space between, no leading zeros, each line ended by a newline (a rest without one is a line too, and bad)"
+-- chartrun's input: REFERENCE 11.2 and 11.3.
 -- Bytes are numbers: the newline is 10, the space 32, the digits 48 to 57.
 use Prim.Native.Nat.{ℕ, _+_, _-_, _*_, _^_}
 use mathlib.Core.Bool.{Bool, false, not, _&&_, _||_}
@@ -33,18 +33,18 @@ valueOf n (x ∷ xs) = valueOf (10 * n + (x - 48)) xs
 abbrev pub digit : ℕ → Bool
 digit x = within 48 57 x
 
--- digits, at least one, "no leading zeros", "a number above 32 bits is bad"
+-- digits, at least one and no zero before others, of a number that is a word
 unfoldable pub goodNumber : List ℕ → Bool
 unfolding valueOf
 goodNumber [] = false
 goodNumber (x ∷ xs) = all digit (x ∷ xs) && (not (x == 48) || (length xs == 0)) && ltb (valueOf 0 (x ∷ xs)) (2 ^ 32)
 
--- "five numbers a line, one space between"
+-- five numbers with single spaces between them
 unfoldable pub goodLine : List ℕ → Bool
 unfolding pieces goodNumber
 goodLine line = (length (pieces 32 line) == 5) && all goodNumber (pieces 32 line)
 
--- of the pieces between newlines the last is the rest: no line where it is empty, else "a line too, and bad"
+-- of the pieces between newlines the last is the rest: no line where it is empty, else a bad one
 unfoldable pub lineCount : List (List ℕ) → ℕ
 lineCount [] = 0
 lineCount (rest ∷ []) = (length rest == 0) ⇒ 0 else 1
@@ -64,7 +64,7 @@ wordsIn [] = []
 wordsIn (rest ∷ []) = []
 wordsIn (line ∷ l ∷ ls) = map (valueOf 0) (pieces 32 line) ++ wordsIn (l ∷ ls)
 
--- "Too many bytes give only `unreadable 0`; else too many lines only `unreadable 1001`; else the first bad line .. only unreadable and its number from 1."
+-- REFERENCE 11.3: bytes are counted first, then lines, then each line is looked at
 unfoldable pub readText : List ℕ → Verdict
 unfolding pieces lineCount firstBad wordsIn
 readText bytes =

@@ -1,4 +1,4 @@
--- "It writes the words done, refused, image and unreadable: a line per call (done number, or refused code), then a line of image and the end chart, one space before each number, every line ended by a newline."
+-- chartrun's output: REFERENCE 11.3 and 11.4.
 use Prim.Native.Nat.{ℕ, zero, suc, _+_, _/_, _%_}
 use mathlib.Core.Path.{_≡_}
 use mathlib.Core.List.{List, [], _∷_, _++_}
@@ -13,12 +13,12 @@ unfoldable pub digits : ℕ → ℕ → List ℕ
 digits zero n = []
 digits (suc f) n = ltb n 10 ⇒ ((48 + n) ∷ []) else (digits f (n / 10) ++ ((48 + n % 10) ∷ []))
 
--- "one space before each number"; a word has at most ten digits
+-- a number with the space before it; a word has at most ten digits
 unfoldable pub spaced : ℕ → List ℕ
 unfolding digits
 spaced n = 32 ∷ digits 10 n
 
--- "the words done, refused, image and unreadable"
+-- the words that lines begin with
 abbrev pub doneWord : List ℕ
 doneWord = 100 ∷ 111 ∷ 110 ∷ 101 ∷ []
 
@@ -31,29 +31,29 @@ imageWord = 105 ∷ 109 ∷ 97 ∷ 103 ∷ 101 ∷ []
 abbrev pub unreadableWord : List ℕ
 unreadableWord = 117 ∷ 110 ∷ 114 ∷ 101 ∷ 97 ∷ 100 ∷ 97 ∷ 98 ∷ 108 ∷ 101 ∷ []
 
--- "every line ended by a newline"
+-- a word, numbers, and the newline that ends them
 unfoldable pub lineOf : List ℕ → List ℕ → List ℕ
 unfolding spaced
 lineOf word ns = word ++ (each spaced ns ++ (10 ∷ []))
 
--- "done number, or refused code"; an accepted call has code 0
+-- an accepted call has code 0
 unfoldable pub answerLine : ℕ → ℕ → List ℕ
 unfolding lineOf
 answerLine code number = (code == 0) ⇒ lineOf doneWord (number ∷ []) else lineOf refusedWord (code ∷ [])
 
--- "a line per call": two words a call, code and number
+-- two words a call, code and number
 unfoldable pub answerLines : List ℕ → List ℕ
 unfolding answerLine
 answerLines [] = []
 answerLines (code ∷ []) = []
 answerLines (code ∷ number ∷ ws) = answerLine code number ++ answerLines ws
 
--- "then a line of image and the end chart"
+-- all answers, then the image
 unfoldable pub writeText : List ℕ → List ℕ → List ℕ
 unfolding lineOf answerLines
 writeText answers image = answerLines answers ++ lineOf imageWord image
 
--- "only unreadable and its number"
+-- all that is written where the input is unreadable
 unfoldable pub unreadableText : ℕ → List ℕ
 unfolding lineOf
 unreadableText n = lineOf unreadableWord (n ∷ [])

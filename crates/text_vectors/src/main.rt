@@ -1,4 +1,4 @@
-// Runs the text functions on examples whose answers were worked out by hand from document 01: a line of output for each.
+// Runs the text functions on worked examples (REFERENCE 11.2 to 11.4): a line of output for each.
 use libc::STDOUT_FILENO;
 use text::ReadVerdict;
 ghost use Prim.Native.Nat.{_≤_};
@@ -308,7 +308,7 @@ fn written_example() {
             3,
         ],
         b"done 1\ndone 1\ndone 1\ndone 1\ndone 0\ndone 2\ndone 0\ndone 1\ndone 450\nimage 2 1 6 12 18 20 1 0 7 2 0 9 1 1 2 0 2 450 2 3\n",
-        b"the example of document 01",
+        b"the nine calls of chartrun",
     );
 }
 

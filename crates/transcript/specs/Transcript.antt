@@ -14,15 +14,15 @@ use Rattle.machine.specs.Run.{answerWords}
 use Rattle.text.specs.Reading.{Verdict, calls, unreadable, readText}
 use Rattle.text.specs.Writing.{writeText, unreadableText}
 
--- "capacities 200, 800, 1,000; types 0 to 4, with 2 and 3 below 1"
+-- REFERENCE 11.1
 abbrev pub parameters : Parameters
 parameters = record { rows = 0 ∷ 0 ∷ 2 ∷ 2 ∷ 0 ∷ []; vertices = 200; edges = 800; changes = 1000 }
 
--- "empty start"
+-- nothing at the start
 abbrev pub begin : Machine
 begin = fresh empty
 
--- "a line per call (done number, or refused code), then a line of image and the end chart"
+-- REFERENCE 11.4, for input that can be read
 unfoldable pub reply : List ℕ → List ℕ
 unfolding answers last save writeText
 reply words = writeText (answerWords (answers parameters begin (callsOf words))) (save (present (last parameters begin (callsOf words))))

@@ -43,7 +43,7 @@ pub over-zero : below (2 ∷ 0 ∷ 0 ∷ []) 2 1 ≡ true
 unfolding below belowBy
 over-zero = refl
 
--- code 104, "0 rows" and a bit n, and the one row of the document's examples
+-- code 104 for no rows and for a bit n, and the one row of REFERENCE 7.0's examples
 pub no-rows : rowsCode [] ≡ 104
 unfolding goodRows
 no-rows = refl

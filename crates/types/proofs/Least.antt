@@ -1,4 +1,4 @@
--- `below` decides the least relation that document 01 describes: `below-least`. The laws after it say what that comes to.
+-- `below` decides the least relation of REFERENCE 1.10: `below-least`. The laws after it say what that comes to.
 use Prim.Native.Nat.{ℕ, zero, suc, _<_}
 use mathlib.Core.Path.{_≡_, refl, sym, subst}
 use mathlib.Core.Logic.{_↔_, _⊎_, inl, inr}

@@ -1,4 +1,4 @@
--- Which lent type rows are taken, in document 01's sections "The chart" and "A run".
+-- Which lent type rows are taken: REFERENCE 1.9 and 8.4.
 use Prim.Native.Nat.{ℕ, _^_}
 use mathlib.Core.Bool.{Bool, _&&_}
 use mathlib.Core.List.{List}
@@ -13,11 +13,11 @@ use Rattle.types.specs.declared.RowsVerdict.the-variants.{Good, Bad}
 abbrev pub rowFits : ℕ → ℕ → Bool
 rowFits n row = ltb row (2 ^ n)
 
--- "Types are 0 to n − 1, n from 1 to 64. One lent 64-bit row per type", and no row with a "bit n or above"
+-- 1 to 64 rows, and of n rows none has a bit at n or higher
 unfoldable pub goodRows : List ℕ → Bool
 goodRows rows = within 1 64 (length rows) && all (rowFits (length rows)) rows
 
--- 104: "no row, over 64, bit n or above"; 0 where the rows are taken
+-- 104 where the rows are refused, 0 where they are taken
 abbrev pub rowsCode : List ℕ → ℕ
 rowsCode rows = goodRows rows ⇒ 0 else 104
 

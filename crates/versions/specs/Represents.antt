@@ -13,7 +13,7 @@ use Rattle.tables.specs.Tables.{st}
 use Rattle.timeline.specs.Steps.{Journal}
 use Rattle.versions.specs.declared.Version.{Version}
 
--- "Capacities are lengths ÷ 8, 12, 12": as many changes as the journal has rows
+-- as many changes as the journal has rows
 abbrev pub capacityOf : List ℕ → ℕ
 capacityOf t = length t / 12
 
@@ -30,7 +30,7 @@ pub record Follows (r : Rule) (m : Machine) (b : Bounds) (x : Version) (code num
 
 -- ---- codes, read off the set
 
--- 11 "a mark named is not 1 to 64"
+-- REFERENCE 7.11
 abbrev pub outside : ℕ → Bool
 outside a = not (within 1 64 a)
 

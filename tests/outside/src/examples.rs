@@ -1,4 +1,4 @@
-//! Document 01's own examples: the table of codes, cases A to L and chartrun's text.
+//! The examples of docs/REFERENCE.md: the table of codes, cases A to L and chartrun's text.
 
 use crate::machine::{Call, Capacities};
 use crate::run::Case;
@@ -134,7 +134,7 @@ pub fn letters() -> Vec<Example> {
     ]
 }
 
-/// The slips that document 01 names.
+/// Slips that are easily made.
 pub fn slips() -> Vec<Example> {
     vec![
         then_walk(

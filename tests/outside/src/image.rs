@@ -39,7 +39,7 @@ pub fn part(words: &[u32], which: u32) -> Option<(usize, usize)> {
     Some((from, to - from))
 }
 
-/// Whether a graph is a chart of document 01 within the capacities and with types below `types`.
+/// REFERENCE 1.12: whether a graph is within the capacities, with types below `types`.
 pub fn is_chart(g: &Graph, capacities: Capacities, types: u32) -> bool {
     let mut vertices = HashSet::new();
     let mut edges = HashSet::new();

@@ -1,4 +1,4 @@
-//! Document 01's plain machine, written from the document alone, and what the engine is compared with.
+//! A plain machine that shares nothing with the engine, and what the engine is compared with.
 
 pub mod cases;
 #[cfg(feature = "engine")]

@@ -1,8 +1,8 @@
-//! The plain machine of document 01. It keeps a whole graph for every step and searches lists from their start.
+//! The plain machine of REFERENCE 4.1. It keeps a whole graph for every step and searches lists from their start.
 
 use std::collections::BTreeMap;
 
-/// "untested, silent, or heard at some decimetres, 0 to 9,999"
+/// REFERENCE 1.4.
 #[derive(Clone, Copy, PartialEq, Eq, Debug)]
 pub enum Reading {
     Untested,
@@ -55,7 +55,7 @@ pub struct Edge {
     pub reading: Reading,
 }
 
-/// Document 01's chart: vertices in Vseq order, edges in Eseq order.
+/// Vertices in the order of Vseq, edges in that of Eseq.
 #[derive(Clone, PartialEq, Eq, Debug, Default)]
 pub struct Graph {
     pub vertices: Vec<Vertex>,
@@ -125,7 +125,7 @@ impl Graph {
         }
     }
 
-    /// One way of the price list: the largest heard decimetres on edges from a to b.
+    /// REFERENCE 6.1.
     fn one_way(&self, a: u32, b: u32) -> Option<u32> {
         self.edges
             .iter()
@@ -161,7 +161,7 @@ fn is_before<T>(items: &[T], key: impl Fn(&T) -> u32, a: u32, b: u32) -> u32 {
     (at(a) < at(b)) as u32
 }
 
-/// The type rows: bit t of row s declares s below t.
+/// The type rows (REFERENCE 1.9).
 #[derive(Clone, Debug)]
 pub struct Types {
     pub rows: Vec<u64>,
@@ -172,7 +172,7 @@ impl Types {
         self.rows.len() as u32
     }
 
-    /// "the declared relation, with every type also below itself and below 0, and all of this closed under chaining"
+    /// REFERENCE 1.10, by a search from s.
     pub fn below(&self, s: u32, t: u32) -> bool {
         let mut reached = vec![s];
         let mut next = 0;
@@ -271,12 +271,12 @@ impl Machine {
         &self.graphs[self.place]
     }
 
-    /// "the capacity less the costs of steps 1 to p"
+    /// REFERENCE 4.4.
     pub fn free(&self) -> u32 {
         self.capacities.changes - self.costs[..self.place].iter().sum::<u32>()
     }
 
-    /// "Its cost is 1, for kind 2 it is 1 + the number of distinct edges at the vertex."
+    /// REFERENCE 3.10.
     fn cost(&self, [kind, a, ..]: Call) -> u32 {
         match kind {
             2 => 1 + self.present().edges_at(a).len() as u32,

@@ -118,7 +118,7 @@ fn fail(message: String) -> ! {
     exit(1)
 }
 
-/// The plain machine alone, held to demand 3's sentences call by call.
+/// The plain machine alone, held to REFERENCE 4.11 and 4.12 call by call.
 fn run_alone(options: &Options) {
     let begun = Instant::now();
     let mut reached = Reached::default();
@@ -145,7 +145,7 @@ fn run_alone(options: &Options) {
     println!("outside: plain machine alone, {}, up to {} steps, {} s", reached.summary(), reached.longest, begun.elapsed().as_secs());
 }
 
-/// Demand 3 on the plain machine, by a record of its own of what each mark stood for.
+/// REFERENCE 4.11 and 4.12 on the plain machine, by a record of its own of what each mark stood for.
 fn demands(case: &Case, outcome: &Outcome, reached: &mut Reached) -> Result<(), String> {
     let Ok(mut machine) = case.machine() else { return Ok(()) };
     let Outcome::Done { answers, image: end } = outcome else { return Err("refused and not refused".into()) };
@@ -342,7 +342,7 @@ mod compare {
                 fail(format!("chartrun, {name}:\nwrote  {:?}\nshould {:?}\ninput  {:?}", head(&found), head(&wanted), head(&input)));
             }
         };
-        check("document 01's example".into(), examples::TEXT.into(), false);
+        check("the example of REFERENCE 11.5".into(), examples::TEXT.into(), false);
         for (name, input) in limits() {
             check(name.into(), input, false);
         }

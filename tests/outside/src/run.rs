@@ -1,4 +1,4 @@
-//! A run of document 01 on the plain machine: the whole list, or one refusal of it.
+//! A run on the plain machine: the whole list, or one refusal of it.
 
 use crate::image;
 use crate::machine::{Call, Capacities, Graph, Machine, Types};

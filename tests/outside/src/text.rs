@@ -5,7 +5,7 @@ use crate::run::{Case, Outcome};
 use std::fmt::Write;
 
 pub const CAPACITIES: Capacities = Capacities { vertices: 200, edges: 800, changes: 1_000 };
-/// "types 0 to 4, with 2 and 3 below 1"
+/// REFERENCE 11.1.
 pub const ROWS: [u64; 5] = [0, 0, 1 << 1, 1 << 1, 0];
 pub const BYTES: usize = 60_000;
 pub const LINES: usize = 1_000;
