@@ -48,12 +48,13 @@ no-code keeps free c e = go (c == 0) refl e
     go true q z = eqb-true c 0 q
     go false q z = z
 
-pub some-room : (free : ℕ) → tried false free ≡ 0 → free ≢ 0
-some-room free e = go (free == 0) refl e
+pub some-room : (free c : ℕ) → withRoom false free c ≡ 0 → free ≢ 0
+some-room free c e = go (c == 0) refl (free == 0) refl e
   where
-    go : (r : Bool) → (free == 0) ≡ r → _≡_ {A = ℕ} (r ⇒ 10 else 0) 0 → free ≢ 0
-    go true k z = absurd (omega arith)
-    go false k z = eqb-false free 0 k
+    go : (p : Bool) → (c == 0) ≡ p → (r : Bool) → (free == 0) ≡ r → _≡_ {A = ℕ} (p ⇒ (r ⇒ 10 else 0) else c) 0 → free ≢ 0
+    go true q true k z = absurd (omega arith)
+    go true q false k z = eqb-false free 0 k
+    go false q r k z = absurd (eqb-false c 0 q z)
 
 -- ---- what is allowed can be made
 
