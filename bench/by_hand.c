@@ -273,6 +273,8 @@ static inline u32 one_way(const struct store *s, u32 a, u32 b) {
 #define NEED_EDGE(e_) do { if (no_edge(s, e_)) REFUSE(5); } while (0)
 #define NEED_TYPE(t_) do { if ((t_) >= s->types) REFUSE(6); } while (0)
 #define NEED_ROOM(cost_) do { if ((cost_) > s->change_capacity - s->used) REFUSE(10); } while (0)
+/* A change that alters nothing answers 0 and is no step. */
+#define UNLESS(same_) do { if (same_) ANSWER(0); } while (0)
 #define NEED_MARK(m_) do { if ((m_) - 1 >= 64) REFUSE(11); } while (0)
 #define STANDS(m_) (s->marks >> ((m_) - 1) & 1)
 
@@ -327,6 +329,7 @@ static inline void step(struct store *s, const u32 *call, u32 *answer) {
     case 5:
         NEED_VERTEX(a);
         NEED_TYPE(b);
+        UNLESS(vertex_row(s, a)[V_TYPE] == b);
         NEED_ROOM(1);
         begin(s);
         set_vertex(s, a, b, vertex_row(s, a)[V_VALUE]);
@@ -334,12 +337,14 @@ static inline void step(struct store *s, const u32 *call, u32 *answer) {
     case 6:
         NEED_EDGE(a);
         NEED_TYPE(b);
+        UNLESS(edge_row(s, a)[E_TYPE] == b);
         NEED_ROOM(1);
         begin(s);
         set_edge(s, a, b, edge_row(s, a)[E_KIND], edge_row(s, a)[E_DECIMETRES]);
         ANSWER(1);
     case 7:
         NEED_VERTEX(a);
+        UNLESS(vertex_row(s, a)[V_VALUE] == b);
         NEED_ROOM(1);
         begin(s);
         set_vertex(s, a, vertex_row(s, a)[V_TYPE], b);
@@ -347,6 +352,7 @@ static inline void step(struct store *s, const u32 *call, u32 *answer) {
     case 8:
         NEED_EDGE(a);
         if (!(b <= 1 ? c == 0 : b == 2 && c <= 9999)) REFUSE(7);
+        UNLESS(edge_row(s, a)[E_KIND] == b && edge_row(s, a)[E_DECIMETRES] == c);
         NEED_ROOM(1);
         begin(s);
         set_edge(s, a, edge_row(s, a)[E_TYPE], b, c);
@@ -355,6 +361,7 @@ static inline void step(struct store *s, const u32 *call, u32 *answer) {
     case 10:
         NEED_VERTEX(b);
         NEED_EDGE(a);
+        UNLESS(vertex_row(s, b)[V_LAST] == 2 * a + (call[0] == 10));
         NEED_ROOM(1);
         begin(s);
         move_word(s, 2 * a + (call[0] == 10), b, 0, 0);
@@ -364,6 +371,7 @@ static inline void step(struct store *s, const u32 *call, u32 *answer) {
         NEED_VERTEX(a);
         NEED_VERTEX(b);
         if (a == b) REFUSE(9);
+        UNLESS(vertex_row(s, call[0] == 12 ? a : b)[V_PREV] == (call[0] == 12 ? b : a));
         NEED_ROOM(1);
         begin(s);
         u32 *r = new_row(s, MOVE_VERTEX, 1);
@@ -379,6 +387,7 @@ static inline void step(struct store *s, const u32 *call, u32 *answer) {
         NEED_EDGE(a);
         NEED_EDGE(b);
         if (a == b) REFUSE(9);
+        UNLESS(edge_row(s, call[0] == 14 ? a : b)[E_PREV] == (call[0] == 14 ? b : a));
         NEED_ROOM(1);
         begin(s);
         u32 *r = new_row(s, MOVE_EDGE, 1);
@@ -395,6 +404,7 @@ static inline void step(struct store *s, const u32 *call, u32 *answer) {
         NEED_EDGE(b / 2);
         if (half(s, a)[W_THIS] != half(s, b)[W_THIS]) REFUSE(8);
         if (a == b) REFUSE(9);
+        UNLESS(half(s, call[0] == 16 ? a : b)[W_PREV] == (call[0] == 16 ? b : a));
         NEED_ROOM(1);
         begin(s);
         move_word(s, a, half(s, a)[W_THIS], b, call[0] == 16);

@@ -16,11 +16,12 @@
  *   itself and type 0, and what is below a type is below all that the type is below. Class t has the types below t.
  *
  * HISTORY
- *   Each accepted change (kinds 1 to 16) is a step. Undo and redo move the place by one step. A change made at an
- *   earlier place cuts the steps after it, and the marks that stand at places after it. A mark (1 to 64) records a
- *   place, and going to it brings back the graph held there. Commit forgets all steps and marks and keeps the graph.
- *   A step costs 1 change, deleting a vertex 1 + the number of distinct edges at it. Free changes are the journal's
- *   capacity less the costs of the steps up to the present place.
+ *   Each accepted change (kinds 1 to 16) that alters the graph is a step. One after which every order, end, type, value
+ *   and reading is what it was is none: it answers 0, writes nothing, and cuts no step and no mark. Undo and redo move
+ *   the place by one step. A change made at an earlier place cuts the steps after it, and the marks that stand at places
+ *   after it. A mark (1 to 64) records a place, and going to it brings back the graph held there. Commit forgets all
+ *   steps and marks and keeps the graph. A step costs 1 change, deleting a vertex 1 + the number of distinct edges at
+ *   it. Free changes are the journal's capacity less the costs of the steps up to the present place.
  */
 #ifndef FUTTOCKFIG_H
 #define FUTTOCKFIG_H
@@ -33,7 +34,7 @@ extern "C" {
 #endif
 
 /* What a caller sees; raised with every change to it (docs/CHANGES.md). */
-#define FUTTOCKFIG_VERSION 1
+#define FUTTOCKFIG_VERSION 2
 
 /* Words a row in each table, and the most rows that a table may have. The fewest is 1. */
 #define FUTTOCKFIG_VERTEX_WORDS 8
@@ -56,7 +57,7 @@ extern "C" {
  * The comment gives the words used and the number answered.
  */
 enum futtockfig_kind {
-    /* Changes. The number answered is the cost. */
+    /* Changes. The number answered is the cost, 0 where the change alters nothing. */
     FUTTOCKFIG_CREATE_VERTEX = 1,      /* a number, b type, c value; becomes last in Vseq */
     FUTTOCKFIG_DELETE_VERTEX = 2,      /* a vertex; first the edges of its list, then the vertex: one step */
     FUTTOCKFIG_CREATE_EDGE = 3,        /* a number, b alpha, c omega, d type; untested; becomes last in Eseq, its out word
@@ -122,7 +123,7 @@ enum futtockfig_code {
     FUTTOCKFIG_NOT_A_READING = 7,
     FUTTOCKFIG_OTHER_LIST = 8,         /* kinds 15, 16, 48: the words are seen from different vertices */
     FUTTOCKFIG_SAME_TWICE = 9,         /* kinds 11 to 16: a equals b */
-    FUTTOCKFIG_NO_ROOM = 10,           /* the cost is above the free changes */
+    FUTTOCKFIG_NO_ROOM = 10,           /* a change that would alter the graph: its cost is above the free changes */
     FUTTOCKFIG_BAD_MARK = 11,          /* a mark named is not 1 to 64 */
     FUTTOCKFIG_MARK_STANDS = 12,       /* kind 17 */
     FUTTOCKFIG_NO_SUCH_MARK = 13,      /* kinds 18, 21, 49: some mark that is named is not standing */

@@ -34,34 +34,10 @@ pub fn all() -> Vec<Load> {
     ]
 }
 
-/// Ends and lists of the graph, kept along with the edits so that each is accepted.
-struct Model {
-    ends: Vec<[usize; 2]>,
-    lists: Vec<Vec<u32>>,
-}
-
-impl Model {
-    fn detach(&mut self, word: u32) {
-        let at = self.ends[word as usize / 2][word as usize % 2];
-        self.lists[at].retain(|w| *w != word);
-    }
-
-    fn attach(&mut self, word: u32, to: usize) {
-        self.ends[word as usize / 2][word as usize % 2] = to;
-        self.lists[to].push(word);
-    }
-}
-
-/// Changes of every kind that keeps the graph full; an edge deleted is made again by the next call.
+/// Changes of every kind that keeps the graph full, each of which alters it; an edge deleted is made again by the next call.
 fn edits(start: &Graph, count: usize) -> Vec<Call> {
     let mut r = Random::new(2);
-    let mut model = Model { ends: vec![[0; 2]; 4_001], lists: vec![vec![]; 1_001] };
-    for e in &start.edges {
-        model.ends[e.number as usize] = [e.alpha as usize, e.omega as usize];
-    }
-    for v in &start.vertices {
-        model.lists[v.number as usize] = v.list.clone();
-    }
+    let mut graph = start.clone();
     let mut calls: Vec<Call> = Vec::new();
     while calls.len() < count {
         let v = r.between(1, 1_000);
@@ -73,28 +49,20 @@ fn edits(start: &Graph, count: usize) -> Vec<Call> {
                 if calls.len() + 1 == count {
                     continue;
                 }
-                calls.push([4, e as u32, 0, 0, 0]);
-                model.detach(2 * e as u32);
-                model.detach(2 * e as u32 + 1);
-                let omega = other(&mut r, v, 1_000);
-                model.attach(2 * e as u32, v);
-                model.attach(2 * e as u32 + 1, omega);
-                [3, e as u32, v as u32, omega as u32, r.under(8) as u32]
+                let deletion = [4, e as u32, 0, 0, 0];
+                graph = graph.changed(deletion);
+                calls.push(deletion);
+                [3, e as u32, v as u32, other(&mut r, v, 1_000) as u32, r.under(8) as u32]
             }
             5 => [5, v as u32, r.under(8) as u32, 0, 0],
             6 => [6, e as u32, r.under(8) as u32, 0, 0],
             7 => [7, v as u32, r.word(), 0, 0],
             8 => [8, e as u32, 2, r.under(10_000) as u32, 0],
-            9 | 10 => {
-                let word = 2 * e as u32 + (kind - 9);
-                model.detach(word);
-                model.attach(word, v);
-                [kind, e as u32, v as u32, 0, 0]
-            }
+            9 | 10 => [kind, e as u32, v as u32, 0, 0],
             11 | 12 => [kind, v as u32, other(&mut r, v, 1_000) as u32, 0, 0],
             13 | 14 => [kind, e as u32, other(&mut r, e, 4_000) as u32, 0, 0],
             _ => {
-                let list = &model.lists[v];
+                let list = &graph.vertex(v as u32).unwrap().list;
                 if list.len() < 2 {
                     continue;
                 }
@@ -103,7 +71,11 @@ fn edits(start: &Graph, count: usize) -> Vec<Call> {
                 [kind, list[i], list[j], 0, 0]
             }
         };
-        calls.push(call);
+        let changed = graph.changed(call);
+        if changed != graph {
+            graph = changed;
+            calls.push(call);
+        }
     }
     calls
 }

@@ -1,8 +1,8 @@
 -- The machine's answer to a command, from what the crates below say of its rule, code, reply or price.
-use Prim.Native.Nat.{ℕ, _+_, _-_, _*_, _/_, _^_, _≤_, _<_}
+use Prim.Native.Nat.{ℕ, zero, suc, _+_, _-_, _*_, _/_, _^_, _≤_, _<_}
 use mathlib.Core.Path.{_≡_, refl, sym, ap, _∙_, subst}
 use mathlib.Core.Logic.{_≢_}
-use mathlib.Core.Bool.{Bool, true, false}
+use mathlib.Core.Bool.{Bool, true, false, not, _&&_}
 use mathlib.Core.List.{List}
 use lib.ListN.{length}
 use borrow.Author.Tests.{ne-eqb, eqb-true, eqb-false, lt-ltb, le-ltb}
@@ -10,15 +10,18 @@ use lib.Dec.{ltb}
 use native.Mathlib.Omega.{arith}
 use Rattle.lists.specs.Choice.{_⇒_else_, _==_}
 use Rattle.graph.specs.declared.Change.{Change}
+use Rattle.graph.specs.declared.Edit.{Edit}
 use Rattle.graph.specs.Graph.{Graph}
 use Rattle.graph.specs.WellFormed.{Bounds, WellFormed}
 use Rattle.graph.specs.Changes.{Allowed, cost}
+use Rattle.graph.specs.Same.{idle, alters}
+use Rattle.graph.proofs.Alters.{alters-plan}
 use Rattle.tables.specs.Tables.{State, st}
 use Rattle.tables.specs.Holds.{Holds}
 use Rattle.tables.specs.Capacities.{Sized, boundsOf}
-use Rattle.queries.specs.Plans.{OneEdit}
-use Rattle.queries.proofs.PlanLaws.{one-edit}
-use Rattle.singles.specs.One.{Stands, One, Makes, withRoom}
+use Rattle.queries.specs.Plans.{planS, OneEdit}
+use Rattle.queries.proofs.PlanLaws.{plan-is, one-edit}
+use Rattle.singles.specs.One.{Stands, One, Makes, tried, withRoom}
 use Rattle.singles.proofs.OneLaws.{no-code, some-room}
 use Rattle.versions.specs.declared.Version.{Version}
 use Rattle.versions.specs.declared.Done.{Done}
@@ -28,9 +31,9 @@ use Rattle.timeline.proofs.Steps.{journal-free, place-short}
 use Rattle.versions.proofs.Present.{holds-present, sound-present, sized-present}
 use Rattle.answers.specs.declared.Answer.{Answer as Reply}
 use Rattle.answers.specs.AnswerIs.{AnswerIs}
-use Rattle.history.specs.Machine.{Machine, present, freeOf}
+use Rattle.history.specs.Machine.{stepOf, Machine, present, freeOf}
 use Rattle.machine.specs.HistoryCodes.{tooDear}
-use Rattle.machine.specs.Rules.{nothing, effected, Rule, Obeys, followed, changeRule, historyRule}
+use Rattle.machine.specs.Rules.{steps, nothing, effected, Deed, deed, changeDeed, Rule, Obeys, followed, changeRule, historyRule}
 use Rattle.machine.specs.Calls.{Parameters, boundsIn}
 use Rattle.commands.specs.declared.HistoryCall.{HistoryCall}
 use Rattle.commands.specs.declared.Question.{Question}
@@ -71,6 +74,18 @@ room-test free n k e i = go (free == 0) refl
     go : (p : Bool) → (free == 0) ≡ p → p ≡ ltb n k
     go true p = sym (lt-ltb n k (omega (arith, eqb-true free 0 p)))
     go false p = let d = eqb-false free 0 p in sym (le-ltb n k (omega arith))
+
+-- room is asked only of an edit that alters something
+tried-code : (keeps : Bool) (free : ℕ) (dear : Bool) → (free == 0) ≡ dear → tried keeps free ≡ ((dear && not keeps) ⇒ 10 else 0)
+tried-code true free true e = refl
+tried-code true free false e = refl
+tried-code false free true e = ap (λ (p : Bool). p ⇒ 10 else 0) e
+tried-code false free false e = ap (λ (p : Bool). p ⇒ 10 else 0) e
+
+-- a deed of number 0 answers 0, refused or not
+no-number : (p : Bool) (d : Deed) → d .number ≡ 0 → (p ⇒ d .number else 0) ≡ 0
+no-number true d e = e
+no-number false d e = refl
 
 -- a version that stays is rebuilt
 pub answered-by : (w : Parameters) (m : Machine) (c : Command) (vt et t places closed : List ℕ) (types : ℕ) {d d′ : Done} → d ≡ d′ → Answered w m c (d′ .version) (d′ .code) (d′ .number) vt et t places closed types
@@ -168,32 +183,70 @@ module _ (w : Parameters) (m : Machine) (x : Version) (vt et t places closed : L
 
   module _ (c : Change) (o : OneEdit c) (free k n : ℕ) (q : free ≡ length t / 12 - x .current .position .used) (s′ : State) (t′ : List ℕ)
       (r : One c types (x .current .position .used) free (st (x .current .head) vt et) t k n s′ t′) where
+    abbrev plan-now : Edit
+    plan-now = planS c (st (x .current .head) vt et)
+
+    -- what the tables say of the edit is what the graph says of the change
+    alters-now : Allowed (boundsIn w) (present m) c → alters c (present m) ≡ not (idle plan-now)
+    alters-now a = alters-plan (present m) sound (boundsIn w) c a (one-edit c o (present m) .0) ∙ ap (λ (e : Edit). not (idle e)) (sym (plan-is (st (x .current .head) vt et) (present m) holds (boundsIn w) c a))
+
     single-code : k ≡ refusal w m (Alter c)
     single-code =
-        let f = journal-free (boundsIn w) (x .current .position) (st (x .current .head) vt et) t (m .line) (length t / 12) (h .represents .journal) in
-        let e : freeOf (w .changes) (m .line) ≡ free = ap (λ (y : ℕ). freeOf y (m .line)) (h .setting .changes) ∙ sym f ∙ sym q in
-        let i = room-test free (freeOf (w .changes) (m .line)) (cost c (present m)) e (one-edit c o (present m) .1) in
-        r .answers (present m) (x .current .head, holds) ∙ ap (λ (b : Bounds). withRoom free (changeCode b (present m) c)) (bounds-are w vt et t closed types (h .setting))
-        ∙ ap (λ (p : Bool). (changeCode (boundsIn w) (present m) c == 0) ⇒ (p ⇒ 10 else 0) else changeCode (boundsIn w) (present m) c) i
+        r .answers (present m) (x .current .head, holds)
+        ∙ ap (λ (b : Bounds). withRoom (idle plan-now) free (changeCode b (present m) c)) (bounds-are w vt et t closed types (h .setting))
+        ∙ go (changeCode (boundsIn w) (present m) c) refl
         ∙ sym (change-refusal w m c)
+      where
+        dear : (free == 0) ≡ ltb (freeOf (w .changes) (m .line)) (cost c (present m))
+        dear =
+            let f = journal-free (boundsIn w) (x .current .position) (st (x .current .head) vt et) t (m .line) (length t / 12) (h .represents .journal) in
+            let e : freeOf (w .changes) (m .line) ≡ free = ap (λ (y : ℕ). freeOf y (m .line)) (h .setting .changes) ∙ sym f ∙ sym q in
+            room-test free (freeOf (w .changes) (m .line)) (cost c (present m)) e (one-edit c o (present m) .1)
 
-    pub single-refused : k ≢ 0 → Answered w m (Alter c) x k 0 (s′ .vt) (s′ .et) t′ places closed types
-    single-refused d =
-        let a = refused-answers (Alter c) k single-code d in
-        let b = subst (λ (z : State). Answered w m (Alter c) x k 0 (z .vt) (z .et) t places closed types) (sym (r .stays d)) a in
-        subst (λ (z : List ℕ). Answered w m (Alter c) x k 0 (s′ .vt) (s′ .et) z places closed types) (sym (r .keeps d)) b
+        go : (n : ℕ) → changeCode (boundsIn w) (present m) c ≡ n → withRoom (idle plan-now) free n ≡ orElse n (tooDear (w .changes) m c ⇒ 10 else 0)
+        go zero z =
+            tried-code (idle plan-now) free _ dear
+            ∙ ap (λ (p : Bool). (ltb (freeOf (w .changes) (m .line)) (cost c (present m)) && p) ⇒ 10 else 0) (sym (alters-now (allows (boundsIn w) (present m) sound c (r .fits) z)))
+        go (suc n) z = let e : (suc n == 0) ≡ false = ne-eqb (suc n) 0 (omega arith) in rw e
 
-    module _ (z : k ≡ 0) where
+    coded-zero : k ≡ 0 → changeCode (boundsIn w) (present m) c ≡ 0
+    coded-zero z =
+        ap (λ (b : Bounds). changeCode b (present m) c) (sym (bounds-are w vt et t closed types (h .setting)))
+        ∙ no-code (idle plan-now) free (changeCode (boundsOf vt et types) (present m) c) (sym (r .answers (present m) (x .current .head, holds)) ∙ z)
+
+    -- nothing was written: the change is refused, or alters nothing
+    pub single-kept : n ≡ 0 → Answered w m (Alter c) x k 0 (s′ .vt) (s′ .et) t′ places closed types
+    single-kept y =
+        let b = subst (λ (z : State). Answered w m (Alter c) x k 0 (z .vt) (z .et) t places closed types) (sym (r .stays y .0)) (go (k == 0) refl) in
+        subst (λ (z : List ℕ). Answered w m (Alter c) x k 0 (s′ .vt) (s′ .et) z places closed types) (sym (r .stays y .1)) b
+      where
+        go : (p : Bool) → (k == 0) ≡ p → Answered w m (Alter c) x k 0 vt et t places closed types
+        go true e =
+            let z = eqb-true k 0 e in
+            let a = allows (boundsIn w) (present m) sound c (r .fits) (coded-zero z) in
+            let u = alters-now a ∙ ap not (r .keeps y z) in
+            obeys-answers (Alter c) k 0 (ap (λ (p : Bool). changeDeedBy p .effect) u)
+            (record { coded = single-code; numbered = sym (no-number (refusal w m (Alter c) == 0) (changeDeed c m) (ap (λ (p : Bool). changeDeedBy p .number) u)) })
+          where
+            changeDeedBy : Bool → Deed
+            changeDeedBy p = p ⇒ deed (cost c (present m)) (steps (stepOf c (present m))) else deed 0 nothing
+        go false e = refused-answers (Alter c) k single-code (eqb-false k 0 e)
+
+    module _ (d : Makes (planS c (st (x .current .head) vt et)) (x .current .position .used) (st (x .current .head) vt et) t k n s′ t′) where
+      coded : (g : Graph) → HoldsVE vt et g → 0 ≡ changeCode (boundsOf vt et types) g c
+      coded g y = sym (no-code (idle plan-now) free (changeCode (boundsOf vt et types) g c) (sym (r .answers g y) ∙ d .coded))
+
       pub single-room : x .current .position .used + 1 ≤ length t / 12
       single-room =
-          let d = some-room free (changeCode (boundsOf vt et types) (present m) c) (sym (r .answers (present m) (x .current .head, holds)) ∙ z) in
-          omega (arith, q, d)
-
-      coded : (g : Graph) → HoldsVE vt et g → 0 ≡ changeCode (boundsOf vt et types) g c
-      coded g y = sym (no-code free (changeCode (boundsOf vt et types) g c) (sym (r .answers g y) ∙ z))
+          let e = ap (λ (p : Bool). withRoom p free (changeCode (boundsOf vt et types) (present m) c)) (sym (d .alters)) in
+          let i = some-room free (changeCode (boundsOf vt et types) (present m) c) (e ∙ sym (r .answers (present m) (x .current .head, holds)) ∙ d .coded) in
+          omega (arith, q, i)
 
       pub single-allowed : Allowed (boundsIn w) (present m) c
       single-allowed = alter-allowed c 0 coded refl (r .fits)
+
+      pub single-alters : alters c (present m) ≡ true
+      single-alters = alters-now single-allowed ∙ ap not (d .alters)
 
       pub single-made : (x′ : Version) (code number : ℕ) → length t′ ≡ length t →
           Follows (changeRule (length t / 12) c) m (boundsIn w) x′ code number (s′ .vt) (s′ .et) t′ places → Answered w m (Alter c) x′ code number (s′ .vt) (s′ .et) t′ places closed types

@@ -15,7 +15,7 @@ ghost use Rattle.machine.specs.Calls.{Parameters};
 ghost use Rattle.commands.specs.declared.Command.the-variants as the;
 ghost use Rattle.engine.specs.Running.{Running, Answered, Stays, Stands, Performs};
 
-// A change: refused by the graph, or for want of room, or made.
+// A change: refused by the graph, or for want of room, or made; or it alters nothing.
 fn alter(
     x: Version,
     vt: &mut [u32],
@@ -35,7 +35,8 @@ fn alter(
     }
 }
 
-// A change of one edit: its kind is chosen once, and codes, row and tables go together.
+// A change of one edit: its kind is chosen once, and codes, row and tables go together. Cost 0 says that nothing was written:
+// it is refused, or alters nothing.
 fn single(
     x: Version,
     vt: &mut [u32],
@@ -53,7 +54,7 @@ fn single(
     let used = x.current.position.used;
     let head = x.current.head;
     let r = singles::make(head, vt, et, t, types, used, capacity - used, change);
-    if r.code != 0 {
+    if r.cost == 0 {
         return versions::stay(x, r.code, 0);
     }
     let after = r.head;
@@ -77,7 +78,7 @@ fn delete_vertex(
     if code != 0 {
         return versions::stay(x, code, 0);
     }
-    versions::change(x, vt, et, t, places, Change::DeleteVertex(a))
+    versions::delete_vertex(x, vt, et, t, places, a)
 }
 
 // A question.

@@ -15,3 +15,4 @@ pub mod Readings
 pub mod PlanBounds
 pub mod EditLists
 pub mod ChangeLaws
+pub mod Alters

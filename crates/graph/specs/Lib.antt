@@ -4,3 +4,4 @@ pub mod Changes
 pub mod Edits
 pub mod Plans
 pub mod Questions
+pub mod Same

@@ -49,6 +49,10 @@ use Rattle.commands.specs.declared.Command.the-variants.{Alter, Recall, Ask, Qu
 use Rattle.commands.specs.Tables.{Row, lowest}
 use Rattle.commands.specs.Commands.{commandOf, callOf}
 use Rattle.commands.specs.Fits.{Words}
+use Rattle.graph.specs.Changes.{cost}
+use Rattle.graph.specs.Same.{alters}
+use Rattle.history.specs.Machine.{stepOf}
+use Rattle.machine.specs.Rules.{steps, nothing, deed}
 use Rattle.commands.specs.Calls.{Call, callsOf}
 use Rattle.machine.specs.Calls.{Parameters, boundsIn}
 use Rattle.machine.specs.Codes.{free, codeTable, refusal}
@@ -121,7 +125,11 @@ module _ (w : Parameters) (m : Machine) (k : Limits w) (i : Invariant w m) where
 
   pub number-fits : (c : Command) → deedOf w c m .number < 2 ^ 32
   unfolding free
-  number-fits (Alter c) = omega (arith, cost-le (boundsIn w) (present m) here c, k .few-edges)
+  number-fits (Alter c) = go (alters c (present m))
+    where
+      go : (t : Bool) → (t ⇒ deed (cost c (present m)) (steps (stepOf c (present m))) else deed 0 nothing) .number < 2 ^ 32
+      go true = omega (arith, cost-le (boundsIn w) (present m) here c, k .few-edges)
+      go false = omega arith
   number-fits (Recall (SetMark n)) = omega arith
   number-fits (Recall (DropMark n)) = omega arith
   number-fits (Recall Undo) = omega arith

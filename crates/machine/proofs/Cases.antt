@@ -13,6 +13,7 @@ use Rattle.image.proofs.RecordWords.{same-eq}
 use Rattle.image.proofs.Loads.{one-graph}
 use Rattle.history.specs.Machine.{fresh, present}
 use Rattle.machine.specs.Calls.{boundsIn}
+use Rattle.graph.specs.Same.{alters}
 use Rattle.history.specs.Machine.{stepOf}
 use Rattle.commands.specs.Commands.{commandOf}
 use Rattle.machine.specs.Codes.{refusal}
@@ -37,7 +38,7 @@ same-graph g f e = one-graph (boundsIn parameters) (boundsIn parameters) g seven
 
 -- the calls that make Seven
 pub made : present (last parameters (fresh empty) making) ≡ seven
-unfolding last stepTo commandOf refusal stepOf save wellFormed pick
+unfolding last stepTo commandOf alters refusal stepOf save wellFormed pick
 made = same-graph _ refl refl
 
 -- case G compares the words of the two graphs, so the graphs are the same

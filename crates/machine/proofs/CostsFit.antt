@@ -1,7 +1,7 @@
 -- The steps remembered never cost more than the capacity, so free changes plus the costs of steps 1 to p is the capacity.
 use Prim.Native.Nat.{_+_, _≤_}
-use mathlib.Core.Path.{_≡_, refl, subst}
-use mathlib.Core.Bool.{Bool, true, false}
+use mathlib.Core.Path.{_≡_, refl, sym, subst, _∙_}
+use mathlib.Core.Bool.{Bool, true, false, _&&_}
 use mathlib.Core.List.{List, [], _∷_}
 use native.Mathlib.Omega.{arith}
 use lib.ListN.{take}
@@ -18,7 +18,7 @@ use Rattle.commands.specs.declared.Command.the-variants.{Alter, Recall, Ask, Qu
 use Rattle.commands.specs.Calls.{Call}
 use Rattle.commands.specs.Commands.{commandOf}
 use Rattle.machine.proofs.Accepts.{accepted-step, refused-step}
-use Rattle.machine.proofs.Families.{Makes, history-makes, change-passed}
+use Rattle.machine.proofs.Families.{Makes, change-effect, history-makes, change-passed}
 use Rattle.machine.specs.Calls.{Parameters}
 use Rattle.machine.specs.Codes.{free, refusal}
 use Rattle.machine.specs.Machine.{deedOf, stepTo, step, last}
@@ -26,10 +26,14 @@ use Rattle.machine.specs.Machine.{deedOf, stepTo, step, last}
 unfoldable pub CostsFit : Parameters → Machine → Type 0
 CostsFit w m = costs (m .line .steps) ≤ w .changes
 
+no-left : (a b : Bool) → (a && b) ≡ false → b ≡ true → a ≡ false
+no-left true b e f = sym f ∙ e
+no-left false b e f = refl
+
 -- an accepted command makes no step that costs more than is free
 makes-room : (w : Parameters) (m : Machine) (c : Command) → (refusal w m c == 0) ≡ true → Makes (λ s. s .cost ≤ free w m) (deedOf w c m .effect)
 unfolding stepOf free
-makes-room w m (Alter c) e = ltb-false (free w m) (cost c (present m)) (change-passed w m c e .1)
+makes-room w m (Alter c) e = change-effect (Makes (λ s. s .cost ≤ free w m)) c m (λ a. ltb-false (free w m) (cost c (present m)) (no-left _ _ (change-passed w m c e .1) a)) tt
 makes-room w m (Recall h) e = history-makes (λ s. s .cost ≤ free w m) (w .changes) h m
 makes-room w m (Ask q) e = tt
 makes-room w m (Quote p) e = tt

@@ -12,9 +12,11 @@ use Rattle.lists.specs.Lists.{All, done, more}
 use Rattle.lists.proofs.Sums.{all-bool}
 use Rattle.graph.specs.declared.Change.{Change}
 use Rattle.graph.specs.declared.Change.the-variants.{CreateVertex, DeleteVertex, CreateEdge, DeleteEdge, RetypeVertex, RetypeEdge, SetValue, SetReading, SetAlpha, SetOmega, VertexBefore, VertexAfter, EdgeBefore, EdgeAfter, WordBefore, WordAfter}
-use Rattle.history.specs.Machine.{Step, Machine, present}
+use Rattle.graph.specs.Changes.{cost}
+use Rattle.graph.specs.Same.{alters}
+use Rattle.history.specs.Machine.{Step, stepOf, Machine, present}
 use Rattle.machine.specs.HistoryCodes.{tooDear, historyTable}
-use Rattle.machine.specs.Rules.{Effect, steps, marks, unmarks, goes, clears, nothing, historyDeed, historyRule}
+use Rattle.machine.specs.Rules.{Effect, steps, marks, unmarks, goes, clears, nothing, deed, changeDeed, historyDeed, historyRule}
 use Rattle.commands.specs.declared.HistoryCall.{HistoryCall}
 use Rattle.commands.specs.declared.HistoryCall.the-variants.{SetMark, DropMark, Undo, Redo, GoTo, Commit, Between, Standing, Free}
 use Rattle.commands.specs.declared.Question.{Question}
@@ -137,6 +139,14 @@ Makes P (unmarks n) = Unit {0}
 Makes P (goes p) = Unit {0}
 Makes P clears = Unit {0}
 Makes P nothing = Unit {0}
+
+-- a change that alters the chart makes a step, any other nothing
+pub change-effect : (P : Effect → Type 0) (c : Change) (m : Machine) → (alters c (present m) ≡ true → P (steps (stepOf c (present m)))) → P nothing → P (changeDeed c m .effect)
+change-effect P c m h i = go (alters c (present m)) refl
+  where
+    go : (t : Bool) → alters c (present m) ≡ t → P ((t ⇒ deed (cost c (present m)) (steps (stepOf c (present m))) else deed 0 nothing) .effect)
+    go true e = h e
+    go false e = i
 
 pub history-makes : (P : Step → Type 0) (capacity : ℕ) (h : HistoryCall) (m : Machine) → Makes P (historyDeed capacity h m .effect)
 history-makes P capacity (SetMark k) m = tt

@@ -24,7 +24,7 @@ use Rattle.commands.specs.Fits.{Words, CommandFits}
 use Rattle.commands.proofs.Fitting.{command-fits}
 use Rattle.machine.proofs.Accepts.{accepted-step, refused-step}
 use Rattle.machine.proofs.Allows.{allows}
-use Rattle.machine.proofs.Families.{Makes, history-makes, change-passed}
+use Rattle.machine.proofs.Families.{Makes, change-effect, history-makes, change-passed}
 use Rattle.machine.specs.Calls.{Parameters, boundsIn}
 use Rattle.machine.specs.Codes.{refusal}
 use Rattle.machine.specs.Machine.{deedOf, stepTo, step, last}
@@ -64,7 +64,7 @@ makes-formed : (w : Parameters) (m : Machine) (c : Command) → CommandFits c �
 unfolding stepOf
 makes-formed w m (Alter c) f a e =
     let p = present-formed w m a in
-    change-keeps (boundsIn w) (present m) c p (allows (boundsIn w) (present m) (to-facts (boundsIn w) (present m) p .0) c f (change-passed w m c e .0))
+    change-effect (Makes (λ s. Formed w (s .graph))) c m (λ _. change-keeps (boundsIn w) (present m) c p (allows (boundsIn w) (present m) (to-facts (boundsIn w) (present m) p .0) c f (change-passed w m c e .0))) tt
 makes-formed w m (Recall h) f a e = history-makes (λ s. Formed w (s .graph)) (w .changes) h m
 makes-formed w m (Ask q) f a e = tt
 makes-formed w m (Quote p) f a e = tt

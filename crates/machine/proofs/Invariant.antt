@@ -18,7 +18,7 @@ use Rattle.commands.specs.Calls.{Call}
 use Rattle.commands.specs.Commands.{commandOf}
 use Rattle.commands.specs.Fits.{Words}
 use Rattle.machine.proofs.Accepts.{accepted-step, refused-step}
-use Rattle.machine.proofs.Families.{Makes, history-makes}
+use Rattle.machine.proofs.Families.{Makes, change-effect, history-makes}
 use Rattle.machine.specs.Calls.{Parameters}
 use Rattle.machine.specs.Codes.{free, refusal}
 use Rattle.machine.specs.Machine.{deedOf, stepTo, step, last}
@@ -39,7 +39,7 @@ costed-cut (suc p) s (more q a) h = more q (costed-cut p s a h)
 
 makes-costed : (w : Parameters) (m : Machine) (c : Command) → Makes (λ s. 1 ≤ s .cost) (deedOf w c m .effect)
 unfolding stepOf
-makes-costed w m (Alter c) = cost-real c (present m)
+makes-costed w m (Alter c) = change-effect (Makes (λ s. 1 ≤ s .cost)) c m (λ _. cost-real c (present m)) tt
 makes-costed w m (Recall h) = history-makes (λ s. 1 ≤ s .cost) (w .changes) h m
 makes-costed w m (Ask q) = tt
 makes-costed w m (Quote p) = tt

@@ -16,3 +16,4 @@ pub mod Ends
 pub mod Lowest
 pub mod OnWords
 pub mod RuleLaws
+pub mod StepsAlter

@@ -9,9 +9,10 @@ use lib.Dec.{leb, ltb}
 use borrow.Author.Tests.{leb-true, ltb-true, lt-ltb}
 use Rattle.lists.specs.Choice.{_⇒_else_}
 use Rattle.lists.specs.Lists.{All, done, more, upto}
-use Rattle.lists.proofs.Bools.{ft}
+use Rattle.lists.proofs.Bools.{and-true}
 use Rattle.lists.proofs.Sums.{all-bool}
 use Rattle.graph.specs.Changes.{cost}
+use Rattle.graph.specs.Same.{alters}
 use Rattle.history.specs.Machine.{Machine, present}
 use Rattle.commands.specs.Calls.{Call}
 use Rattle.machine.specs.Calls.{Parameters}
@@ -78,13 +79,10 @@ module _ (w : Parameters) (m : Machine) (c : Command) where
   none-given = (none-to (codeTable w m (callOf c)) coded, none-from)
 
 -- what row 10 says
-pub no-room : (w : Parameters) (m : Machine) (x : Call) → (noRoom (w .changes) m x ≡ true) ↔ ((isChange (x .kind) ≡ true) × (free w m < cost (changeOf x) (present m)))
+pub no-room : (w : Parameters) (m : Machine) (x : Call) → (noRoom (w .changes) m x ≡ true) ↔ ((isChange (x .kind) ≡ true) × (free w m < cost (changeOf x) (present m)) × (alters (changeOf x) (present m) ≡ true))
 unfolding free
-no-room w m x = (λ e. go (isChange (x .kind)) refl e, λ h. rw (h .0) (lt-ltb _ _ (h .1)))
-  where
-    go : (t : Bool) → isChange (x .kind) ≡ t → (t && ltb (free w m) (cost (changeOf x) (present m))) ≡ true → (isChange (x .kind) ≡ true) × (free w m < cost (changeOf x) (present m))
-    go true f e = (f, ltb-true _ _ e)
-    go false f e = ft e
+no-room w m x =
+    (λ e. let p = and-true _ _ e in let q = and-true _ _ (p .1) in (p .0, ltb-true _ _ (q .0), q .1), λ h. rw (h .0, lt-ltb _ _ (h .1), h .2))
 
 -- ---- the table of a list
 

@@ -25,6 +25,7 @@ use Rattle.machine.specs.Calls.{Parameters}
 use Rattle.machine.specs.Codes.{refusal}
 use Rattle.machine.specs.Machine.{deedOf, answerTo, answer, step, last}
 use Rattle.machine.specs.Marks.{eventOf, events, setsBy, setsMark, endsBy, endsMark, Kept, set-here, set-later, goTo, MarkSentence}
+use Rattle.machine.proofs.Families.{change-effect}
 use Rattle.machine.proofs.Accepts.{code-is, accepted-step, refused-step, not-refused}
 use Rattle.machine.proofs.Stands.{gone-at, cut-at, set-to, drop-to, KeptOrStanding, last-to, kept-from}
 
@@ -66,7 +67,7 @@ Inside nothing m = Unit {0}
 
 inside : (w : Parameters) (m : Machine) (c : Command) → PlacesInRange m → (refusal w m c == 0) ≡ true → Inside (deedOf w c m .effect) m
 unfolding Inside
-inside w m (Alter c) h f = tt
+inside w m (Alter c) h f = change-effect (λ e. Inside e m) c m (λ _. tt) tt
 inside w m (Recall (SetMark k)) h f = tt
 inside w m (Recall (DropMark k)) h f = tt
 inside w m (Recall Undo) h f = omega (arith, h .place-in)
@@ -205,7 +206,7 @@ sets-range w m (Recall Commit) k f e = ft e
 sets-range w m (Recall (Between i j)) k f e = ft e
 sets-range w m (Recall StandingMarks) k f e = ft e
 sets-range w m (Recall Free) k f e = ft e
-sets-range w m (Alter c) k f e = ft e
+sets-range w m (Alter c) k f e = change-effect (λ i. setsBy i k ≡ true → within 1 64 k ≡ true) c m (λ _ j. ft j) (λ j. ft j) e
 sets-range w m (Ask q) k f e = ft e
 sets-range w m (Quote p) k f e = ft e
 sets-range w m Unknown k f e = ft e

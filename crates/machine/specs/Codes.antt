@@ -9,6 +9,7 @@ use Rattle.lists.specs.Lists.{_is_}
 use Rattle.graph.specs.declared.Change.{Change}
 use Rattle.graph.specs.Graph.{Graph, hasVertex, hasEdge, this, isReading}
 use Rattle.graph.specs.WellFormed.{Bounds}
+use Rattle.graph.specs.Same.{alters}
 use Rattle.history.specs.Machine.{Machine, freeOf, present}
 use Rattle.machine.specs.HistoryCodes.{historyTable}
 use Rattle.pricing.specs.Prices.{nothingHeard}
@@ -100,7 +101,7 @@ lastTable g x =
 
 -- 10 to 14 are the history's
 unfoldable pub codeTable : Parameters → Machine → Call → List Row
-unfolding changeOf nothingHeard
+unfolding changeOf alters nothingHeard
 codeTable w m x = chartTable (boundsIn w) (present m) x ++ (historyTable (w .changes) m x ++ lastTable (present m) x)
 
 -- the code of a command, 0 where it is accepted

@@ -8,6 +8,7 @@ use Rattle.lists.specs.Choice.{_⇒_else_, _==_, within}
 use Rattle.lists.specs.Lists.{_is_}
 use Rattle.graph.specs.declared.Change.{Change}
 use Rattle.graph.specs.Changes.{cost}
+use Rattle.graph.specs.Same.{alters}
 use Rattle.commands.specs.Calls.{Call}
 use Rattle.commands.specs.Tables.{Row, row, some}
 use Rattle.commands.specs.Commands.{changeOf}
@@ -22,9 +23,10 @@ marksNamed x =
     (x .kind == 49) ⇒ (x .a ∷ x .b ∷ []) else
     []
 
--- the cost is more than the free changes
+-- a change that alters the graph costs more than is free (REFERENCE 7.10); the numbers are compared first, so that a
+-- computed case compares graphs only where they decide
 abbrev pub tooDear : ℕ → Machine → Change → Bool
-tooDear capacity m c = ltb (freeOf capacity (m .line)) (cost c (present m))
+tooDear capacity m c = ltb (freeOf capacity (m .line)) (cost c (present m)) && alters c (present m)
 
 -- REFERENCE 7.10
 abbrev pub noRoom : ℕ → Machine → Call → Bool

@@ -4,6 +4,7 @@ use mathlib.Core.Path.{_≡_}
 use Rattle.lists.specs.Choice.{_⇒_else_, _==_}
 use Rattle.graph.specs.declared.Change.{Change}
 use Rattle.graph.specs.Changes.{cost}
+use Rattle.graph.specs.Same.{alters}
 use Rattle.commands.specs.declared.HistoryCall.{HistoryCall}
 use Rattle.commands.specs.declared.HistoryCall.the-variants.{SetMark, DropMark, Undo, Redo, GoTo, Commit, Between, Standing, Free}
 use Rattle.commands.specs.Tables.{lowest}
@@ -33,9 +34,9 @@ pub record Deed : Type 0 where
 abbrev pub deed : ℕ → Effect → Deed
 deed n e = record { number = n; effect = e }
 
--- a change answers its cost (REFERENCE 3.10)
+-- a change that alters the graph answers its cost and is a step; any other answers 0 and is none (REFERENCE 3.10, 3.11)
 abbrev pub changeDeed : Change → Machine → Deed
-changeDeed c m = deed (cost c (present m)) (steps (stepOf c (present m)))
+changeDeed c m = alters c (present m) ⇒ deed (cost c (present m)) (steps (stepOf c (present m))) else deed 0 nothing
 
 -- REFERENCE 4.5 to 4.10
 abbrev pub historyDeed : ℕ → HistoryCall → Machine → Deed

@@ -9,6 +9,7 @@ use Rattle.graph.specs.Changes.{changed}
 use Rattle.graph.specs.Questions as questions
 use Rattle.image.specs.Image.{save}
 use Rattle.history.specs.Machine.{Machine, stands, fresh, present}
+use Rattle.graph.specs.Same.{alters}
 use Rattle.history.specs.Machine.{stepOf}
 use Rattle.commands.specs.Calls.{Call}
 use Rattle.commands.specs.Commands.{changeOf, historyOf, questionOf, commandOf}
@@ -45,16 +46,16 @@ making =
 
 -- the list of v as the calls build it from the empty graph
 unfoldable pub builtList : ℕ → List ℕ
-unfolding last stepTo commandOf changeOf historyOf questionOf refusal stepOf changed
+unfolding last stepTo commandOf changeOf historyOf questionOf alters refusal stepOf changed
 builtList v = listOf (present (last parameters (fresh empty) making)) v
 
 -- each case starts anew: the machine after the calls, and the words of their answers
 unfoldable pub then : List Call → Machine
-unfolding last stepTo commandOf changeOf historyOf questionOf refusal stepOf changed
+unfolding last stepTo commandOf changeOf historyOf questionOf alters refusal stepOf changed
 then xs = last parameters (fresh seven) xs
 
 unfoldable pub answersAfter : List Call → List ℕ
-unfolding answers answerTo stepTo commandOf changeOf historyOf questionOf refusal stepOf changed below questions.degree
+unfolding answers answerTo stepTo commandOf changeOf historyOf questionOf alters refusal stepOf changed below questions.degree
 answersAfter xs = answerWords (answers parameters (fresh seven) xs)
 
 abbrev pub listAfter : List Call → ℕ → List ℕ

@@ -1,12 +1,12 @@
--- A change that is refused, one that is made, and what it takes to make it.
+-- A change that is refused, one that is tried, and what it takes to make it.
 use Prim.Native.Nat.{ℕ, _+_, _*_, _≤_}
 use mathlib.Core.Path.{_≡_, refl, sym, ap, subst, _∙_}
 use mathlib.Core.Logic.{_≢_}
-use mathlib.Core.Bool.{Bool, true, false}
+use mathlib.Core.Bool.{Bool, true, false, _&&_}
 use mathlib.Core.List.{List}
 use native.Mathlib.Omega.{arith}
 use lib.ListN.{length}
-use borrow.Author.Tests.{eqb-true, eqb-false}
+use borrow.Author.Tests.{eqb-true, eqb-false, ne-eqb}
 use Rattle.lists.specs.Choice.{_==_, _⇒_else_}
 use denote.Enum.Declared.{tagOf}
 use Rattle.graph.proofs.Change.{the-type}
@@ -19,6 +19,7 @@ use Rattle.graph.specs.Graph.{Graph, edge, readingKind, decimetres, readingOf}
 use Rattle.graph.specs.WellFormed.{Bounds}
 use Rattle.graph.specs.Changes.{EdgeThere, Allowed}
 use Rattle.graph.specs.Plans.{plan}
+use Rattle.graph.specs.Same.{idle}
 use Rattle.graph.proofs.Readings.{reading-words}
 use Rattle.graph.proofs.PlanLaws.{plan-applies}
 use Rattle.tables.specs.declared.Head.{Head}
@@ -38,19 +39,19 @@ use Rattle.checks.specs.Held.{HoldsVE}
 use Rattle.commands.specs.Fits.{ChangeFits}
 use Rattle.machine.proofs.Allows.{allows}
 use Rattle.singles.specs.declared.Made.{Made}
-use Rattle.singles.specs.One.{Stands, ReadingWords, Ready, Makes, One, withRoom}
+use Rattle.singles.specs.One.{Stands, ReadingWords, Ready, tried, Tries, One, withRoom}
 
-pub no-code : (free c : ℕ) → withRoom free c ≡ 0 → c ≡ 0
-no-code free c e = go (c == 0) refl e
+pub no-code : (keeps : Bool) (free c : ℕ) → withRoom keeps free c ≡ 0 → c ≡ 0
+no-code keeps free c e = go (c == 0) refl e
   where
-    go : (p : Bool) → (c == 0) ≡ p → (p ⇒ ((free == 0) ⇒ 10 else 0) else c) ≡ 0 → c ≡ 0
+    go : (p : Bool) → (c == 0) ≡ p → (p ⇒ tried keeps free else c) ≡ 0 → c ≡ 0
     go true q z = eqb-true c 0 q
     go false q z = z
 
-pub some-room : (free c : ℕ) → withRoom free c ≡ 0 → free ≢ 0
+pub some-room : (free c : ℕ) → withRoom false free c ≡ 0 → free ≢ 0
 some-room free c e = go (c == 0) refl (free == 0) refl e
   where
-    go : (p : Bool) → (c == 0) ≡ p → (r : Bool) → (free == 0) ≡ r → (p ⇒ (r ⇒ 10 else 0) else c) ≡ 0 → free ≢ 0
+    go : (p : Bool) → (c == 0) ≡ p → (r : Bool) → (free == 0) ≡ r → _≡_ {A = ℕ} (p ⇒ (r ⇒ 10 else 0) else c) 0 → free ≢ 0
     go true q true k z = absurd (omega arith)
     go true q false k z = eqb-false free 0 k
     go false q r k z = absurd (eqb-false c 0 q z)
@@ -108,31 +109,31 @@ module _ (b : Bounds) (s : State) (z : Sized b s) (g : Graph) (h : Holds s g) wh
 
 -- ---- one change
 
-module _ (x : Change) (types i free : ℕ) (h : Head) (vt et t : List ℕ) (f : ChangeFits x) (c code : ℕ)
-    (e : (g : Graph) → HoldsVE vt et g → c ≡ changeCode (boundsOf vt et types) g x) (w : code ≡ withRoom free c) where
-  pub one-refused : code ≢ 0 → (k n : ℕ) (h′ : Head) → (h′ ≡ h) × (k ≡ code) → One x types i free (st h vt et) t k n (st h′ vt et) t
-  one-refused n k m h′ a = record {
+module _ (x : Change) (types i free : ℕ) (h : Head) (vt et t : List ℕ) (f : ChangeFits x) (c : ℕ)
+    (e : (g : Graph) → HoldsVE vt et g → c ≡ changeCode (boundsOf vt et types) g x) where
+  pub one-refused : c ≢ 0 → {r : Made} → r ≡ record { head = h; code = c; cost = 0 } → One x types i free (st h vt et) t (r .code) (r .cost) (st (r .head) vt et) t
+  one-refused n q = subst (λ (y : Made). One x types i free (st h vt et) t (y .code) (y .cost) (st (y .head) vt et) t) (sym q) (record {
     fits = f;
-    answers = λ g y. a .1 ∙ w ∙ ap (withRoom free) (e g y);
-    stays = λ _. ap (λ (z : Head). st z vt et) (a .0);
-    keeps = λ _. refl;
-    made = λ z. absurd (n (sym (a .1) ∙ z));
-  }
+    answers = λ g y. ap (λ (p : Bool). p ⇒ tried (idle (planS x (st h vt et))) free else c) (sym (ne-eqb c 0 n)) ∙ ap (withRoom (idle (planS x (st h vt et))) free) (e g y);
+    stays = λ _. (refl, refl);
+    keeps = λ _ z. absurd (n z);
+    made = λ d. absurd (d refl);
+  })
 
-  -- and no code: it can be made, and there is a row for it
-  pub one-can : code ≡ 0 → OneEdit x → Stands types (st h vt et) × (free ≢ 0 → 12 * i + 12 ≤ length t) → Ready x (st h vt et) × (12 * i + 12 ≤ length t)
+  -- and no code: it can be tried, and there is a row for it where there is room
+  pub one-can : c ≡ 0 → OneEdit x → Stands types (st h vt et) × (free ≢ 0 → 12 * i + 12 ≤ length t) → Ready x (st h vt et) × (free ≢ 0 → 12 * i + 12 ≤ length t)
   one-can z k p =
       let y = p .0 in
-      let a = allows (boundsOf vt et types) (y .graph) (y .holds .sound) x f (sym (e (y .graph) (h, y .holds)) ∙ no-code free c (sym w ∙ z)) in
-      (ready (boundsOf vt et types) (st h vt et) (y .sized) (y .graph) (y .holds) x k a, p .1 (some-room free c (sym w ∙ z)))
+      let a = allows (boundsOf vt et types) (y .graph) (y .holds .sound) x f (sym (e (y .graph) (h, y .holds)) ∙ z) in
+      (ready (boundsOf vt et types) (st h vt et) (y .sized) (y .graph) (y .holds) x k a, p .1)
 
-  pub one-made : code ≡ 0 → (k n : ℕ) (s′ : State) (t′ : List ℕ) → Makes (planS x (st h vt et)) i (st h vt et) t k n s′ t′ → One x types i free (st h vt et) t k n s′ t′
-  one-made z k n s′ t′ m = record {
+  pub one-tried : c ≡ 0 → (k n : ℕ) (s′ : State) (t′ : List ℕ) → Tries (planS x (st h vt et)) i free (st h vt et) t k n s′ t′ → One x types i free (st h vt et) t k n s′ t′
+  one-tried z k n s′ t′ m = record {
     fits = f;
-    answers = λ g y. m .coded ∙ sym z ∙ w ∙ ap (withRoom free) (e g y);
-    stays = λ d. absurd (d (m .coded));
-    keeps = λ d. absurd (d (m .coded));
-    made = λ _. m;
+    answers = λ g y. m .coded ∙ ap (withRoom (idle (planS x (st h vt et))) free) (sym z ∙ e g y);
+    stays = m .stays;
+    keeps = m .keeps;
+    made = m .made;
   }
 
 -- in an arm of the match
@@ -160,11 +161,41 @@ no-deletion (WordAfter a b) o z = omega arith
 
 -- ---- what is written is the plan
 
-pub makes-by : {e e′ : Edit} {i : ℕ} {s : State} {h : Head} {vt et t t′ : List ℕ} {r : Made} → e ≡ e′ → Written e 1 i s t (st h vt et) t′ → r ≡ record { head = h; code = 0; cost = 1 }
-    → Makes e′ i s t (r .code) (r .cost) (st (r .head) vt et) t′
-makes-by {e′ = e′} {i = i} {s = s} {h = h} {vt = vt} {et = et} {t = t} {t′ = t′} p w q =
-    let v = subst (λ (x : Edit). Written x 1 i s t (st h vt et) t′) p w in
-    subst (λ (x : Made). Makes e′ i s t (x .code) (x .cost) (st (x .head) vt et) t′) (sym q) (record { coded = refl; costs = refl; written = v })
+-- nothing is written where the edit keeps the graph, or where there is no room
+module _ {e : Edit} {i free : ℕ} {h : Head} {vt et t : List ℕ} {r : Made} where
+  pub tries-kept : idle e ≡ true → r ≡ record { head = h; code = 0; cost = 0 } → Tries e i free (st h vt et) t (r .code) (r .cost) (st (r .head) vt et) t
+  tries-kept a q = subst (λ (y : Made). Tries e i free (st h vt et) t (y .code) (y .cost) (st (y .head) vt et) t) (sym q) (record {
+    coded = ap (λ (p : Bool). tried p free) (sym a);
+    stays = λ _. (refl, refl);
+    keeps = λ _ _. a;
+    made = λ d. absurd (d refl);
+  })
+
+  pub tries-full : idle e ≡ false → free ≡ 0 → r ≡ record { head = h; code = 10; cost = 0 } → Tries e i free (st h vt et) t (r .code) (r .cost) (st (r .head) vt et) t
+  tries-full a z q = subst (λ (y : Made). Tries e i free (st h vt et) t (y .code) (y .cost) (st (y .head) vt et) t) (sym q) (record {
+    coded = rw (a, z);
+    stays = λ _. (refl, refl);
+    keeps = λ _ d. absurd (omega arith);
+    made = λ d. absurd (d refl);
+  })
+
+pub tries-made : {e : Edit} {i free : ℕ} {s : State} {h : Head} {vt et t t′ : List ℕ} {r : Made} → idle e ≡ false → free ≢ 0 → Written e 1 i s t (st h vt et) t′ →
+    r ≡ record { head = h; code = 0; cost = 1 } → Tries e i free s t (r .code) (r .cost) (st (r .head) vt et) t′
+tries-made {e = e} {i = i} {free = free} {s = s} {h = h} {vt = vt} {et = et} {t = t} {t′ = t′} a n w q =
+    subst (λ (y : Made). Tries e i free s t (y .code) (y .cost) (st (y .head) vt et) t′) (sym q) (record {
+      coded = rw (a, ne-eqb free 0 n);
+      stays = λ d. absurd (omega arith);
+      keeps = λ d. absurd (omega arith);
+      made = λ _. record { coded = refl; costs = refl; alters = a; written = w };
+    })
+
+pub tries-by : {e e′ : Edit} {i free : ℕ} {s s′ : State} {t t′ : List ℕ} {k n : ℕ} → e ≡ e′ → Tries e i free s t k n s′ t′ → Tries e′ i free s t k n s′ t′
+tries-by {i = i} {free = free} {s = s} {s′ = s′} {t = t} {t′ = t′} {k = k} {n = n} p w = subst (λ (x : Edit). Tries x i free s t k n s′ t′) p w
+
+-- the words of an edge as the edit compares them
+pub edge-idle : (n s s2 k d k2 d2 : ℕ) → IsWords k d → IsWords k2 d2 →
+    idle (SetEdge n s (readingOf k d) s2 (readingOf k2 d2)) ≡ ((s == s2) && ((k == k2) && (d == d2)))
+edge-idle n s s2 k d k2 d2 u v = rw (u .0, u .1, v .0, v .1)
 
 pub words-by : {k k′ d d′ : ℕ} → k ≡ k′ → d ≡ d′ → IsWords k′ d′ → IsWords k d
 words-by p q w = rw (p, q) w

@@ -2,12 +2,14 @@
 use Prim.Native.Nat.{ℕ}
 use mathlib.Core.Path.{_≡_}
 use mathlib.Core.Logic.{_≢_}
+use mathlib.Core.Bool.{Bool, true, false}
 use mathlib.Core.List.{List}
 use Rattle.lists.specs.Choice.{_==_, _⇒_else_}
 use Rattle.graph.specs.declared.Edit.{Edit}
 use Rattle.graph.specs.declared.Change.{Change}
 use Rattle.graph.specs.declared.Change.the-variants.{CreateVertex, DeleteVertex, CreateEdge, DeleteEdge, RetypeVertex, RetypeEdge, SetValue, SetReading, SetAlpha, SetOmega, VertexBefore, VertexAfter, EdgeBefore, EdgeAfter, WordBefore, WordAfter}
 use Rattle.graph.specs.Graph.{Graph}
+use Rattle.graph.specs.Same.{idle}
 use Rattle.tables.specs.Tables.{State, ekind, edecimetres}
 use Rattle.tables.specs.Edits.{Can}
 use Rattle.tables.specs.Holds.{Holds}
@@ -48,19 +50,31 @@ ReadingWords (WordAfter a b) s = Unit {0}
 abbrev pub Ready : Change → State → Type 0
 Ready c s = CanPlan c s × Can (planS c s) s × ReadingWords c s
 
--- the edit is row i, a step of cost 1, and is carried out
+-- the edit alters something, is row i, a step of cost 1, and is carried out
 pub record Makes (e : Edit) (i : ℕ) (s : State) (t : List ℕ) (code cost : ℕ) (s′ : State) (t′ : List ℕ) : Type 0 where
   pub coded : code ≡ 0
   pub costs : cost ≡ 1
+  pub alters : idle e ≡ false
   pub written : Written e 1 i s t s′ t′
 
--- the lowest code of a change of cost 1
-abbrev pub withRoom : ℕ → ℕ → ℕ
-withRoom free c = (c == 0) ⇒ ((free == 0) ⇒ 10 else 0) else c
+-- the code of an edit of cost 1: room is asked only of one that alters something
+abbrev pub tried : Bool → ℕ → ℕ
+tried keeps free = keeps ⇒ 0 else ((free == 0) ⇒ 10 else 0)
+
+-- an edit tried; cost 0 says that nothing was written
+pub record Tries (e : Edit) (i free : ℕ) (s : State) (t : List ℕ) (code cost : ℕ) (s′ : State) (t′ : List ℕ) : Type 0 where
+  pub coded : code ≡ tried (idle e) free
+  pub stays : cost ≡ 0 → (s′ ≡ s) × (t′ ≡ t)
+  pub keeps : cost ≡ 0 → code ≡ 0 → idle e ≡ true
+  pub made : cost ≢ 0 → Makes e i s t code cost s′ t′
+
+-- the lowest code of a change of cost 1: one of 2 to 9, then that of its edit
+abbrev pub withRoom : Bool → ℕ → ℕ → ℕ
+withRoom keeps free c = (c == 0) ⇒ tried keeps free else c
 
 pub record One (x : Change) (types i free : ℕ) (s : State) (t : List ℕ) (code cost : ℕ) (s′ : State) (t′ : List ℕ) : Type 0 where
   pub fits : ChangeFits x
-  pub answers : (g : Graph) → HoldsVE (s .vt) (s .et) g → code ≡ withRoom free (changeCode (boundsOf (s .vt) (s .et) types) g x)
-  pub stays : code ≢ 0 → s′ ≡ s
-  pub keeps : code ≢ 0 → t′ ≡ t
-  pub made : code ≡ 0 → Makes (planS x s) i s t code cost s′ t′
+  pub answers : (g : Graph) → HoldsVE (s .vt) (s .et) g → code ≡ withRoom (idle (planS x s)) free (changeCode (boundsOf (s .vt) (s .et) types) g x)
+  pub stays : cost ≡ 0 → (s′ ≡ s) × (t′ ≡ t)
+  pub keeps : cost ≡ 0 → code ≡ 0 → idle (planS x s) ≡ true
+  pub made : cost ≢ 0 → Makes (planS x s) i s t code cost s′ t′

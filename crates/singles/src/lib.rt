@@ -6,20 +6,22 @@ ghost use Prim.Native.Nat.{_+_, _*_, _≤_};
 ghost use lib.ListN.{length};
 ghost use Rattle.tables.specs.Tables.{st};
 ghost use Rattle.queries.specs.Plans.{OneEdit};
-ghost use Rattle.singles.specs.One.{Stands, One, withRoom};
+ghost use Rattle.singles.specs.One.{Stands, One};
 
 mod adding; // an edit written down and carried out
 mod writing; // the edit of each change, read off the tables and made
 
-// The head after a change, its code (0 where it is made) and its cost: 1, and 0 where it is refused.
+// The head after a change, its code (0 where it is accepted) and its cost: 1 where it altered the graph, else 0, also where
+// it is refused.
 pub struct Made {
     pub head: Head,
     pub code: u32,
     pub cost: u32,
 }
 
-fn refused(h: Head, code: u32) -> Made
-    ensures { λ r. ⌜ (r .head ≡ h) × (r .code ≡ code) ⌝ }
+// A change that wrote nothing: refused, or one that alters nothing.
+fn unchanged(h: Head, code: u32) -> Made
+    ensures { λ r. ⌜ r ≡ record { head = h; code = code; cost = 0 } ⌝ }
 {
     let head = tables::same(h);
     Made {
@@ -29,17 +31,15 @@ fn refused(h: Head, code: u32) -> Made
     }
 }
 
-// The code of a change of cost 1, from its codes 2 to 9 and the room.
-fn with_room(code: u32, free: u32) -> u32
-    ensures { λ r. ⌜ r ≡ withRoom free code ⌝ }
+// A change that was made.
+fn altered(head: Head) -> Made
+    ensures { λ r. ⌜ r ≡ record { head = head; code = 0; cost = 1 } ⌝ }
 {
-    if code != 0 {
-        return code;
+    Made {
+        head,
+        code: 0,
+        cost: 1,
     }
-    if free == 0 {
-        return 10;
-    }
-    0
 }
 
 // Kind 1.
@@ -59,11 +59,10 @@ fn create_vertex(
     ensures { λ r. ⌜ One (Change.CreateVertex n s x) types i free (st h (now (vt .entry)) (now (et .entry))) (now (t .entry)) (r .code) (r .cost) (st (r .head) (now (vt .exit)) (now (et .entry))) (now (t .exit)) ⌝ }
 {
     let c = checks::create_vertex(vt, types, n, s);
-    let code = with_room(c, free);
-    if code != 0 {
-        return refused(h, code);
+    if c != 0 {
+        return unchanged(h, c);
     }
-    writing::create_vertex(h, vt, et, t, i, n, s, x)
+    writing::create_vertex(h, vt, et, t, i, free, n, s, x)
 }
 
 // Kind 3.
@@ -84,11 +83,10 @@ fn create_edge(
     ensures { λ r. ⌜ One (Change.CreateEdge n a z s) types i free (st h (now (vt .entry)) (now (et .entry))) (now (t .entry)) (r .code) (r .cost) (st (r .head) (now (vt .exit)) (now (et .exit))) (now (t .exit)) ⌝ }
 {
     let c = checks::create_edge(vt, et, types, n, a, z, s);
-    let code = with_room(c, free);
-    if code != 0 {
-        return refused(h, code);
+    if c != 0 {
+        return unchanged(h, c);
     }
-    writing::create_edge(h, vt, et, t, i, n, a, z, s)
+    writing::create_edge(h, vt, et, t, i, free, n, a, z, s)
 }
 
 // Kind 4.
@@ -106,11 +104,10 @@ fn delete_edge(
     ensures { λ r. ⌜ One (Change.DeleteEdge n) types i free (st h (now (vt .entry)) (now (et .entry))) (now (t .entry)) (r .code) (r .cost) (st (r .head) (now (vt .exit)) (now (et .exit))) (now (t .exit)) ⌝ }
 {
     let c = checks::edge_code(et, n);
-    let code = with_room(c, free);
-    if code != 0 {
-        return refused(h, code);
+    if c != 0 {
+        return unchanged(h, c);
     }
-    writing::delete_edge(h, vt, et, t, i, n)
+    writing::delete_edge(h, vt, et, t, i, free, n)
 }
 
 // Kind 5.
@@ -129,11 +126,10 @@ fn retype_vertex(
     ensures { λ r. ⌜ One (Change.RetypeVertex a s2) types i free (st h (now (vt .entry)) (now (et .entry))) (now (t .entry)) (r .code) (r .cost) (st (r .head) (now (vt .exit)) (now (et .entry))) (now (t .exit)) ⌝ }
 {
     let c = checks::retype_vertex(vt, types, a, s2);
-    let code = with_room(c, free);
-    if code != 0 {
-        return refused(h, code);
+    if c != 0 {
+        return unchanged(h, c);
     }
-    writing::retype_vertex(h, vt, et, t, i, a, s2)
+    writing::retype_vertex(h, vt, et, t, i, free, a, s2)
 }
 
 // Kind 6.
@@ -152,11 +148,10 @@ fn retype_edge(
     ensures { λ r. ⌜ One (Change.RetypeEdge a s2) types i free (st h (now (vt .entry)) (now (et .entry))) (now (t .entry)) (r .code) (r .cost) (st (r .head) (now (vt .entry)) (now (et .exit))) (now (t .exit)) ⌝ }
 {
     let c = checks::retype_edge(et, types, a, s2);
-    let code = with_room(c, free);
-    if code != 0 {
-        return refused(h, code);
+    if c != 0 {
+        return unchanged(h, c);
     }
-    writing::retype_edge(h, vt, et, t, i, a, s2)
+    writing::retype_edge(h, vt, et, t, i, free, a, s2)
 }
 
 // Kind 7.
@@ -175,11 +170,10 @@ fn set_value(
     ensures { λ r. ⌜ One (Change.SetValue a x2) types i free (st h (now (vt .entry)) (now (et .entry))) (now (t .entry)) (r .code) (r .cost) (st (r .head) (now (vt .exit)) (now (et .entry))) (now (t .exit)) ⌝ }
 {
     let c = checks::vertex_code(vt, a);
-    let code = with_room(c, free);
-    if code != 0 {
-        return refused(h, code);
+    if c != 0 {
+        return unchanged(h, c);
     }
-    writing::set_value(h, vt, et, t, i, a, x2)
+    writing::set_value(h, vt, et, t, i, free, a, x2)
 }
 
 // Kind 8.
@@ -199,11 +193,10 @@ fn set_reading(
     ensures { λ r. ⌜ One (Change.SetReading a k2 d2) types i free (st h (now (vt .entry)) (now (et .entry))) (now (t .entry)) (r .code) (r .cost) (st (r .head) (now (vt .entry)) (now (et .exit))) (now (t .exit)) ⌝ }
 {
     let c = checks::set_reading(et, a, k2, d2);
-    let code = with_room(c, free);
-    if code != 0 {
-        return refused(h, code);
+    if c != 0 {
+        return unchanged(h, c);
     }
-    writing::set_reading(h, vt, et, t, i, a, k2, d2)
+    writing::set_reading(h, vt, et, t, i, free, a, k2, d2)
 }
 
 // Kind 9.
@@ -222,11 +215,10 @@ fn set_alpha(
     ensures { λ r. ⌜ One (Change.SetAlpha a u) types i free (st h (now (vt .entry)) (now (et .entry))) (now (t .entry)) (r .code) (r .cost) (st (r .head) (now (vt .exit)) (now (et .exit))) (now (t .exit)) ⌝ }
 {
     let c = checks::set_end(vt, et, a, u);
-    let code = with_room(c, free);
-    if code != 0 {
-        return refused(h, code);
+    if c != 0 {
+        return unchanged(h, c);
     }
-    writing::word_last(h, vt, et, t, i, 2 * a, u)
+    writing::word_last(h, vt, et, t, i, free, 2 * a, u)
 }
 
 // Kind 10.
@@ -245,11 +237,10 @@ fn set_omega(
     ensures { λ r. ⌜ One (Change.SetOmega a u) types i free (st h (now (vt .entry)) (now (et .entry))) (now (t .entry)) (r .code) (r .cost) (st (r .head) (now (vt .exit)) (now (et .exit))) (now (t .exit)) ⌝ }
 {
     let c = checks::set_end(vt, et, a, u);
-    let code = with_room(c, free);
-    if code != 0 {
-        return refused(h, code);
+    if c != 0 {
+        return unchanged(h, c);
     }
-    writing::word_last(h, vt, et, t, i, 2 * a + 1, u)
+    writing::word_last(h, vt, et, t, i, free, 2 * a + 1, u)
 }
 
 // Kind 11.
@@ -268,11 +259,10 @@ fn vertex_before(
     ensures { λ r. ⌜ One (Change.VertexBefore a b) types i free (st h (now (vt .entry)) (now (et .entry))) (now (t .entry)) (r .code) (r .cost) (st (r .head) (now (vt .exit)) (now (et .entry))) (now (t .exit)) ⌝ }
 {
     let c = checks::order_vertices(vt, a, b);
-    let code = with_room(c, free);
-    if code != 0 {
-        return refused(h, code);
+    if c != 0 {
+        return unchanged(h, c);
     }
-    writing::vertex_before(h, vt, et, t, i, a, b)
+    writing::vertex_before(h, vt, et, t, i, free, a, b)
 }
 
 // Kind 12.
@@ -291,11 +281,10 @@ fn vertex_after(
     ensures { λ r. ⌜ One (Change.VertexAfter a b) types i free (st h (now (vt .entry)) (now (et .entry))) (now (t .entry)) (r .code) (r .cost) (st (r .head) (now (vt .exit)) (now (et .entry))) (now (t .exit)) ⌝ }
 {
     let c = checks::order_vertices(vt, a, b);
-    let code = with_room(c, free);
-    if code != 0 {
-        return refused(h, code);
+    if c != 0 {
+        return unchanged(h, c);
     }
-    writing::vertex_after(h, vt, et, t, i, a, b)
+    writing::vertex_after(h, vt, et, t, i, free, a, b)
 }
 
 // Kind 13.
@@ -314,11 +303,10 @@ fn edge_before(
     ensures { λ r. ⌜ One (Change.EdgeBefore a b) types i free (st h (now (vt .entry)) (now (et .entry))) (now (t .entry)) (r .code) (r .cost) (st (r .head) (now (vt .entry)) (now (et .exit))) (now (t .exit)) ⌝ }
 {
     let c = checks::order_edges(et, a, b);
-    let code = with_room(c, free);
-    if code != 0 {
-        return refused(h, code);
+    if c != 0 {
+        return unchanged(h, c);
     }
-    writing::edge_before(h, vt, et, t, i, a, b)
+    writing::edge_before(h, vt, et, t, i, free, a, b)
 }
 
 // Kind 14.
@@ -337,11 +325,10 @@ fn edge_after(
     ensures { λ r. ⌜ One (Change.EdgeAfter a b) types i free (st h (now (vt .entry)) (now (et .entry))) (now (t .entry)) (r .code) (r .cost) (st (r .head) (now (vt .entry)) (now (et .exit))) (now (t .exit)) ⌝ }
 {
     let c = checks::order_edges(et, a, b);
-    let code = with_room(c, free);
-    if code != 0 {
-        return refused(h, code);
+    if c != 0 {
+        return unchanged(h, c);
     }
-    writing::edge_after(h, vt, et, t, i, a, b)
+    writing::edge_after(h, vt, et, t, i, free, a, b)
 }
 
 // Kind 15.
@@ -360,11 +347,10 @@ fn word_before(
     ensures { λ r. ⌜ One (Change.WordBefore a b) types i free (st h (now (vt .entry)) (now (et .entry))) (now (t .entry)) (r .code) (r .cost) (st (r .head) (now (vt .exit)) (now (et .exit))) (now (t .exit)) ⌝ }
 {
     let c = checks::order_words(et, a, b);
-    let code = with_room(c, free);
-    if code != 0 {
-        return refused(h, code);
+    if c != 0 {
+        return unchanged(h, c);
     }
-    writing::word_before(h, vt, et, t, i, a, b)
+    writing::word_before(h, vt, et, t, i, free, a, b)
 }
 
 // Kind 16.
@@ -383,11 +369,10 @@ fn word_after(
     ensures { λ r. ⌜ One (Change.WordAfter a b) types i free (st h (now (vt .entry)) (now (et .entry))) (now (t .entry)) (r .code) (r .cost) (st (r .head) (now (vt .exit)) (now (et .exit))) (now (t .exit)) ⌝ }
 {
     let c = checks::order_words(et, a, b);
-    let code = with_room(c, free);
-    if code != 0 {
-        return refused(h, code);
+    if c != 0 {
+        return unchanged(h, c);
     }
-    writing::word_after(h, vt, et, t, i, a, b)
+    writing::word_after(h, vt, et, t, i, free, a, b)
 }
 
 // Any change but the deletion of a vertex: row i is its row, free the room in the journal.
@@ -406,7 +391,7 @@ pub fn make(
 {
     match change {
         Change::CreateVertex(n, s, x) => create_vertex(h, vt, et, t, types, i, free, n, s, x),
-        Change::DeleteVertex(_) => refused(h, 1),
+        Change::DeleteVertex(_) => unchanged(h, 1),
         Change::CreateEdge(n, a, z, s) => create_edge(h, vt, et, t, types, i, free, n, a, z, s),
         Change::DeleteEdge(n) => delete_edge(h, vt, et, t, types, i, free, n),
         Change::RetypeVertex(a, s2) => retype_vertex(h, vt, et, t, types, i, free, a, s2),

@@ -1,4 +1,4 @@
-// What each change of one edit writes: the words that its edit names are read, then the edit is written down and carried out.
+// What each change of one edit writes: the words that its edit names are read, then the edit is tried.
 use crate::Made;
 use crate::adding;
 use graph::Change;
@@ -19,19 +19,7 @@ ghost use Prim.Native.Nat.{_+_, _*_, _≤_};
 ghost use lib.ListN.{length};
 ghost use Rattle.tables.specs.Tables.{st, VIn, WIn, CanMoveWord, vlast, wprev, wthis};
 ghost use Rattle.queries.specs.Plans.{planS, planWordLast, unless};
-ghost use Rattle.singles.specs.One.{Ready, Makes};
-
-// The head after a change that was made. A change that leaves the graph as it is would cost 0 and write nothing: each
-// function here has read the old words beside the new ones.
-fn made(head: Head) -> Made
-    ensures { λ r. ⌜ r ≡ record { head = head; code = 0; cost = 1 } ⌝ }
-{
-    Made {
-        head,
-        code: 0,
-        cost: 1,
-    }
-}
+ghost use Rattle.singles.specs.One.{Ready, Tries};
 
 // Kind 1.
 pub fn create_vertex(
@@ -40,16 +28,16 @@ pub fn create_vertex(
     et: &[u32],
     t: &mut [u32],
     i: u32,
+    free: u32,
     n: u32,
     s: u32,
     x: u32,
 ) -> Made
-    requires { ⌜ Ready (Change.CreateVertex n s x) (st h (now vt) (now et)) × (12 * i + 12 ≤ length (now t)) ⌝ }
-    ensures { λ r. ⌜ Makes (planS (Change.CreateVertex n s x) (st h (now (vt .entry)) (now (et .entry)))) i (st h (now (vt .entry)) (now (et .entry))) (now (t .entry)) (r .code) (r .cost) (st (r .head) (now (vt .exit)) (now (et .entry))) (now (t .exit)) ⌝ }
+    requires { ⌜ Ready (Change.CreateVertex n s x) (st h (now vt) (now et)) × ((free ≡ 0 → ⊥) → 12 * i + 12 ≤ length (now t)) ⌝ }
+    ensures { λ r. ⌜ Tries (planS (Change.CreateVertex n s x) (st h (now (vt .entry)) (now (et .entry)))) i free (st h (now (vt .entry)) (now (et .entry))) (now (t .entry)) (r .code) (r .cost) (st (r .head) (now (vt .exit)) (now (et .entry))) (now (t .exit)) ⌝ }
 {
     let p = h.vlast;
-    let head = adding::insert_vertex(h, vt, et, t, i, n, s, x, p);
-    made(head)
+    adding::insert_vertex(h, vt, et, t, i, free, n, s, x, p)
 }
 
 // Kind 3.
@@ -59,26 +47,26 @@ pub fn create_edge(
     et: &mut [u32],
     t: &mut [u32],
     i: u32,
+    free: u32,
     n: u32,
     a: u32,
     z: u32,
     s: u32,
 ) -> Made
-    requires { ⌜ Ready (Change.CreateEdge n a z s) (st h (now vt) (now et)) × (12 * i + 12 ≤ length (now t)) ⌝ }
-    ensures { λ r. ⌜ Makes (planS (Change.CreateEdge n a z s) (st h (now (vt .entry)) (now (et .entry)))) i (st h (now (vt .entry)) (now (et .entry))) (now (t .entry)) (r .code) (r .cost) (st (r .head) (now (vt .exit)) (now (et .exit))) (now (t .exit)) ⌝ }
+    requires { ⌜ Ready (Change.CreateEdge n a z s) (st h (now vt) (now et)) × ((free ≡ 0 → ⊥) → 12 * i + 12 ≤ length (now t)) ⌝ }
+    ensures { λ r. ⌜ Tries (planS (Change.CreateEdge n a z s) (st h (now (vt .entry)) (now (et .entry)))) i free (st h (now (vt .entry)) (now (et .entry))) (now (t .entry)) (r .code) (r .cost) (st (r .head) (now (vt .exit)) (now (et .exit))) (now (t .exit)) ⌝ }
 {
     let p = h.elast;
     let out = last_word(vt, a);
     let l = last_word(vt, z);
     let into = choose(a, z, 2 * n, l);
-    let head = adding::insert_edge(h, vt, et, t, i, n, a, z, s, p, out, into);
-    made(head)
+    adding::insert_edge(h, vt, et, t, i, free, n, a, z, s, p, out, into)
 }
 
 // Kind 4.
-pub fn delete_edge(h: Head, vt: &mut [u32], et: &mut [u32], t: &mut [u32], i: u32, n: u32) -> Made
-    requires { ⌜ Ready (Change.DeleteEdge n) (st h (now vt) (now et)) × (12 * i + 12 ≤ length (now t)) ⌝ }
-    ensures { λ r. ⌜ Makes (planS (Change.DeleteEdge n) (st h (now (vt .entry)) (now (et .entry)))) i (st h (now (vt .entry)) (now (et .entry))) (now (t .entry)) (r .code) (r .cost) (st (r .head) (now (vt .exit)) (now (et .exit))) (now (t .exit)) ⌝ }
+pub fn delete_edge(h: Head, vt: &mut [u32], et: &mut [u32], t: &mut [u32], i: u32, free: u32, n: u32) -> Made
+    requires { ⌜ Ready (Change.DeleteEdge n) (st h (now vt) (now et)) × ((free ≡ 0 → ⊥) → 12 * i + 12 ≤ length (now t)) ⌝ }
+    ensures { λ r. ⌜ Tries (planS (Change.DeleteEdge n) (st h (now (vt .entry)) (now (et .entry)))) i free (st h (now (vt .entry)) (now (et .entry))) (now (t .entry)) (r .code) (r .cost) (st (r .head) (now (vt .exit)) (now (et .exit))) (now (t .exit)) ⌝ }
 {
     let a = this(et, 2 * n);
     let z = this(et, 2 * n + 1);
@@ -89,8 +77,7 @@ pub fn delete_edge(h: Head, vt: &mut [u32], et: &mut [u32], t: &mut [u32], i: u3
     let o = word_prev(et, 2 * n);
     let into = word_prev(et, 2 * n + 1);
     let out = choose(o, 2 * n + 1, into, o);
-    let head = adding::remove_edge(h, vt, et, t, i, n, a, z, s, k, d, p, out, into);
-    made(head)
+    adding::remove_edge(h, vt, et, t, i, free, n, a, z, s, k, d, p, out, into)
 }
 
 // Kind 5.
@@ -100,16 +87,16 @@ pub fn retype_vertex(
     et: &[u32],
     t: &mut [u32],
     i: u32,
+    free: u32,
     a: u32,
     s2: u32,
 ) -> Made
-    requires { ⌜ Ready (Change.RetypeVertex a s2) (st h (now vt) (now et)) × (12 * i + 12 ≤ length (now t)) ⌝ }
-    ensures { λ r. ⌜ Makes (planS (Change.RetypeVertex a s2) (st h (now (vt .entry)) (now (et .entry)))) i (st h (now (vt .entry)) (now (et .entry))) (now (t .entry)) (r .code) (r .cost) (st (r .head) (now (vt .exit)) (now (et .entry))) (now (t .exit)) ⌝ }
+    requires { ⌜ Ready (Change.RetypeVertex a s2) (st h (now vt) (now et)) × ((free ≡ 0 → ⊥) → 12 * i + 12 ≤ length (now t)) ⌝ }
+    ensures { λ r. ⌜ Tries (planS (Change.RetypeVertex a s2) (st h (now (vt .entry)) (now (et .entry)))) i free (st h (now (vt .entry)) (now (et .entry))) (now (t .entry)) (r .code) (r .cost) (st (r .head) (now (vt .exit)) (now (et .entry))) (now (t .exit)) ⌝ }
 {
     let s = vertex_type(vt, a);
     let x = vertex_value(vt, a);
-    adding::set_vertex(h, vt, et, t, i, a, s, x, s2, x);
-    made(h)
+    adding::set_vertex(h, vt, et, t, i, free, a, s, x, s2, x)
 }
 
 // Kind 6.
@@ -119,17 +106,17 @@ pub fn retype_edge(
     et: &mut [u32],
     t: &mut [u32],
     i: u32,
+    free: u32,
     a: u32,
     s2: u32,
 ) -> Made
-    requires { ⌜ Ready (Change.RetypeEdge a s2) (st h (now vt) (now et)) × (12 * i + 12 ≤ length (now t)) ⌝ }
-    ensures { λ r. ⌜ Makes (planS (Change.RetypeEdge a s2) (st h (now (vt .entry)) (now (et .entry)))) i (st h (now (vt .entry)) (now (et .entry))) (now (t .entry)) (r .code) (r .cost) (st (r .head) (now (vt .entry)) (now (et .exit))) (now (t .exit)) ⌝ }
+    requires { ⌜ Ready (Change.RetypeEdge a s2) (st h (now vt) (now et)) × ((free ≡ 0 → ⊥) → 12 * i + 12 ≤ length (now t)) ⌝ }
+    ensures { λ r. ⌜ Tries (planS (Change.RetypeEdge a s2) (st h (now (vt .entry)) (now (et .entry)))) i free (st h (now (vt .entry)) (now (et .entry))) (now (t .entry)) (r .code) (r .cost) (st (r .head) (now (vt .entry)) (now (et .exit))) (now (t .exit)) ⌝ }
 {
     let s = edge_type(et, a);
     let k = reading_kind(et, a);
     let d = reading_decimetres(et, a);
-    adding::set_edge(h, vt, et, t, i, a, s, k, d, s2, k, d);
-    made(h)
+    adding::set_edge(h, vt, et, t, i, free, a, s, k, d, s2, k, d)
 }
 
 // Kind 7.
@@ -139,16 +126,16 @@ pub fn set_value(
     et: &[u32],
     t: &mut [u32],
     i: u32,
+    free: u32,
     a: u32,
     x2: u32,
 ) -> Made
-    requires { ⌜ Ready (Change.SetValue a x2) (st h (now vt) (now et)) × (12 * i + 12 ≤ length (now t)) ⌝ }
-    ensures { λ r. ⌜ Makes (planS (Change.SetValue a x2) (st h (now (vt .entry)) (now (et .entry)))) i (st h (now (vt .entry)) (now (et .entry))) (now (t .entry)) (r .code) (r .cost) (st (r .head) (now (vt .exit)) (now (et .entry))) (now (t .exit)) ⌝ }
+    requires { ⌜ Ready (Change.SetValue a x2) (st h (now vt) (now et)) × ((free ≡ 0 → ⊥) → 12 * i + 12 ≤ length (now t)) ⌝ }
+    ensures { λ r. ⌜ Tries (planS (Change.SetValue a x2) (st h (now (vt .entry)) (now (et .entry)))) i free (st h (now (vt .entry)) (now (et .entry))) (now (t .entry)) (r .code) (r .cost) (st (r .head) (now (vt .exit)) (now (et .entry))) (now (t .exit)) ⌝ }
 {
     let s = vertex_type(vt, a);
     let x = vertex_value(vt, a);
-    adding::set_vertex(h, vt, et, t, i, a, s, x, s, x2);
-    made(h)
+    adding::set_vertex(h, vt, et, t, i, free, a, s, x, s, x2)
 }
 
 // Kind 8.
@@ -158,18 +145,18 @@ pub fn set_reading(
     et: &mut [u32],
     t: &mut [u32],
     i: u32,
+    free: u32,
     a: u32,
     k2: u32,
     d2: u32,
 ) -> Made
-    requires { ⌜ Ready (Change.SetReading a k2 d2) (st h (now vt) (now et)) × (12 * i + 12 ≤ length (now t)) ⌝ }
-    ensures { λ r. ⌜ Makes (planS (Change.SetReading a k2 d2) (st h (now (vt .entry)) (now (et .entry)))) i (st h (now (vt .entry)) (now (et .entry))) (now (t .entry)) (r .code) (r .cost) (st (r .head) (now (vt .entry)) (now (et .exit))) (now (t .exit)) ⌝ }
+    requires { ⌜ Ready (Change.SetReading a k2 d2) (st h (now vt) (now et)) × ((free ≡ 0 → ⊥) → 12 * i + 12 ≤ length (now t)) ⌝ }
+    ensures { λ r. ⌜ Tries (planS (Change.SetReading a k2 d2) (st h (now (vt .entry)) (now (et .entry)))) i free (st h (now (vt .entry)) (now (et .entry))) (now (t .entry)) (r .code) (r .cost) (st (r .head) (now (vt .entry)) (now (et .exit))) (now (t .exit)) ⌝ }
 {
     let s = edge_type(et, a);
     let k = reading_kind(et, a);
     let d = reading_decimetres(et, a);
-    adding::set_edge(h, vt, et, t, i, a, s, k, d, s, k2, d2);
-    made(h)
+    adding::set_edge(h, vt, et, t, i, free, a, s, k, d, s, k2, d2)
 }
 
 // Kinds 9 and 10: word w last in the list of u.
@@ -179,18 +166,18 @@ pub fn word_last(
     et: &mut [u32],
     t: &mut [u32],
     i: u32,
+    free: u32,
     w: u32,
     u: u32,
 ) -> Made
-    requires { ⌜ WIn (now et) w × VIn (now vt) u × CanMoveWord w (wthis (now et) w) u (unless w (wprev (now et) w) (vlast (now vt) u)) (st h (now vt) (now et)) × (12 * i + 12 ≤ length (now t)) ⌝ }
-    ensures { λ r. ⌜ Makes (planWordLast (now (vt .entry)) (now (et .entry)) w u) i (st h (now (vt .entry)) (now (et .entry))) (now (t .entry)) (r .code) (r .cost) (st (r .head) (now (vt .exit)) (now (et .exit))) (now (t .exit)) ⌝ }
+    requires { ⌜ WIn (now et) w × VIn (now vt) u × CanMoveWord w (wthis (now et) w) u (unless w (wprev (now et) w) (vlast (now vt) u)) (st h (now vt) (now et)) × ((free ≡ 0 → ⊥) → 12 * i + 12 ≤ length (now t)) ⌝ }
+    ensures { λ r. ⌜ Tries (planWordLast (now (vt .entry)) (now (et .entry)) w u) i free (st h (now (vt .entry)) (now (et .entry))) (now (t .entry)) (r .code) (r .cost) (st (r .head) (now (vt .exit)) (now (et .exit))) (now (t .exit)) ⌝ }
 {
     let v = this(et, w);
     let p = word_prev(et, w);
     let l = last_word(vt, u);
     let q = choose(l, w, p, l);
-    adding::move_word(h, vt, et, t, i, w, v, p, u, q);
-    made(h)
+    adding::move_word(h, vt, et, t, i, free, w, v, p, u, q)
 }
 
 // Kind 11.
@@ -200,17 +187,17 @@ pub fn vertex_before(
     et: &[u32],
     t: &mut [u32],
     i: u32,
+    free: u32,
     a: u32,
     b: u32,
 ) -> Made
-    requires { ⌜ Ready (Change.VertexBefore a b) (st h (now vt) (now et)) × (12 * i + 12 ≤ length (now t)) ⌝ }
-    ensures { λ r. ⌜ Makes (planS (Change.VertexBefore a b) (st h (now (vt .entry)) (now (et .entry)))) i (st h (now (vt .entry)) (now (et .entry))) (now (t .entry)) (r .code) (r .cost) (st (r .head) (now (vt .exit)) (now (et .entry))) (now (t .exit)) ⌝ }
+    requires { ⌜ Ready (Change.VertexBefore a b) (st h (now vt) (now et)) × ((free ≡ 0 → ⊥) → 12 * i + 12 ≤ length (now t)) ⌝ }
+    ensures { λ r. ⌜ Tries (planS (Change.VertexBefore a b) (st h (now (vt .entry)) (now (et .entry)))) i free (st h (now (vt .entry)) (now (et .entry))) (now (t .entry)) (r .code) (r .cost) (st (r .head) (now (vt .exit)) (now (et .entry))) (now (t .exit)) ⌝ }
 {
     let p = vertex_prev(vt, a);
     let x = vertex_prev(vt, b);
     let q = choose(x, a, p, x);
-    let head = adding::move_vertex(h, vt, et, t, i, a, p, q);
-    made(head)
+    adding::move_vertex(h, vt, et, t, i, free, a, p, q)
 }
 
 // Kind 12.
@@ -220,15 +207,15 @@ pub fn vertex_after(
     et: &[u32],
     t: &mut [u32],
     i: u32,
+    free: u32,
     a: u32,
     b: u32,
 ) -> Made
-    requires { ⌜ Ready (Change.VertexAfter a b) (st h (now vt) (now et)) × (12 * i + 12 ≤ length (now t)) ⌝ }
-    ensures { λ r. ⌜ Makes (planS (Change.VertexAfter a b) (st h (now (vt .entry)) (now (et .entry)))) i (st h (now (vt .entry)) (now (et .entry))) (now (t .entry)) (r .code) (r .cost) (st (r .head) (now (vt .exit)) (now (et .entry))) (now (t .exit)) ⌝ }
+    requires { ⌜ Ready (Change.VertexAfter a b) (st h (now vt) (now et)) × ((free ≡ 0 → ⊥) → 12 * i + 12 ≤ length (now t)) ⌝ }
+    ensures { λ r. ⌜ Tries (planS (Change.VertexAfter a b) (st h (now (vt .entry)) (now (et .entry)))) i free (st h (now (vt .entry)) (now (et .entry))) (now (t .entry)) (r .code) (r .cost) (st (r .head) (now (vt .exit)) (now (et .entry))) (now (t .exit)) ⌝ }
 {
     let p = vertex_prev(vt, a);
-    let head = adding::move_vertex(h, vt, et, t, i, a, p, b);
-    made(head)
+    adding::move_vertex(h, vt, et, t, i, free, a, p, b)
 }
 
 // Kind 13.
@@ -238,17 +225,17 @@ pub fn edge_before(
     et: &mut [u32],
     t: &mut [u32],
     i: u32,
+    free: u32,
     a: u32,
     b: u32,
 ) -> Made
-    requires { ⌜ Ready (Change.EdgeBefore a b) (st h (now vt) (now et)) × (12 * i + 12 ≤ length (now t)) ⌝ }
-    ensures { λ r. ⌜ Makes (planS (Change.EdgeBefore a b) (st h (now (vt .entry)) (now (et .entry)))) i (st h (now (vt .entry)) (now (et .entry))) (now (t .entry)) (r .code) (r .cost) (st (r .head) (now (vt .entry)) (now (et .exit))) (now (t .exit)) ⌝ }
+    requires { ⌜ Ready (Change.EdgeBefore a b) (st h (now vt) (now et)) × ((free ≡ 0 → ⊥) → 12 * i + 12 ≤ length (now t)) ⌝ }
+    ensures { λ r. ⌜ Tries (planS (Change.EdgeBefore a b) (st h (now (vt .entry)) (now (et .entry)))) i free (st h (now (vt .entry)) (now (et .entry))) (now (t .entry)) (r .code) (r .cost) (st (r .head) (now (vt .entry)) (now (et .exit))) (now (t .exit)) ⌝ }
 {
     let p = edge_prev(et, a);
     let x = edge_prev(et, b);
     let q = choose(x, a, p, x);
-    let head = adding::move_edge(h, vt, et, t, i, a, p, q);
-    made(head)
+    adding::move_edge(h, vt, et, t, i, free, a, p, q)
 }
 
 // Kind 14.
@@ -258,15 +245,15 @@ pub fn edge_after(
     et: &mut [u32],
     t: &mut [u32],
     i: u32,
+    free: u32,
     a: u32,
     b: u32,
 ) -> Made
-    requires { ⌜ Ready (Change.EdgeAfter a b) (st h (now vt) (now et)) × (12 * i + 12 ≤ length (now t)) ⌝ }
-    ensures { λ r. ⌜ Makes (planS (Change.EdgeAfter a b) (st h (now (vt .entry)) (now (et .entry)))) i (st h (now (vt .entry)) (now (et .entry))) (now (t .entry)) (r .code) (r .cost) (st (r .head) (now (vt .entry)) (now (et .exit))) (now (t .exit)) ⌝ }
+    requires { ⌜ Ready (Change.EdgeAfter a b) (st h (now vt) (now et)) × ((free ≡ 0 → ⊥) → 12 * i + 12 ≤ length (now t)) ⌝ }
+    ensures { λ r. ⌜ Tries (planS (Change.EdgeAfter a b) (st h (now (vt .entry)) (now (et .entry)))) i free (st h (now (vt .entry)) (now (et .entry))) (now (t .entry)) (r .code) (r .cost) (st (r .head) (now (vt .entry)) (now (et .exit))) (now (t .exit)) ⌝ }
 {
     let p = edge_prev(et, a);
-    let head = adding::move_edge(h, vt, et, t, i, a, p, b);
-    made(head)
+    adding::move_edge(h, vt, et, t, i, free, a, p, b)
 }
 
 // Kind 15.
@@ -276,18 +263,18 @@ pub fn word_before(
     et: &mut [u32],
     t: &mut [u32],
     i: u32,
+    free: u32,
     a: u32,
     b: u32,
 ) -> Made
-    requires { ⌜ Ready (Change.WordBefore a b) (st h (now vt) (now et)) × (12 * i + 12 ≤ length (now t)) ⌝ }
-    ensures { λ r. ⌜ Makes (planS (Change.WordBefore a b) (st h (now (vt .entry)) (now (et .entry)))) i (st h (now (vt .entry)) (now (et .entry))) (now (t .entry)) (r .code) (r .cost) (st (r .head) (now (vt .exit)) (now (et .exit))) (now (t .exit)) ⌝ }
+    requires { ⌜ Ready (Change.WordBefore a b) (st h (now vt) (now et)) × ((free ≡ 0 → ⊥) → 12 * i + 12 ≤ length (now t)) ⌝ }
+    ensures { λ r. ⌜ Tries (planS (Change.WordBefore a b) (st h (now (vt .entry)) (now (et .entry)))) i free (st h (now (vt .entry)) (now (et .entry))) (now (t .entry)) (r .code) (r .cost) (st (r .head) (now (vt .exit)) (now (et .exit))) (now (t .exit)) ⌝ }
 {
     let v = this(et, a);
     let p = word_prev(et, a);
     let x = word_prev(et, b);
     let q = choose(x, a, p, x);
-    adding::move_word(h, vt, et, t, i, a, v, p, v, q);
-    made(h)
+    adding::move_word(h, vt, et, t, i, free, a, v, p, v, q)
 }
 
 // Kind 16.
@@ -297,14 +284,14 @@ pub fn word_after(
     et: &mut [u32],
     t: &mut [u32],
     i: u32,
+    free: u32,
     a: u32,
     b: u32,
 ) -> Made
-    requires { ⌜ Ready (Change.WordAfter a b) (st h (now vt) (now et)) × (12 * i + 12 ≤ length (now t)) ⌝ }
-    ensures { λ r. ⌜ Makes (planS (Change.WordAfter a b) (st h (now (vt .entry)) (now (et .entry)))) i (st h (now (vt .entry)) (now (et .entry))) (now (t .entry)) (r .code) (r .cost) (st (r .head) (now (vt .exit)) (now (et .exit))) (now (t .exit)) ⌝ }
+    requires { ⌜ Ready (Change.WordAfter a b) (st h (now vt) (now et)) × ((free ≡ 0 → ⊥) → 12 * i + 12 ≤ length (now t)) ⌝ }
+    ensures { λ r. ⌜ Tries (planS (Change.WordAfter a b) (st h (now (vt .entry)) (now (et .entry)))) i free (st h (now (vt .entry)) (now (et .entry))) (now (t .entry)) (r .code) (r .cost) (st (r .head) (now (vt .exit)) (now (et .exit))) (now (t .exit)) ⌝ }
 {
     let v = this(et, a);
     let p = word_prev(et, a);
-    adding::move_word(h, vt, et, t, i, a, v, p, v, b);
-    made(h)
+    adding::move_word(h, vt, et, t, i, free, a, v, p, v, b)
 }

@@ -2,22 +2,25 @@
 use Prim.Native.Nat.{ℕ, suc, _+_, _-_, _*_, _≤_, _<_}
 use mathlib.Core.Path.{_≡_, refl, sym, ap, subst, _∙_}
 use mathlib.Core.Logic.{_≢_}
-use mathlib.Core.Bool.{Bool, true, false, not}
+use mathlib.Core.Bool.{Bool, true, false, not, _&&_}
 use mathlib.Core.List.{List, [], _∷_}
 use native.Mathlib.Omega.{arith}
 use borrow.Author.Tests.{eq-eqb, ne-eqb, lt-ltb, le-ltb, ltb-false}
 use lib.Dec.{ltb}
 use lib.ListN.{length, getD}
 use Rattle.lists.specs.Choice.{_⇒_else_}
+use Rattle.lists.proofs.Bools.{and-both}
 use Rattle.lists.proofs.Picks.{same, differ, same?}
 use Rattle.graph.specs.Graph.{Graph}
 use Rattle.graph.specs.WellFormed.{Bounds}
 use Rattle.graph.specs.declared.Change.{Change}
+use Rattle.graph.specs.declared.Change.the-variants.{DeleteVertex}
 use Rattle.graph.specs.Changes.{cost, Allowed}
+use Rattle.graph.specs.Same.{alters}
 use Rattle.history.specs.Machine.{Standing, gone, at, Machine, begun, current, placed, extended, freeOf, distance, noMarks, stands, placeOr, marked, cut, cutMarks, standing, fresh, present, moves}
 use Rattle.history.proofs.Timelines.{length-cut}
 use Rattle.history.specs.Machine.{stepOf}
-use Rattle.machine.specs.Rules.{changeRule, historyRule}
+use Rattle.machine.specs.Rules.{steps, nothing, effected, Deed, deed, changeDeed, changeRule, historyRule}
 use Rattle.commands.specs.declared.HistoryCall.the-variants.{SetMark, DropMark, Undo, Redo, GoTo, Commit, Between, Standing as StandingMarks, Free}
 use Rattle.marks.specs.Marked.{Marked}
 use Rattle.marks.proofs.MarkLaws.{marked-same, marked-other, in-set, place-is}
@@ -84,16 +87,23 @@ pub cut-nothing : (p n set : ℕ) (places : List ℕ) (ms : ℕ → Standing) �
 cut-nothing p n set places ms e h f =
     subst (λ (g : ℕ → Standing). Marked g set places) (sym (cut-none p ms (λ k q i. omega (arith, f k q i, e)))) h
 
-module _ (b : Bounds) (x : Version) (vt et t places : List ℕ) (m : Machine) (h : Represents b x vt et t places m) where
-  -- ---- 1 to 16
+pub deletion-alters : (a : ℕ) (g : Graph) → alters (DeleteVertex a) g ≡ true
+unfolding alters
+deletion-alters a g = refl
 
-  module _ (c : Change) (n free : ℕ) (e : n ≡ cost c (present m)) (capacity : ℕ) (q : capacity ≡ capacityOf t) (f : free ≡ freeOf capacity (m .line)) where
+module _ (b : Bounds) (x : Version) (vt et t places : List ℕ) (m : Machine) (h : Represents b x vt et t places m) where
+  -- ---- 1 to 16, where they alter the graph
+
+  module _ (c : Change) (n free : ℕ) (e : n ≡ cost c (present m)) (capacity : ℕ) (q : capacity ≡ capacityOf t) (f : free ≡ freeOf capacity (m .line)) (u : alters c (present m) ≡ true) where
+    altering : changeDeed c m ≡ deed (cost c (present m)) (steps (stepOf c (present m)))
+    altering = ap (λ (p : Bool). p ⇒ deed (cost c (present m)) (steps (stepOf c (present m))) else deed 0 nothing) u
+
     free-is : freeOf (capacityOf t) (m .line) ≡ free
     free-is = ap (λ (k : ℕ). freeOf k (m .line)) (sym q) ∙ sym f
 
     pub change-refused : free < n → Follows (changeRule (capacityOf t) c) m b x 10 0 vt et t places
     change-refused l = refused (changeRule (capacityOf t) c) m b x vt et t places 10
-        (sym (ap (λ (t : Bool). t ⇒ 10 else 0) (lt-ltb (freeOf (capacityOf t) (m .line)) (cost c (present m)) (omega (arith, free-is, e, l))))) (λ z. omega arith) h
+        (sym (ap (λ (t : Bool). t ⇒ 10 else 0) (and-both _ _ (lt-ltb (freeOf (capacityOf t) (m .line)) (cost c (present m)) (omega (arith, free-is, e, l))) u))) (λ z. omega arith) h
 
     -- there are rows for it
     pub change-room : n ≤ free → 12 * (x .current .position .used + n) ≤ length t
@@ -103,24 +113,26 @@ module _ (b : Bounds) (x : Version) (vt et t places : List ℕ) (m : Machine) (h
     pub change-done : n ≤ free → (x′ : Version) (vt′ et′ t′ : List ℕ) → Journal b (x′ .current .position) (st (x′ .current .head) vt′ et′) t′ (extended (stepOf c (present m)) (m .line))
         → Marked (cutMarks (x .current .position .place) (m .marks)) (x′ .set) places → Follows (changeRule (capacityOf t) c) m b x′ 0 n vt′ et′ t′ places
     change-done l x′ vt′ et′ t′ j k = accepted (changeRule (capacityOf t) c) m b x′ vt′ et′ t′ places n
-        (ap (λ (t : Bool). t ⇒ 10 else 0) (le-ltb (freeOf (capacityOf t) (m .line)) (cost c (present m)) (omega (arith, free-is, e, l)))) e (record {
+        (ap (λ (t : Bool). (t && alters c (present m)) ⇒ 10 else 0) (le-ltb (freeOf (capacityOf t) (m .line)) (cost c (present m)) (omega (arith, free-is, e, l))))
+        (e ∙ sym (ap (λ (d : Deed). d .number) altering))
+        (subst (λ (d : Deed). Represents b x′ vt′ et′ t′ places (effected (d .effect) m)) (sym altering) (record {
           journal = j;
           marks = subst (λ (p : ℕ). Marked (cutMarks p (m .marks)) (x′ .set) places) (h .journal .place) k;
           inside = λ i p y. omega (arith, left-low (m .line .place) p (m .marks i) y, length-cut (m .line .place) (m .line .steps) (stepOf c (present m)) (h .journal .inside));
-        })
+        }))
 
   -- a change of one edit that was written down and carried out
-  pub change-made : (c : Change) (n : ℕ) → n ≡ 1 → OneEdit c → Allowed b (present m) c → x .current .position .used + 1 ≤ capacityOf t → (head : Head) (vt′ et′ t′ : List ℕ)
+  pub change-made : (c : Change) (n : ℕ) → n ≡ 1 → OneEdit c → Allowed b (present m) c → alters c (present m) ≡ true → x .current .position .used + 1 ≤ capacityOf t → (head : Head) (vt′ et′ t′ : List ℕ)
       → Written (planS c (st (x .current .head) vt et)) 1 (x .current .position .used) (st (x .current .head) vt et) t (st head vt′ et′) t′
       → (x′ : Version) → x′ .current ≡ afterStep (x .current .position) head n → Marked (cutMarks (x .current .position .place) (m .marks)) (x′ .set) places
       → Follows (changeRule (capacityOf t) c) m b x′ 0 n vt′ et′ t′ places
-  change-made c n q o a r head vt′ et′ t′ w x′ y k =
+  change-made c n q o a u r head vt′ et′ t′ w x′ y k =
       let s = st (x .current .head) vt et in
       let e : n ≡ cost c (present m) = q ∙ sym (one-edit c o (present m) .1) in
       let f = journal-free b (x .current .position) s t (m .line) (capacityOf t) (h .journal) in
       let p = afterStep (x .current .position) head n .position in
       let j = single-step c b (x .current .position) s t (m .line) (h .journal) a o (omega (arith, r)) (st head vt′ et′) t′ w p refl refl (omega (arith, q)) in
-      change-done c n (freeOf (capacityOf t) (m .line)) e (capacityOf t) refl refl (omega (arith, q, r, f)) x′ vt′ et′ t′ (at-record b (x′ .current) _ vt′ et′ t′ _ y j) k
+      change-done c n (freeOf (capacityOf t) (m .line)) e (capacityOf t) refl refl u (omega (arith, q, r, f)) x′ vt′ et′ t′ (at-record b (x′ .current) _ vt′ et′ t′ _ y j) k
 
   pub mark-steps : (k q : ℕ) → m .marks k ≡ at q → q ≤ x .current .position .steps
   mark-steps k q y = omega (arith, h .inside k q y, h .journal .steps)

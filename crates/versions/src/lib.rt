@@ -5,12 +5,14 @@ use tables::Head;
 use timeline::Current;
 use timeline::Position;
 ghost use mathlib.Core.Path.{_≡_};
+ghost use mathlib.Core.Bool.{true};
 ghost use mathlib.Core.List.{List};
 ghost use Prim.Native.Nat.{ℕ, _+_, _^_, _≤_, _<_};
 ghost use lib.ListN.{length};
 ghost use Rattle.graph.specs.Graph.{Graph};
 ghost use Rattle.graph.specs.WellFormed.{Bounds, Within};
 ghost use Rattle.graph.specs.Changes.{Allowed};
+ghost use Rattle.graph.specs.Same.{alters};
 ghost use Rattle.history.specs.Machine.{Standing, at, Machine, cutMarks, present, fresh};
 ghost use Rattle.machine.specs.Rules.{changeRule, historyRule};
 ghost use Rattle.commands.specs.declared.HistoryCall.the-variants as call;
@@ -87,19 +89,21 @@ fn cut(set: u64, position: Position, places: &[u32; 64]) -> u64
     marks::cut_marks(set, places, position.place)
 }
 
-// Kinds 1 to 16: a change whose codes 2 to 9 do not apply.
-pub fn change(
+// Kind 2, where its vertex is there: a row for each edge at it, and one for the vertex. It always alters the graph.
+pub fn delete_vertex(
     x: Version,
     vt: &mut [u32],
     et: &mut [u32],
     t: &mut [u32],
     places: &[u32; 64],
-    change: Change,
+    a: u32,
 ) -> Done
-    requires { ⌜ ((b : Bounds) × (m : Machine) × Allowed b (present m) change × Represents b x (now vt) (now et) (now t) (now places) m) ⌝ }
-    ensures { λ r. ⌜ ((b : Bounds) → (m : Machine) → Allowed b (present m) change → Represents b x (now (vt .entry)) (now (et .entry)) (now (t .entry)) (now (places .entry)) m → Follows (changeRule (capacityOf (now (t .entry))) change) m b (r .version) (r .code) (r .number) (now (vt .exit)) (now (et .exit)) (now (t .exit)) (now (places .entry))) ⌝ }
+    requires { ⌜ ((b : Bounds) × (m : Machine) × Allowed b (present m) (Change.DeleteVertex a) × Represents b x (now vt) (now et) (now t) (now places) m) ⌝ }
+    ensures { λ r. ⌜ ((b : Bounds) → (m : Machine) → Allowed b (present m) (Change.DeleteVertex a) → Represents b x (now (vt .entry)) (now (et .entry)) (now (t .entry)) (now (places .entry)) m
+        → Follows (changeRule (capacityOf (now (t .entry))) (Change.DeleteVertex a)) m b (r .version) (r .code) (r .number) (now (vt .exit)) (now (et .exit)) (now (t .exit)) (now (places .entry))) ⌝ }
 {
     let old = x.current;
+    let change = Change::DeleteVertex(a);
     let cost = changes::cost_of(old.head, vt, et, change);
     let capacity = (t.len() / 12) as u32;
     let free = timeline::free_changes(old.position, capacity);
@@ -115,10 +119,10 @@ pub fn change(
     }
 }
 
-// A change of one edit that was written down and carried out, and left this head: the step that it is.
+// A change of one edit that altered the graph, was written down and carried out, and left this head: the step that it is.
 pub fn made(x: Version, places: &[u32; 64], head: Head, cost: u32) -> Done
     requires { ⌜ (x .current .position .place + 1 < 2 ^ 32) × (x .current .position .used + cost < 2 ^ 32) ⌝ }
-    ensures { λ r. ⌜ ((b : Bounds) → (m : Machine) → (change : Change) → (vt et t vt′ et′ t′ : List ℕ) → Allowed b (present m) change → OneEdit change → cost ≡ 1
+    ensures { λ r. ⌜ ((b : Bounds) → (m : Machine) → (change : Change) → (vt et t vt′ et′ t′ : List ℕ) → Allowed b (present m) change → alters change (present m) ≡ true → OneEdit change → cost ≡ 1
         → x .current .position .used + 1 ≤ capacityOf t → Represents b x vt et t (now (places .entry)) m
         → Written (planS change (st (x .current .head) vt et)) 1 (x .current .position .used) (st (x .current .head) vt et) t (st head vt′ et′) t′
         → Follows (changeRule (capacityOf t) change) m b (r .version) (r .code) (r .number) vt′ et′ t′ (now (places .entry))) ⌝ }

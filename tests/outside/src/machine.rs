@@ -137,6 +137,40 @@ impl Graph {
             .max()
     }
 
+    /// This graph after a change that codes 1 to 9 allow.
+    pub fn changed(&self, [kind, a, b, c, d]: Call) -> Graph {
+        let mut g = self.clone();
+        match kind {
+            1 => g.vertices.push(Vertex { number: a, ty: b, value: c, list: vec![] }),
+            2 => {
+                for e in g.edges_at(a) {
+                    g.delete_edge(e);
+                }
+                g.vertices.retain(|v| v.number != a);
+            }
+            3 => {
+                g.edges.push(Edge { number: a, alpha: b, omega: c, ty: d, reading: Reading::Untested });
+                g.vertex_mut(b).list.push(2 * a);
+                g.vertex_mut(c).list.push(2 * a + 1);
+            }
+            4 => g.delete_edge(a),
+            5 => g.vertex_mut(a).ty = b,
+            6 => g.edge_mut(a).ty = b,
+            7 => g.vertex_mut(a).value = b,
+            8 => g.edge_mut(a).reading = Reading::of(b, c).unwrap(),
+            9 => g.reattach(2 * a, b),
+            10 => g.reattach(2 * a + 1, b),
+            11 | 12 => place_beside(&mut g.vertices, |v| v.number, a, b, kind == 12),
+            13 | 14 => place_beside(&mut g.edges, |e| e.number, a, b, kind == 14),
+            15 | 16 => {
+                let this = g.this(a).unwrap();
+                place_beside(&mut g.vertex_mut(this).list, |w| *w, a, b, kind == 16);
+            }
+            _ => unreachable!(),
+        }
+        g
+    }
+
     fn two_way(&self, a: u32, b: u32) -> Option<u32> {
         Some(self.one_way(a, b)?.min(self.one_way(b, a)?))
     }
@@ -298,6 +332,7 @@ impl Machine {
             if applies {
                 codes.push(code)
             }
+            codes.is_empty()
         };
         test(1, !is_kind(kind));
         test(2, kind == 1 && (a == 0 || a > self.capacities.vertices));
@@ -311,8 +346,10 @@ impl Machine {
         // The tests below read what the call names; where that is missing, 4 or 5 is lower.
         if vertices_there && edges_there {
             test(8, matches!(kind, 15 | 16 | 48) && g.this(a) != g.this(b));
-            test(9, (11..=16).contains(&kind) && a == b);
-            test(10, is_change(kind) && self.cost(call) > self.free());
+            // What a change makes of the graph is read only where it is allowed.
+            if test(9, (11..=16).contains(&kind) && a == b) && is_change(kind) {
+                test(10, self.cost(call) > self.free() && self.changed(call) != *g);
+            }
         }
         test(11, marks.iter().any(|m| !(1..=64).contains(m)));
         test(12, kind == 17 && self.marks.contains_key(&a));
@@ -334,6 +371,9 @@ impl Machine {
             1..=16 => {
                 let cost = self.cost(call);
                 let changed = self.changed(call);
+                if changed == *self.present() {
+                    return (0, 0);
+                }
                 self.graphs.truncate(self.place + 1);
                 self.costs.truncate(self.place);
                 let place = self.place;
@@ -381,37 +421,8 @@ impl Machine {
     }
 
     /// The graph after an accepted change.
-    fn changed(&self, [kind, a, b, c, d]: Call) -> Graph {
-        let mut g = self.present().clone();
-        match kind {
-            1 => g.vertices.push(Vertex { number: a, ty: b, value: c, list: vec![] }),
-            2 => {
-                for e in g.edges_at(a) {
-                    g.delete_edge(e);
-                }
-                g.vertices.retain(|v| v.number != a);
-            }
-            3 => {
-                g.edges.push(Edge { number: a, alpha: b, omega: c, ty: d, reading: Reading::Untested });
-                g.vertex_mut(b).list.push(2 * a);
-                g.vertex_mut(c).list.push(2 * a + 1);
-            }
-            4 => g.delete_edge(a),
-            5 => g.vertex_mut(a).ty = b,
-            6 => g.edge_mut(a).ty = b,
-            7 => g.vertex_mut(a).value = b,
-            8 => g.edge_mut(a).reading = Reading::of(b, c).unwrap(),
-            9 => g.reattach(2 * a, b),
-            10 => g.reattach(2 * a + 1, b),
-            11 | 12 => place_beside(&mut g.vertices, |v| v.number, a, b, kind == 12),
-            13 | 14 => place_beside(&mut g.edges, |e| e.number, a, b, kind == 14),
-            15 | 16 => {
-                let this = g.this(a).unwrap();
-                place_beside(&mut g.vertex_mut(this).list, |w| *w, a, b, kind == 16);
-            }
-            _ => unreachable!(),
-        }
-        g
+    fn changed(&self, call: Call) -> Graph {
+        self.present().changed(call)
     }
 
     /// The answer to an accepted question, from Gp and the type rows.

@@ -79,6 +79,8 @@ struct Reached {
     longest: usize,
     kinds: BTreeMap<u32, u64>,
     codes: BTreeMap<u32, u64>,
+    /// Accepted changes that altered nothing, by kind.
+    idle: BTreeMap<u32, u64>,
 }
 
 impl Reached {
@@ -92,6 +94,9 @@ impl Reached {
                     if answer[0] == 0 {
                         self.accepted += 1;
                         *self.kinds.entry(call[0]).or_default() += 1;
+                        if is_change(call[0]) && answer[1] == 0 {
+                            *self.idle.entry(call[0]).or_default() += 1;
+                        }
                     } else {
                         *self.codes.entry(answer[0]).or_default() += 1;
                     }
@@ -100,11 +105,12 @@ impl Reached {
         }
     }
 
-    /// Kinds never accepted and codes never given.
+    /// Kinds never accepted, changes that never altered nothing, and codes never given.
     fn missing(&self) -> Vec<String> {
         let kinds = (0..100).filter(|k| is_kind(*k) && !self.kinds.contains_key(k)).map(|k| format!("kind {k}"));
         let codes = (1..=16).chain(101..=106).filter(|c| !self.codes.contains_key(c)).map(|c| format!("code {c}"));
-        kinds.chain(codes).collect()
+        let idle = (5..=16).filter(|k| !self.idle.contains_key(k)).map(|k| format!("kind {k} that alters nothing"));
+        kinds.chain(codes).chain(idle).collect()
     }
 
     fn summary(&self) -> String {
@@ -166,9 +172,18 @@ fn demands(case: &Case, outcome: &Outcome, reached: &mut Reached) -> Result<(), 
             if number != 0 || after != (place, steps, marks) || before != (machine.present().clone(), machine.free()) {
                 return wrong("refused and changed something");
             }
+        } else if is_change(kind) && number == 0 {
+            let after = (machine.place, machine.costs.len(), machine.marks.len());
+            if after != (place, steps, marks) || before != (machine.present().clone(), machine.free()) {
+                return wrong("answered 0 and changed something");
+            }
         } else if is_change(kind) {
             set.retain(|_, mark| mark.0 <= place);
-            if machine.place != place + 1 || machine.free() + number != before.1 || !image::is_chart(machine.present(), case.capacities(), types) {
+            if *machine.present() == before.0
+                || machine.place != place + 1
+                || machine.free() + number != before.1
+                || !image::is_chart(machine.present(), case.capacities(), types)
+            {
                 return wrong("not a step");
             }
         } else if kind == 17 {

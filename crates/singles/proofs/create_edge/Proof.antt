@@ -1,5 +1,5 @@
 use Rattle.graph.specs.declared.Change.the-variants.{CreateEdge}
-use Rattle.singles.proofs.OneLaws.{one-refused, one-can, one-made}
+use Rattle.singles.proofs.OneLaws.{one-refused, one-can, one-tried}
 use borrow.Author.Needs.{needs}
 use Rattle.singles.proofs.create_edge.Statement.{statement}
 use Rattle.singles.proofs.create_edge.Tie as tie
@@ -7,11 +7,8 @@ use Rattle.singles.proofs.create_edge.Tie as tie
 create-edge-requires : tie.Need-create-edge-requires
 create-edge-requires c κs = search needs
 
-with-room-requires : tie.Need-with-room-requires
-with-room-requires c κs = search needs
-
-refused-requires : tie.Need-refused-requires
-refused-requires c κs = search needs
+unchanged-requires : tie.Need-unchanged-requires
+unchanged-requires c κs = search needs
 
 same-length : tie.Need-same-length
 same-length c = search needs
@@ -21,14 +18,14 @@ same-length-2 c = search needs
 
 returns : tie.Need-returns
 returns c =
-    let a = c .before .before .before .before .before .before .before .before .before .args in
-    one-refused (CreateEdge (a .n) (a .a) (a .z) (a .s)) (a .types) (a .i) (a .free) (a .h) (a .vt .now) (a .et .now) (a .t .now) tt _ _ (λ g y. c .before .before .before .create-edge .ensures g y) (c .before .before .with-room .ensures) (c .before .if1 .taken) _ _ _ (c .refused .ensures)
+    let a = c .before .before .before .before .before .before .before .before .args in
+    one-refused (CreateEdge (a .n) (a .a) (a .z) (a .s)) (a .types) (a .i) (a .free) (a .h) (a .vt .now) (a .et .now) (a .t .now) tt _ (λ g y. c .before .before .create-edge .ensures g y) (c .before .if1 .taken) (c .unchanged .ensures)
 
 create-edge-requires-2 : tie.Need-create-edge-requires-2
 create-edge-requires-2 c κs =
-    let s = c .before .before .before .before .before .before .before .before .before .before .before in
+    let s = c .before .before .before .before .before .before .before .before .before .before in
     let a = s .args in
-    one-can (CreateEdge (a .n) (a .a) (a .z) (a .s)) (a .types) (a .i) (a .free) (a .h) (a .vt .now) (a .et .now) (a .t .now) tt _ _ (λ g y. c .before .before .before .before .before .create-edge .ensures g y) (c .before .before .before .before .with-room .ensures) (c .before .before .before .if1 .left) tt (s .pre)
+    one-can (CreateEdge (a .n) (a .a) (a .z) (a .s)) (a .types) (a .i) (a .free) (a .h) (a .vt .now) (a .et .now) (a .t .now) tt _ (λ g y. c .before .before .before .before .create-edge .ensures g y) (c .before .before .before .if1 .left) tt (s .pre)
 
 same-length-3 : tie.Need-same-length-3
 same-length-3 c = search needs
@@ -41,16 +38,15 @@ same-length-5 c = search needs
 
 returns-2 : tie.Need-returns-2
 returns-2 c =
-    let a = c .before .before .before .before .before .before .before .before .before .before .before .before .before .before .before .before .before .before .args in
-    one-made (CreateEdge (a .n) (a .a) (a .z) (a .s)) (a .types) (a .i) (a .free) (a .h) (a .vt .now) (a .et .now) (a .t .now) tt _ _ (λ g y. c .before .before .before .before .before .before .before .before .before .before .before .before .create-edge .ensures g y) (c .before .before .before .before .before .before .before .before .before .before .before .with-room .ensures) (c .before .before .before .before .before .before .before .before .before .before .if1 .left) _ _ _ _ (c .before .before .before .before .before .before .create-edge2 .ensures)
+    let a = c .before .before .before .before .before .before .before .before .before .before .before .before .before .before .before .before .before .args in
+    one-tried (CreateEdge (a .n) (a .a) (a .z) (a .s)) (a .types) (a .i) (a .free) (a .h) (a .vt .now) (a .et .now) (a .t .now) tt _ (λ g y. c .before .before .before .before .before .before .before .before .before .before .before .create-edge .ensures g y) (c .before .before .before .before .before .before .before .before .before .before .if1 .left) _ _ _ _ (c .before .before .before .before .before .before .create-edge2 .ensures)
 
 pub create-edge-spec : {M : Type 1} → statement M
 create-edge-spec =
     tie.close
     (tie.spec
     create-edge-requires
-    with-room-requires
-    refused-requires
+    unchanged-requires
     same-length
     same-length-2
     returns

@@ -12,8 +12,8 @@ create-vertex-requires c κs = search needs
 enum-told : tie.Need-enum-told
 enum-told c = search needs
 
-refused-requires : tie.Need-refused-requires
-refused-requires c κs = search needs
+unchanged-requires : tie.Need-unchanged-requires
+unchanged-requires c κs = search needs
 
 enum-known-change-2 : tie.Need-enum-known-change-2
 enum-known-change-2 c = search needs
@@ -291,7 +291,7 @@ make-spec =
     enum-known-change
     create-vertex-requires
     enum-told
-    refused-requires
+    unchanged-requires
     enum-known-change-2
     create-edge-requires
     enum-known-change-3

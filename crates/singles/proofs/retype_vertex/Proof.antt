@@ -1,5 +1,5 @@
 use Rattle.graph.specs.declared.Change.the-variants.{RetypeVertex}
-use Rattle.singles.proofs.OneLaws.{one-refused, one-can, one-made}
+use Rattle.singles.proofs.OneLaws.{one-refused, one-can, one-tried}
 use borrow.Author.Needs.{needs}
 use Rattle.singles.proofs.retype_vertex.Statement.{statement}
 use Rattle.singles.proofs.retype_vertex.Tie as tie
@@ -7,25 +7,22 @@ use Rattle.singles.proofs.retype_vertex.Tie as tie
 retype-vertex-requires : tie.Need-retype-vertex-requires
 retype-vertex-requires c κs = search needs
 
-with-room-requires : tie.Need-with-room-requires
-with-room-requires c κs = search needs
-
-refused-requires : tie.Need-refused-requires
-refused-requires c κs = search needs
+unchanged-requires : tie.Need-unchanged-requires
+unchanged-requires c κs = search needs
 
 same-length : tie.Need-same-length
 same-length c = search needs
 
 returns : tie.Need-returns
 returns c =
-    let a = c .before .before .before .before .before .before .before .before .args in
-    one-refused (RetypeVertex (a .a) (a .s2)) (a .types) (a .i) (a .free) (a .h) (a .vt .now) (a .et .now) (a .t .now) tt _ _ (λ g y. c .before .before .before .retype-vertex .ensures g (_, y)) (c .before .before .with-room .ensures) (c .before .if1 .taken) _ _ _ (c .refused .ensures)
+    let a = c .before .before .before .before .before .before .before .args in
+    one-refused (RetypeVertex (a .a) (a .s2)) (a .types) (a .i) (a .free) (a .h) (a .vt .now) (a .et .now) (a .t .now) tt _ (λ g y. c .before .before .retype-vertex .ensures g (_, y)) (c .before .if1 .taken) (c .unchanged .ensures)
 
 retype-vertex-requires-2 : tie.Need-retype-vertex-requires-2
 retype-vertex-requires-2 c κs =
-    let s = c .before .before .before .before .before .before .before .before .before in
+    let s = c .before .before .before .before .before .before .before .before in
     let a = s .args in
-    one-can (RetypeVertex (a .a) (a .s2)) (a .types) (a .i) (a .free) (a .h) (a .vt .now) (a .et .now) (a .t .now) tt _ _ (λ g y. c .before .before .before .before .retype-vertex .ensures g (_, y)) (c .before .before .before .with-room .ensures) (c .before .before .if1 .left) tt (s .pre)
+    one-can (RetypeVertex (a .a) (a .s2)) (a .types) (a .i) (a .free) (a .h) (a .vt .now) (a .et .now) (a .t .now) tt _ (λ g y. c .before .before .before .retype-vertex .ensures g (_, y)) (c .before .before .if1 .left) tt (s .pre)
 
 same-length-2 : tie.Need-same-length-2
 same-length-2 c = search needs
@@ -35,16 +32,15 @@ same-length-3 c = search needs
 
 returns-2 : tie.Need-returns-2
 returns-2 c =
-    let a = c .before .before .before .before .before .before .before .before .before .before .before .before .before .before .args in
-    one-made (RetypeVertex (a .a) (a .s2)) (a .types) (a .i) (a .free) (a .h) (a .vt .now) (a .et .now) (a .t .now) tt _ _ (λ g y. c .before .before .before .before .before .before .before .before .before .retype-vertex .ensures g (_, y)) (c .before .before .before .before .before .before .before .before .with-room .ensures) (c .before .before .before .before .before .before .before .if1 .left) _ _ _ _ (c .before .before .before .before .retype-vertex2 .ensures)
+    let a = c .before .before .before .before .before .before .before .before .before .before .before .before .before .args in
+    one-tried (RetypeVertex (a .a) (a .s2)) (a .types) (a .i) (a .free) (a .h) (a .vt .now) (a .et .now) (a .t .now) tt _ (λ g y. c .before .before .before .before .before .before .before .before .retype-vertex .ensures g (_, y)) (c .before .before .before .before .before .before .before .if1 .left) _ _ _ _ (c .before .before .before .before .retype-vertex2 .ensures)
 
 pub retype-vertex-spec : {M : Type 1} → statement M
 retype-vertex-spec =
     tie.close
     (tie.spec
     retype-vertex-requires
-    with-room-requires
-    refused-requires
+    unchanged-requires
     same-length
     returns
     retype-vertex-requires-2

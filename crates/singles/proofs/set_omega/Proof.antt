@@ -1,6 +1,6 @@
 use native.Mathlib.Omega.{arith}
 use Rattle.graph.specs.declared.Change.the-variants.{SetOmega}
-use Rattle.singles.proofs.OneLaws.{one-refused, one-can, one-made}
+use Rattle.singles.proofs.OneLaws.{one-refused, one-can, one-tried}
 use borrow.Author.Needs.{needs}
 use Rattle.singles.proofs.set_omega.Statement.{statement}
 use Rattle.singles.proofs.set_omega.Tie as tie
@@ -8,11 +8,8 @@ use Rattle.singles.proofs.set_omega.Tie as tie
 set-end-requires : tie.Need-set-end-requires
 set-end-requires c κs = search needs
 
-with-room-requires : tie.Need-with-room-requires
-with-room-requires c κs = search needs
-
-refused-requires : tie.Need-refused-requires
-refused-requires c κs = search needs
+unchanged-requires : tie.Need-unchanged-requires
+unchanged-requires c κs = search needs
 
 same-length : tie.Need-same-length
 same-length c = search needs
@@ -22,28 +19,28 @@ same-length-2 c = search needs
 
 returns : tie.Need-returns
 returns c =
-    let a = c .before .before .before .before .before .before .before .before .before .args in
-    one-refused (SetOmega (a .a) (a .u)) (a .types) (a .i) (a .free) (a .h) (a .vt .now) (a .et .now) (a .t .now) tt _ _ (λ g y. c .before .before .before .set-end .ensures g y) (c .before .before .with-room .ensures) (c .before .if1 .taken) _ _ _ (c .refused .ensures)
+    let a = c .before .before .before .before .before .before .before .before .args in
+    one-refused (SetOmega (a .a) (a .u)) (a .types) (a .i) (a .free) (a .h) (a .vt .now) (a .et .now) (a .t .now) tt _ (λ g y. c .before .before .set-end .ensures g y) (c .before .if1 .taken) (c .unchanged .ensures)
 
 mul-word-last : tie.Need-mul-word-last
 mul-word-last c =
-    let s = c .before .before .before .before .before .before .before .before .before .before .before in
+    let s = c .before .before .before .before .before .before .before .before .before .before in
     let a = s .args in
-    let r = one-can (SetOmega (a .a) (a .u)) (a .types) (a .i) (a .free) (a .h) (a .vt .now) (a .et .now) (a .t .now) tt _ _ (λ g y. c .before .before .before .before .before .set-end .ensures g y) (c .before .before .before .before .with-room .ensures) (c .before .before .before .if1 .left) tt (s .pre) in
+    let r = one-can (SetOmega (a .a) (a .u)) (a .types) (a .i) (a .free) (a .h) (a .vt .now) (a .et .now) (a .t .now) tt _ (λ g y. c .before .before .before .before .set-end .ensures g y) (c .before .before .before .if1 .left) tt (s .pre) in
     omega (arith, r .0 .0 .0)
 
 add-word-last : tie.Need-add-word-last
 add-word-last c =
-    let s = c .before .before .before .before .before .before .before .before .before .before .before in
+    let s = c .before .before .before .before .before .before .before .before .before .before in
     let a = s .args in
-    let r = one-can (SetOmega (a .a) (a .u)) (a .types) (a .i) (a .free) (a .h) (a .vt .now) (a .et .now) (a .t .now) tt _ _ (λ g y. c .before .before .before .before .before .set-end .ensures g y) (c .before .before .before .before .with-room .ensures) (c .before .before .before .if1 .left) tt (s .pre) in
+    let r = one-can (SetOmega (a .a) (a .u)) (a .types) (a .i) (a .free) (a .h) (a .vt .now) (a .et .now) (a .t .now) tt _ (λ g y. c .before .before .before .before .set-end .ensures g y) (c .before .before .before .if1 .left) tt (s .pre) in
     omega (arith, r .0 .0 .0)
 
 word-last-requires : tie.Need-word-last-requires
 word-last-requires c κs =
-    let s = c .before .before .before .before .before .before .before .before .before .before .before in
+    let s = c .before .before .before .before .before .before .before .before .before .before in
     let a = s .args in
-    let r = one-can (SetOmega (a .a) (a .u)) (a .types) (a .i) (a .free) (a .h) (a .vt .now) (a .et .now) (a .t .now) tt _ _ (λ g y. c .before .before .before .before .before .set-end .ensures g y) (c .before .before .before .before .with-room .ensures) (c .before .before .before .if1 .left) tt (s .pre) in
+    let r = one-can (SetOmega (a .a) (a .u)) (a .types) (a .i) (a .free) (a .h) (a .vt .now) (a .et .now) (a .t .now) tt _ (λ g y. c .before .before .before .before .set-end .ensures g y) (c .before .before .before .if1 .left) tt (s .pre) in
     ((omega (arith, r .0 .0 .1 .0), omega (arith, r .0 .0 .1 .1)), r .0 .0 .2, r .0 .1, r .1)
 
 same-length-3 : tie.Need-same-length-3
@@ -57,16 +54,15 @@ same-length-5 c = search needs
 
 returns-2 : tie.Need-returns-2
 returns-2 c =
-    let a = c .before .before .before .before .before .before .before .before .before .before .before .before .before .before .before .before .before .before .args in
-    one-made (SetOmega (a .a) (a .u)) (a .types) (a .i) (a .free) (a .h) (a .vt .now) (a .et .now) (a .t .now) tt _ _ (λ g y. c .before .before .before .before .before .before .before .before .before .before .before .before .set-end .ensures g y) (c .before .before .before .before .before .before .before .before .before .before .before .with-room .ensures) (c .before .before .before .before .before .before .before .before .before .before .if1 .left) _ _ _ _ (c .before .before .before .before .before .before .word-last .ensures)
+    let a = c .before .before .before .before .before .before .before .before .before .before .before .before .before .before .before .before .before .args in
+    one-tried (SetOmega (a .a) (a .u)) (a .types) (a .i) (a .free) (a .h) (a .vt .now) (a .et .now) (a .t .now) tt _ (λ g y. c .before .before .before .before .before .before .before .before .before .before .before .set-end .ensures g y) (c .before .before .before .before .before .before .before .before .before .before .if1 .left) _ _ _ _ (c .before .before .before .before .before .before .word-last .ensures)
 
 pub set-omega-spec : {M : Type 1} → statement M
 set-omega-spec =
     tie.close
     (tie.spec
     set-end-requires
-    with-room-requires
-    refused-requires
+    unchanged-requires
     same-length
     same-length-2
     returns

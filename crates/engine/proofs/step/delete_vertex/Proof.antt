@@ -21,8 +21,8 @@ returns c =
     answered-by w m _ _ _ _ _ closed types (c .stay .ensures)
     (alter-refused w m (a .x) (a .vt .now) (a .et .now) (a .t .now) (a .places .now) closed types h (DeleteVertex (a .a)) _ (λ g y. c .before .before .vertex-code .ensures .0 g (_, y)) (c .before .if1 .taken))
 
-change-requires : tie.Need-change-requires
-change-requires c κs =
+delete-vertex-requires : tie.Need-delete-vertex-requires
+delete-vertex-requires c κs =
     let s = c .before .before .before .before .before .before .before .before .before in
     let a = s .args in
     let p = s .pre in
@@ -42,7 +42,7 @@ returns-2 c =
     let a = c .before .before .before .before .before .before .before .before .before .before .before .before .before .before .before .before .args in
     λ w m closed types h.
     let i = alter-allowed w m (a .x) (a .vt .now) (a .et .now) (a .t .now) (a .places .now) closed types h (DeleteVertex (a .a)) _ (λ g y. c .before .before .before .before .before .before .before .before .before .before .before .vertex-code .ensures .0 g (_, y)) (c .before .before .before .before .before .before .before .before .before .before .if1 .left) tt in
-    alter-made w m (a .x) (a .vt .now) (a .et .now) (a .t .now) (a .places .now) closed types h (DeleteVertex (a .a)) _ (λ g y. c .before .before .before .before .before .before .before .before .before .before .before .vertex-code .ensures .0 g (_, y)) (c .before .before .before .before .before .before .before .before .before .before .if1 .left) _ _ _ _ _ _ (c .before .before .before .before .before .before .change .kept .1 .1 .1 .0) (c .before .before .before .before .before .before .change .ensures (boundsIn w) m i (h .represents))
+    alter-made w m (a .x) (a .vt .now) (a .et .now) (a .t .now) (a .places .now) closed types h (DeleteVertex (a .a)) _ (λ g y. c .before .before .before .before .before .before .before .before .before .before .before .vertex-code .ensures .0 g (_, y)) (c .before .before .before .before .before .before .before .before .before .before .if1 .left) _ _ _ _ _ _ (c .before .before .before .before .before .before .delete-vertex .kept .1 .1 .1 .0) (c .before .before .before .before .before .before .delete-vertex .ensures (boundsIn w) m i (h .represents))
 
 pub delete-vertex-spec : {M : Type 1} → statement M
 delete-vertex-spec =
@@ -52,7 +52,7 @@ delete-vertex-spec =
     stay-requires
     same-length
     returns
-    change-requires
+    delete-vertex-requires
     same-length-2
     same-length-3
     same-length-4

@@ -2,7 +2,7 @@ use mathlib.Core.Path.{refl}
 use native.Mathlib.Omega.{arith}
 use Rattle.tables.specs.Tables.{st}
 use Rattle.machine.specs.Calls.{boundsIn}
-use Rattle.engine.proofs.StepLaws.{answered-by, stands-now, place-fits, row-fits, row-room, single-refused, single-allowed, single-room, single-made}
+use Rattle.engine.proofs.StepLaws.{answered-by, stands-now, place-fits, row-fits, row-room, single-kept, single-allowed, single-alters, single-room, single-made}
 use borrow.Author.Needs.{needs}
 use Rattle.engine.proofs.step.single.Statement.{statement}
 use Rattle.engine.proofs.step.single.Tie as tie
@@ -39,7 +39,7 @@ returns c =
     let a = s .args in
     λ w m closed h.
     answered-by w m _ _ _ _ _ closed (a .types) (c .stay .ensures)
-    (single-refused w m (a .x) (a .vt .now) (a .et .now) (a .t .now) (a .places .now) closed (a .types) h (a .change) (s .pre .0) _ _ _ refl (st (k .result .head) (k .last .1 .0) (k .last .1 .1 .0)) (k .last .1 .1 .1 .0) (k .ensures) (c .before .if1 .taken))
+    (single-kept w m (a .x) (a .vt .now) (a .et .now) (a .t .now) (a .places .now) closed (a .types) h (a .change) (s .pre .0) _ _ _ refl (st (k .result .head) (k .last .1 .0) (k .last .1 .1 .0)) (k .last .1 .1 .1 .0) (k .ensures) (c .before .if1 .taken))
 
 made-requires : tie.Need-made-requires
 made-requires c κs =
@@ -61,15 +61,15 @@ same-length-6 c = search needs
 returns-2 : tie.Need-returns-2
 returns-2 c =
     let k = c .before .before .before .before .before .before .before .before .before .before .make in
-    let z = c .before .before .if1 .left in
     let s = c .before .before .before .before .before .before .before .before .before .before .before .before .before .before .before .before .before .before in
     let a = s .args in
-    let d = k .ensures .made z in
+    let d = k .ensures .made (c .before .before .if1 .left) in
     λ w m closed h.
-    let i = single-allowed w m (a .x) (a .vt .now) (a .et .now) (a .t .now) (a .places .now) closed (a .types) h (a .change) (s .pre .0) _ _ _ refl (st (k .result .head) (k .last .1 .0) (k .last .1 .1 .0)) (k .last .1 .1 .1 .0) (k .ensures) z in
-    let r = single-room w m (a .x) (a .vt .now) (a .et .now) (a .t .now) (a .places .now) closed (a .types) h (a .change) (s .pre .0) _ _ _ refl (st (k .result .head) (k .last .1 .0) (k .last .1 .1 .0)) (k .last .1 .1 .1 .0) (k .ensures) z in
-    single-made w m (a .x) (a .vt .now) (a .et .now) (a .t .now) (a .places .now) closed (a .types) h (a .change) (s .pre .0) _ _ _ refl (st (k .result .head) (k .last .1 .0) (k .last .1 .1 .0)) (k .last .1 .1 .1 .0) (k .ensures) z _ _ _ (k .kept .1 .1 .1 .0)
-    (c .made .ensures (boundsIn w) m (a .change) (a .vt .now) (a .et .now) (a .t .now) _ _ _ i (s .pre .0) (d .costs) r (h .represents) (d .written))
+    let i = single-allowed w m (a .x) (a .vt .now) (a .et .now) (a .t .now) (a .places .now) closed (a .types) h (a .change) (s .pre .0) _ _ _ refl (st (k .result .head) (k .last .1 .0) (k .last .1 .1 .0)) (k .last .1 .1 .1 .0) (k .ensures) d in
+    let u = single-alters w m (a .x) (a .vt .now) (a .et .now) (a .t .now) (a .places .now) closed (a .types) h (a .change) (s .pre .0) _ _ _ refl (st (k .result .head) (k .last .1 .0) (k .last .1 .1 .0)) (k .last .1 .1 .1 .0) (k .ensures) d in
+    let r = single-room w m (a .x) (a .vt .now) (a .et .now) (a .t .now) (a .places .now) closed (a .types) h (a .change) (s .pre .0) _ _ _ refl (st (k .result .head) (k .last .1 .0) (k .last .1 .1 .0)) (k .last .1 .1 .1 .0) (k .ensures) d in
+    single-made w m (a .x) (a .vt .now) (a .et .now) (a .t .now) (a .places .now) closed (a .types) h (a .change) (s .pre .0) _ _ _ refl (st (k .result .head) (k .last .1 .0) (k .last .1 .1 .0)) (k .last .1 .1 .1 .0) (k .ensures) d _ _ _ (k .kept .1 .1 .1 .0)
+    (c .made .ensures (boundsIn w) m (a .change) (a .vt .now) (a .et .now) (a .t .now) _ _ _ i u (s .pre .0) (d .costs) r (h .represents) (d .written))
 
 pub single-spec : {M : Type 1} → statement M
 single-spec =

@@ -3,7 +3,7 @@ use Prim.Native.Nat.{_*_}
 use Rattle.lists.specs.Choice.{pick}
 use Rattle.tables.specs.Tables.{st}
 use Rattle.tables.proofs.Steps.{can-by}
-use Rattle.singles.proofs.OneLaws.{makes-by, insert-edge-by}
+use Rattle.singles.proofs.OneLaws.{tries-by, insert-edge-by}
 use borrow.Author.Needs.{needs}
 use Rattle.singles.proofs.writing.create_edge.Statement.{statement}
 use Rattle.singles.proofs.writing.create_edge.Tie as tie
@@ -27,9 +27,6 @@ insert-edge-requires c κs =
     let r = can-by (st (a .h) (a .vt .now) (a .et .now)) (sym (insert-edge-by (a .n) (a .a) (a .z) (a .s) (a .h .elast) (c .before .before .before .before .before .before .last-word .ensures) (c .before .before .before .choose .ensures ∙ (λ j. pick (a .a) (a .z) (2 * a .n) (c .before .before .before .before .last-word2 .ensures j))))) (s .pre .0 .1) in
     (r .0, r .1, s .pre .1)
 
-made-requires : tie.Need-made-requires
-made-requires c κs = search needs
-
 same-length : tie.Need-same-length
 same-length c = search needs
 
@@ -41,8 +38,8 @@ same-length-3 c = search needs
 
 returns : tie.Need-returns
 returns c =
-    let a = c .before .before .before .before .before .before .before .before .before .before .before .before .before .before .before .before .before .before .before .args in
-    makes-by (insert-edge-by (a .n) (a .a) (a .z) (a .s) (a .h .elast) (c .before .before .before .before .before .before .before .before .before .before .before .before .before .before .last-word .ensures) (c .before .before .before .before .before .before .before .before .before .before .before .choose .ensures ∙ (λ j. pick (a .a) (a .z) (2 * a .n) (c .before .before .before .before .before .before .before .before .before .before .before .before .last-word2 .ensures j)))) (c .before .before .before .before .before .before .before .insert-edge .ensures) (c .made .ensures)
+    let a = c .before .before .before .before .before .before .before .before .before .before .before .before .before .before .before .before .before .before .args in
+    tries-by (insert-edge-by (a .n) (a .a) (a .z) (a .s) (a .h .elast) (c .before .before .before .before .before .before .before .before .before .before .before .before .before .last-word .ensures) (c .before .before .before .before .before .before .before .before .before .before .choose .ensures ∙ (λ j. pick (a .a) (a .z) (2 * a .n) (c .before .before .before .before .before .before .before .before .before .before .before .last-word2 .ensures j)))) (c .before .before .before .before .before .before .insert-edge .ensures)
 
 pub create-edge-spec : {M : Type 1} → statement M
 create-edge-spec =
@@ -53,7 +50,6 @@ create-edge-spec =
     mul-choose
     choose-requires
     insert-edge-requires
-    made-requires
     same-length
     same-length-2
     same-length-3

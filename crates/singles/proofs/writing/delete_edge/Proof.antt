@@ -3,7 +3,7 @@ use Prim.Native.Nat.{_+_, _*_}
 use Rattle.tables.specs.Tables.{st}
 use Rattle.tables.proofs.Steps.{can-by}
 use Rattle.queries.proofs.Steps.{chosen}
-use Rattle.singles.proofs.OneLaws.{makes-by, remove-edge-by, move-edge-by, words-by}
+use Rattle.singles.proofs.OneLaws.{tries-by, remove-edge-by, move-edge-by, words-by}
 use borrow.Author.Needs.{needs}
 use Rattle.singles.proofs.writing.delete_edge.Statement.{statement}
 use Rattle.singles.proofs.writing.delete_edge.Tie as tie
@@ -66,9 +66,6 @@ remove-edge-requires c κs =
     let r = can-by (st (a .h) (a .vt .now) (a .et .now)) (sym (remove-edge-by (a .n) (c .before .before .before .before .before .before .before .before .before .before .before .before .before .before .before .before .before .before .this .ensures) (c .before .before .before .before .before .before .before .before .before .before .before .before .before .before .before .before .this2 .ensures) (c .before .before .before .before .before .before .before .before .before .before .before .before .before .before .edge-type .ensures) (c .before .before .before .before .before .before .before .before .before .before .before .before .reading-kind .ensures) (c .before .before .before .before .before .before .before .before .before .before .reading-decimetres .ensures) (c .before .before .before .before .before .before .before .before .edge-prev .ensures) (chosen (2 * a .n + 1) (c .before .before .before .before .word-prev2 .ensures) (c .before .before .before .before .before .before .word-prev .ensures) (c .before .before .before .choose .ensures)) (c .before .before .before .before .word-prev2 .ensures))) (s .pre .0 .1) in
     (r .0, r .1, words-by (c .before .before .before .before .before .before .before .before .before .before .before .before .reading-kind .ensures) (c .before .before .before .before .before .before .before .before .before .before .reading-decimetres .ensures) (s .pre .0 .2), s .pre .1)
 
-made-requires : tie.Need-made-requires
-made-requires c κs = search needs
-
 same-length : tie.Need-same-length
 same-length c = search needs
 
@@ -80,8 +77,8 @@ same-length-3 c = search needs
 
 returns : tie.Need-returns
 returns c =
-    let a = c .before .before .before .before .before .before .before .before .before .before .before .before .before .before .before .before .before .before .before .before .before .before .before .before .before .before .before .before .before .before .before .args in
-    makes-by (remove-edge-by (a .n) (c .before .before .before .before .before .before .before .before .before .before .before .before .before .before .before .before .before .before .before .before .before .before .before .before .before .before .this .ensures) (c .before .before .before .before .before .before .before .before .before .before .before .before .before .before .before .before .before .before .before .before .before .before .before .before .this2 .ensures) (c .before .before .before .before .before .before .before .before .before .before .before .before .before .before .before .before .before .before .before .before .before .before .edge-type .ensures) (c .before .before .before .before .before .before .before .before .before .before .before .before .before .before .before .before .before .before .before .before .reading-kind .ensures) (c .before .before .before .before .before .before .before .before .before .before .before .before .before .before .before .before .before .before .reading-decimetres .ensures) (c .before .before .before .before .before .before .before .before .before .before .before .before .before .before .before .before .edge-prev .ensures) (chosen (2 * a .n + 1) (c .before .before .before .before .before .before .before .before .before .before .before .before .word-prev2 .ensures) (c .before .before .before .before .before .before .before .before .before .before .before .before .before .before .word-prev .ensures) (c .before .before .before .before .before .before .before .before .before .before .before .choose .ensures)) (c .before .before .before .before .before .before .before .before .before .before .before .before .word-prev2 .ensures)) (c .before .before .before .before .before .before .before .remove-edge .ensures) (c .made .ensures)
+    let a = c .before .before .before .before .before .before .before .before .before .before .before .before .before .before .before .before .before .before .before .before .before .before .before .before .before .before .before .before .before .before .args in
+    tries-by (remove-edge-by (a .n) (c .before .before .before .before .before .before .before .before .before .before .before .before .before .before .before .before .before .before .before .before .before .before .before .before .before .this .ensures) (c .before .before .before .before .before .before .before .before .before .before .before .before .before .before .before .before .before .before .before .before .before .before .before .this2 .ensures) (c .before .before .before .before .before .before .before .before .before .before .before .before .before .before .before .before .before .before .before .before .before .edge-type .ensures) (c .before .before .before .before .before .before .before .before .before .before .before .before .before .before .before .before .before .before .before .reading-kind .ensures) (c .before .before .before .before .before .before .before .before .before .before .before .before .before .before .before .before .before .reading-decimetres .ensures) (c .before .before .before .before .before .before .before .before .before .before .before .before .before .before .before .edge-prev .ensures) (chosen (2 * a .n + 1) (c .before .before .before .before .before .before .before .before .before .before .before .word-prev2 .ensures) (c .before .before .before .before .before .before .before .before .before .before .before .before .before .word-prev .ensures) (c .before .before .before .before .before .before .before .before .before .before .choose .ensures)) (c .before .before .before .before .before .before .before .before .before .before .before .word-prev2 .ensures)) (c .before .before .before .before .before .before .remove-edge .ensures)
 
 pub delete-edge-spec : {M : Type 1} → statement M
 delete-edge-spec =
@@ -105,7 +102,6 @@ delete-edge-spec =
     add-choose
     choose-requires
     remove-edge-requires
-    made-requires
     same-length
     same-length-2
     same-length-3

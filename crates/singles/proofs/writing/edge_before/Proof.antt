@@ -2,7 +2,7 @@ use mathlib.Core.Path.{sym}
 use Rattle.tables.specs.Tables.{st}
 use Rattle.tables.proofs.Steps.{can-by}
 use Rattle.queries.proofs.Steps.{chosen}
-use Rattle.singles.proofs.OneLaws.{makes-by, move-edge-by}
+use Rattle.singles.proofs.OneLaws.{tries-by, move-edge-by}
 use borrow.Author.Needs.{needs}
 use Rattle.singles.proofs.writing.edge_before.Statement.{statement}
 use Rattle.singles.proofs.writing.edge_before.Tie as tie
@@ -22,9 +22,6 @@ move-edge-requires c κs =
     let a = s .args in
     (can-by (st (a .h) (a .vt .now) (a .et .now)) (sym (move-edge-by (a .a) (c .before .before .before .before .before .edge-prev .ensures) (chosen (a .a) (c .before .before .before .before .before .edge-prev .ensures) (c .before .before .before .edge-prev2 .ensures) (c .before .before .choose .ensures)))) (s .pre .0 .1), s .pre .1)
 
-made-requires : tie.Need-made-requires
-made-requires c κs = search needs
-
 same-length : tie.Need-same-length
 same-length c = search needs
 
@@ -33,8 +30,8 @@ same-length-2 c = search needs
 
 returns : tie.Need-returns
 returns c =
-    let a = c .before .before .before .before .before .before .before .before .before .before .before .before .before .before .before .before .args in
-    makes-by (move-edge-by (a .a) (c .before .before .before .before .before .before .before .before .before .before .before .edge-prev .ensures) (chosen (a .a) (c .before .before .before .before .before .before .before .before .before .before .before .edge-prev .ensures) (c .before .before .before .before .before .before .before .before .before .edge-prev2 .ensures) (c .before .before .before .before .before .before .before .before .choose .ensures))) (c .before .before .before .before .before .move-edge .ensures) (c .made .ensures)
+    let a = c .before .before .before .before .before .before .before .before .before .before .before .before .before .before .before .args in
+    tries-by (move-edge-by (a .a) (c .before .before .before .before .before .before .before .before .before .before .edge-prev .ensures) (chosen (a .a) (c .before .before .before .before .before .before .before .before .before .before .edge-prev .ensures) (c .before .before .before .before .before .before .before .before .edge-prev2 .ensures) (c .before .before .before .before .before .before .before .choose .ensures))) (c .before .before .before .before .move-edge .ensures)
 
 pub edge-before-spec : {M : Type 1} → statement M
 edge-before-spec =
@@ -44,7 +41,6 @@ edge-before-spec =
     edge-prev-requires-2
     choose-requires
     move-edge-requires
-    made-requires
     same-length
     same-length-2
     returns)

@@ -1,5 +1,5 @@
 use mathlib.Core.Path.{refl}
-use Rattle.singles.proofs.OneLaws.{makes-by, set-edge-by, words-by}
+use Rattle.singles.proofs.OneLaws.{tries-by, set-edge-by, words-by}
 use borrow.Author.Needs.{needs}
 use Rattle.singles.proofs.writing.retype_edge.Statement.{statement}
 use Rattle.singles.proofs.writing.retype_edge.Tie as tie
@@ -20,9 +20,6 @@ set-edge-requires c κs =
     let w = words-by (c .before .before .before .before .reading-kind .ensures) (c .before .before .reading-decimetres .ensures) (s .pre .0 .2) in
     (s .pre .0 .0, w, w, s .pre .1)
 
-made-requires : tie.Need-made-requires
-made-requires c κs = search needs
-
 same-length : tie.Need-same-length
 same-length c = search needs
 
@@ -31,8 +28,8 @@ same-length-2 c = search needs
 
 returns : tie.Need-returns
 returns c =
-    let a = c .before .before .before .before .before .before .before .before .before .before .before .before .before .before .before .before .before .args in
-    makes-by (set-edge-by (a .a) (c .before .before .before .before .before .before .before .before .before .before .before .before .edge-type .ensures) (c .before .before .before .before .before .before .before .before .before .before .reading-kind .ensures) (c .before .before .before .before .before .before .before .before .reading-decimetres .ensures) refl (c .before .before .before .before .before .before .before .before .before .before .reading-kind .ensures) (c .before .before .before .before .before .before .before .before .reading-decimetres .ensures)) (c .before .before .before .before .before .set-edge .ensures) (c .made .ensures)
+    let a = c .before .before .before .before .before .before .before .before .before .before .before .before .before .before .before .before .args in
+    tries-by (set-edge-by (a .a) (c .before .before .before .before .before .before .before .before .before .before .before .edge-type .ensures) (c .before .before .before .before .before .before .before .before .before .reading-kind .ensures) (c .before .before .before .before .before .before .before .reading-decimetres .ensures) refl (c .before .before .before .before .before .before .before .before .before .reading-kind .ensures) (c .before .before .before .before .before .before .before .reading-decimetres .ensures)) (c .before .before .before .before .set-edge .ensures)
 
 pub retype-edge-spec : {M : Type 1} → statement M
 retype-edge-spec =
@@ -42,7 +39,6 @@ retype-edge-spec =
     reading-kind-requires
     reading-decimetres-requires
     set-edge-requires
-    made-requires
     same-length
     same-length-2
     returns)

@@ -1,5 +1,5 @@
 use mathlib.Core.Path.{refl}
-use Rattle.singles.proofs.OneLaws.{makes-by, set-edge-by, words-by}
+use Rattle.singles.proofs.OneLaws.{tries-by, set-edge-by, words-by}
 use borrow.Author.Needs.{needs}
 use Rattle.singles.proofs.writing.set_reading.Statement.{statement}
 use Rattle.singles.proofs.writing.set_reading.Tie as tie
@@ -19,9 +19,6 @@ set-edge-requires c κs =
     let a = s .args in
     (s .pre .0 .0, words-by (c .before .before .before .before .reading-kind .ensures) (c .before .before .reading-decimetres .ensures) (s .pre .0 .2 .0), s .pre .0 .2 .1, s .pre .1)
 
-made-requires : tie.Need-made-requires
-made-requires c κs = search needs
-
 same-length : tie.Need-same-length
 same-length c = search needs
 
@@ -30,8 +27,8 @@ same-length-2 c = search needs
 
 returns : tie.Need-returns
 returns c =
-    let a = c .before .before .before .before .before .before .before .before .before .before .before .before .before .before .before .before .before .args in
-    makes-by (set-edge-by (a .a) {l = a .k2} {f = a .d2} (c .before .before .before .before .before .before .before .before .before .before .before .before .edge-type .ensures) (c .before .before .before .before .before .before .before .before .before .before .reading-kind .ensures) (c .before .before .before .before .before .before .before .before .reading-decimetres .ensures) (c .before .before .before .before .before .before .before .before .before .before .before .before .edge-type .ensures) refl refl) (c .before .before .before .before .before .set-edge .ensures) (c .made .ensures)
+    let a = c .before .before .before .before .before .before .before .before .before .before .before .before .before .before .before .before .args in
+    tries-by (set-edge-by (a .a) {l = a .k2} {f = a .d2} (c .before .before .before .before .before .before .before .before .before .before .before .edge-type .ensures) (c .before .before .before .before .before .before .before .before .before .reading-kind .ensures) (c .before .before .before .before .before .before .before .reading-decimetres .ensures) (c .before .before .before .before .before .before .before .before .before .before .before .edge-type .ensures) refl refl) (c .before .before .before .before .set-edge .ensures)
 
 pub set-reading-spec : {M : Type 1} → statement M
 set-reading-spec =
@@ -41,7 +38,6 @@ set-reading-spec =
     reading-kind-requires
     reading-decimetres-requires
     set-edge-requires
-    made-requires
     same-length
     same-length-2
     returns)

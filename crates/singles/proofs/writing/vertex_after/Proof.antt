@@ -1,5 +1,5 @@
 use mathlib.Core.Path.{refl}
-use Rattle.singles.proofs.OneLaws.{makes-by, move-vertex-by}
+use Rattle.singles.proofs.OneLaws.{tries-by, move-vertex-by}
 use borrow.Author.Needs.{needs}
 use Rattle.singles.proofs.writing.vertex_after.Statement.{statement}
 use Rattle.singles.proofs.writing.vertex_after.Tie as tie
@@ -10,9 +10,6 @@ vertex-prev-requires c κs = search needs
 move-vertex-requires : tie.Need-move-vertex-requires
 move-vertex-requires c κs = search needs
 
-made-requires : tie.Need-made-requires
-made-requires c κs = search needs
-
 same-length : tie.Need-same-length
 same-length c = search needs
 
@@ -21,16 +18,10 @@ same-length-2 c = search needs
 
 returns : tie.Need-returns
 returns c =
-    let a = c .before .before .before .before .before .before .before .before .before .before .before .before .before .args in
-    makes-by (move-vertex-by (a .a) (c .before .before .before .before .before .before .before .before .vertex-prev .ensures) refl) (c .before .before .before .before .before .move-vertex .ensures) (c .made .ensures)
+    let a = c .before .before .before .before .before .before .before .before .before .before .before .before .args in
+    tries-by (move-vertex-by (a .a) (c .before .before .before .before .before .before .before .vertex-prev .ensures) refl) (c .before .before .before .before .move-vertex .ensures)
 
 pub vertex-after-spec : {M : Type 1} → statement M
 vertex-after-spec =
     tie.close
-    (tie.spec
-    vertex-prev-requires
-    move-vertex-requires
-    made-requires
-    same-length
-    same-length-2
-    returns)
+    (tie.spec vertex-prev-requires move-vertex-requires same-length same-length-2 returns)

@@ -2,7 +2,7 @@ use mathlib.Core.Path.{sym}
 use Rattle.tables.specs.Tables.{st}
 use Rattle.tables.proofs.Steps.{can-by}
 use Rattle.queries.proofs.Steps.{chosen}
-use Rattle.singles.proofs.OneLaws.{makes-by, move-vertex-by}
+use Rattle.singles.proofs.OneLaws.{tries-by, move-vertex-by}
 use borrow.Author.Needs.{needs}
 use Rattle.singles.proofs.writing.vertex_before.Statement.{statement}
 use Rattle.singles.proofs.writing.vertex_before.Tie as tie
@@ -22,9 +22,6 @@ move-vertex-requires c κs =
     let a = s .args in
     (can-by (st (a .h) (a .vt .now) (a .et .now)) (sym (move-vertex-by (a .a) (c .before .before .before .before .before .vertex-prev .ensures) (chosen (a .a) (c .before .before .before .before .before .vertex-prev .ensures) (c .before .before .before .vertex-prev2 .ensures) (c .before .before .choose .ensures)))) (s .pre .0 .1), s .pre .1)
 
-made-requires : tie.Need-made-requires
-made-requires c κs = search needs
-
 same-length : tie.Need-same-length
 same-length c = search needs
 
@@ -33,8 +30,8 @@ same-length-2 c = search needs
 
 returns : tie.Need-returns
 returns c =
-    let a = c .before .before .before .before .before .before .before .before .before .before .before .before .before .before .before .before .args in
-    makes-by (move-vertex-by (a .a) (c .before .before .before .before .before .before .before .before .before .before .before .vertex-prev .ensures) (chosen (a .a) (c .before .before .before .before .before .before .before .before .before .before .before .vertex-prev .ensures) (c .before .before .before .before .before .before .before .before .before .vertex-prev2 .ensures) (c .before .before .before .before .before .before .before .before .choose .ensures))) (c .before .before .before .before .before .move-vertex .ensures) (c .made .ensures)
+    let a = c .before .before .before .before .before .before .before .before .before .before .before .before .before .before .before .args in
+    tries-by (move-vertex-by (a .a) (c .before .before .before .before .before .before .before .before .before .before .vertex-prev .ensures) (chosen (a .a) (c .before .before .before .before .before .before .before .before .before .before .vertex-prev .ensures) (c .before .before .before .before .before .before .before .before .vertex-prev2 .ensures) (c .before .before .before .before .before .before .before .choose .ensures))) (c .before .before .before .before .move-vertex .ensures)
 
 pub vertex-before-spec : {M : Type 1} → statement M
 vertex-before-spec =
@@ -44,7 +41,6 @@ vertex-before-spec =
     vertex-prev-requires-2
     choose-requires
     move-vertex-requires
-    made-requires
     same-length
     same-length-2
     returns)

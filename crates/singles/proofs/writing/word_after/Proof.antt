@@ -1,7 +1,7 @@
 use mathlib.Core.Path.{refl, sym}
 use Rattle.tables.specs.Tables.{st}
 use Rattle.tables.proofs.Steps.{can-by}
-use Rattle.singles.proofs.OneLaws.{makes-by, move-word-by}
+use Rattle.singles.proofs.OneLaws.{tries-by, move-word-by}
 use borrow.Author.Needs.{needs}
 use Rattle.singles.proofs.writing.word_after.Statement.{statement}
 use Rattle.singles.proofs.writing.word_after.Tie as tie
@@ -18,9 +18,6 @@ move-word-requires c κs =
     let a = s .args in
     (can-by (st (a .h) (a .vt .now) (a .et .now)) (sym (move-word-by (a .a) (c .before .before .before .before .before .this .ensures) (c .before .before .before .word-prev .ensures) (c .before .before .before .before .before .this .ensures) refl)) (s .pre .0 .1), s .pre .1)
 
-made-requires : tie.Need-made-requires
-made-requires c κs = search needs
-
 same-length : tie.Need-same-length
 same-length c = search needs
 
@@ -32,8 +29,8 @@ same-length-3 c = search needs
 
 returns : tie.Need-returns
 returns c =
-    let a = c .before .before .before .before .before .before .before .before .before .before .before .before .before .before .before .before .before .before .args in
-    makes-by (move-word-by (a .a) (c .before .before .before .before .before .before .before .before .before .before .before .before .before .this .ensures) (c .before .before .before .before .before .before .before .before .before .before .before .word-prev .ensures) (c .before .before .before .before .before .before .before .before .before .before .before .before .before .this .ensures) refl) (c .before .before .before .before .before .before .before .move-word .ensures) (c .made .ensures)
+    let a = c .before .before .before .before .before .before .before .before .before .before .before .before .before .before .before .before .before .args in
+    tries-by (move-word-by (a .a) (c .before .before .before .before .before .before .before .before .before .before .before .before .this .ensures) (c .before .before .before .before .before .before .before .before .before .before .word-prev .ensures) (c .before .before .before .before .before .before .before .before .before .before .before .before .this .ensures) refl) (c .before .before .before .before .before .before .move-word .ensures)
 
 pub word-after-spec : {M : Type 1} → statement M
 word-after-spec =
@@ -42,7 +39,6 @@ word-after-spec =
     this-requires
     word-prev-requires
     move-word-requires
-    made-requires
     same-length
     same-length-2
     same-length-3

@@ -2,7 +2,7 @@ use mathlib.Core.Path.{sym}
 use Rattle.tables.specs.Tables.{st}
 use Rattle.tables.proofs.Steps.{can-by}
 use Rattle.queries.proofs.Steps.{chosen}
-use Rattle.singles.proofs.OneLaws.{makes-by, move-word-by}
+use Rattle.singles.proofs.OneLaws.{tries-by, move-word-by}
 use borrow.Author.Needs.{needs}
 use Rattle.singles.proofs.writing.word_before.Statement.{statement}
 use Rattle.singles.proofs.writing.word_before.Tie as tie
@@ -25,9 +25,6 @@ move-word-requires c κs =
     let a = s .args in
     (can-by (st (a .h) (a .vt .now) (a .et .now)) (sym (move-word-by (a .a) (c .before .before .before .before .before .before .before .before .this .ensures) (c .before .before .before .before .before .before .word-prev .ensures) (c .before .before .before .before .before .before .before .before .this .ensures) (chosen (a .a) (c .before .before .before .before .before .before .word-prev .ensures) (c .before .before .before .before .word-prev2 .ensures) (c .before .before .before .choose .ensures)))) (s .pre .0 .1), s .pre .1)
 
-made-requires : tie.Need-made-requires
-made-requires c κs = search needs
-
 same-length : tie.Need-same-length
 same-length c = search needs
 
@@ -39,8 +36,8 @@ same-length-3 c = search needs
 
 returns : tie.Need-returns
 returns c =
-    let a = c .before .before .before .before .before .before .before .before .before .before .before .before .before .before .before .before .before .before .before .before .before .args in
-    makes-by (move-word-by (a .a) (c .before .before .before .before .before .before .before .before .before .before .before .before .before .before .before .before .this .ensures) (c .before .before .before .before .before .before .before .before .before .before .before .before .before .before .word-prev .ensures) (c .before .before .before .before .before .before .before .before .before .before .before .before .before .before .before .before .this .ensures) (chosen (a .a) (c .before .before .before .before .before .before .before .before .before .before .before .before .before .before .word-prev .ensures) (c .before .before .before .before .before .before .before .before .before .before .before .before .word-prev2 .ensures) (c .before .before .before .before .before .before .before .before .before .before .before .choose .ensures))) (c .before .before .before .before .before .before .before .move-word .ensures) (c .made .ensures)
+    let a = c .before .before .before .before .before .before .before .before .before .before .before .before .before .before .before .before .before .before .before .before .args in
+    tries-by (move-word-by (a .a) (c .before .before .before .before .before .before .before .before .before .before .before .before .before .before .before .this .ensures) (c .before .before .before .before .before .before .before .before .before .before .before .before .before .word-prev .ensures) (c .before .before .before .before .before .before .before .before .before .before .before .before .before .before .before .this .ensures) (chosen (a .a) (c .before .before .before .before .before .before .before .before .before .before .before .before .before .word-prev .ensures) (c .before .before .before .before .before .before .before .before .before .before .before .word-prev2 .ensures) (c .before .before .before .before .before .before .before .before .before .before .choose .ensures))) (c .before .before .before .before .before .before .move-word .ensures)
 
 pub word-before-spec : {M : Type 1} → statement M
 word-before-spec =
@@ -51,7 +48,6 @@ word-before-spec =
     word-prev-requires-2
     choose-requires
     move-word-requires
-    made-requires
     same-length
     same-length-2
     same-length-3
