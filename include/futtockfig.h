@@ -34,7 +34,7 @@ extern "C" {
 #endif
 
 /* What a caller sees; raised with every change to it (docs/CHANGES.md). */
-#define FUTTOCKFIG_VERSION 2
+#define FUTTOCKFIG_VERSION 3
 
 /* Words a row in each table, and the most rows that a table may have. The fewest is 1. */
 #define FUTTOCKFIG_VERTEX_WORDS 8
@@ -107,7 +107,8 @@ enum futtockfig_kind {
     FUTTOCKFIG_FREE_CHANGES = 51,
     FUTTOCKFIG_IS_BELOW = 52,          /* a, b types; 1 or 0 */
     FUTTOCKFIG_RANGE = 53,             /* a, b vertices; the smaller of both ways' largest heard decimetres */
-    FUTTOCKFIG_GRADE = 54              /* a, b vertices; that range divided by 250, rounded down */
+    FUTTOCKFIG_GRADE = 54              /* a, b vertices; that range's grade, 0 to 39: the last of the limits 0, 250, 500, ..
+                                          9,750 that is not above the range, counted from 0 */
 };
 
 /* Codes. Where several apply, the lowest is given. */

@@ -1,3 +1,4 @@
+pub mod Counted
 pub mod Largest
 pub mod Passes
 pub mod Heard

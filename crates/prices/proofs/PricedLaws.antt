@@ -9,7 +9,9 @@ use Rattle.graph.specs.Graph.{Graph, hasVertex}
 use Rattle.graph.specs.WellFormed.{WellFormed}
 use Rattle.graph.specs.Changes.{VertexThere}
 use Rattle.graph.proofs.Numbers.{vertex-once}
+use Rattle.pricing.specs.Grades.{limits}
 use Rattle.pricing.specs.Prices.{nothingHeard, twoWay, gradeOf, grade}
+use Rattle.pricing.proofs.GradeLaws.{grade-of-zero, limits-rise}
 use Rattle.commands.specs.declared.PriceCall.the-variants.{Range, Grade}
 use Rattle.machine.specs.Codes.{lacksVertex, priceCode}
 use Rattle.machine.specs.Machine.{priceNumber}
@@ -28,7 +30,7 @@ grade-answers g a b n r d e = record { coded = d .coded; numbered = e ∙ ap gra
   where
     pick : (t : Bool) → gradeOf (t ⇒ twoWay g a b else 0) ≡ (t ⇒ gradeOf (twoWay g a b) else 0)
     pick true = refl
-    pick false = refl
+    pick false = grade-of-zero limits limits-rise
 
 -- ---- codes 4 and 16
 

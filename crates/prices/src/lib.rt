@@ -1,8 +1,11 @@
 // The price list, read off the lent tables.
+mod grades; // grades.rt: the printed limits, and the grade of a range
+
 use answers::Answer;
 use checks::vertices_code;
 use commands::PriceCall;
 use cursor::following;
+use grades::grade_of;
 use graph::Reading;
 use tables::rows::first_word;
 use tables::rows::reading_at;
@@ -22,7 +25,7 @@ ghost use Rattle.machine.specs.Machine.{priceNumber};
 ghost use Rattle.answers.specs.AnswerIs.{AnswerIs};
 ghost use Rattle.prices.specs.Priced.{Priced};
 ghost use Rattle.queries.specs.Walks.{CanWalk};
-ghost use Rattle.pricing.specs.Prices.{heard, gradeOf};
+ghost use Rattle.pricing.specs.Prices.{heard};
 ghost use Rattle.prices.specs.Ways.{wayOf, largerOf, withReading, readingTo, bothWays, priceOf};
 
 // What is heard one way: nothing, or some decimetres.
@@ -122,13 +125,6 @@ fn price_of(vt: &[u32], et: &[u32], a: u32, b: u32) -> Price
     let there = one_way(vt, et, a, b);
     let back = one_way(vt, et, b, a);
     both_ways(there, back)
-}
-
-// The grade of a range.
-fn grade_of(range: u32) -> u32
-    ensures { λ r. ⌜ r ≡ gradeOf range ⌝ }
-{
-    range / 250
 }
 
 // Codes 4 and 16, and the range of an accepted pair.

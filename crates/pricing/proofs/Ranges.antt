@@ -1,5 +1,6 @@
--- Decimetres are 0 to 9,999, so every range is, and a grade is at most 39.
-use Prim.Native.Nat.{ℕ, _≤_}
+-- Decimetres are 0 to 9,999, so every range is; a grade is a line of the table, at most 39.
+use Prim.Native.Nat.{ℕ, _/_, _≤_}
+use mathlib.Core.Path.{_≡_}
 use mathlib.Core.Bool.{Bool, true, false, _&&_}
 use mathlib.Core.List.{List, []}
 use native.Mathlib.Omega.{arith}
@@ -11,7 +12,9 @@ use Rattle.graph.specs.declared.Reading.the-variants.{Untested, Silent, Heard}
 use Rattle.graph.specs.Graph.{Edge, Graph, decimetres}
 use Rattle.graph.specs.WellFormed.{Bounds, Within}
 use Rattle.graph.proofs.Readings.{reading-range}
+use Rattle.pricing.specs.Grades.{limits}
 use Rattle.pricing.specs.Prices.{heardIn, heard, largest, oneWay, twoWay, grade}
+use Rattle.pricing.proofs.GradeLaws.{Graded, graded, limits-rise, grade-as-before}
 
 -- where every edge is heard at n at most
 module _ (n : ℕ) where
@@ -45,6 +48,10 @@ module _ (k : Bounds) (g : Graph) (w : Within k g) (a b : ℕ) where
   unfolding twoWay
   two-way-range = omega (arith, one-way-range)
 
-  pub grade-range : grade g a b ≤ 39
+  pub grade-is-before : grade g a b ≡ twoWay g a b / 250
   unfolding grade
-  grade-range = omega (arith, two-way-range)
+  grade-is-before = grade-as-before (twoWay g a b) two-way-range
+
+  pub grade-range : grade g a b ≤ 39
+  unfolding grade limits
+  grade-range = omega (arith, graded limits (twoWay g a b) limits-rise .line)

@@ -1,5 +1,5 @@
 -- The price list: range and grade of a pair.
-use Prim.Native.Nat.{ℕ, _/_, min, max}
+use Prim.Native.Nat.{ℕ, min, max}
 use mathlib.Core.Bool.{Bool, true, false, _&&_, _||_}
 use mathlib.Core.List.{List, [], _∷_}
 use Rattle.lists.specs.Choice.{_⇒_else_, _==_}
@@ -7,6 +7,7 @@ use Rattle.lists.specs.Lists.{each}
 use Rattle.graph.specs.declared.Reading.{Reading}
 use Rattle.graph.specs.declared.Reading.the-variants.{Untested, Silent, Heard}
 use Rattle.graph.specs.Graph.{Edge, Graph}
+use Rattle.pricing.specs.Grades.{limits, gradeBy}
 
 -- the decimetres of a heard reading
 abbrev pub heardIn : Reading → List ℕ
@@ -41,9 +42,9 @@ unfoldable pub twoWay : Graph → ℕ → ℕ → ℕ
 unfolding oneWay
 twoWay g a b = min (oneWay g a b) (oneWay g b a)
 
--- REFERENCE 6.3
+-- by the printed table (REFERENCE 6.3)
 abbrev pub gradeOf : ℕ → ℕ
-gradeOf range = range / 250
+gradeOf range = gradeBy limits range
 
 unfoldable pub grade : Graph → ℕ → ℕ → ℕ
 unfolding twoWay

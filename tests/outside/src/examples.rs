@@ -158,6 +158,13 @@ pub fn slips() -> Vec<Example> {
     ]
 }
 
+/// Every range, on a loop, and its grade.
+pub fn every_grade() -> Case {
+    let mut calls = vec![[1, 1, 0, 0, 0], [3, 1, 1, 1, 0]];
+    calls.extend((0..10_000).flat_map(|d| [[8, 1, 2, d, 0], [54, 1, 1, 0, 0]]));
+    Case::new(Capacities { vertices: 1, edges: 1, changes: 20_000 }, &[0], &calls)
+}
+
 pub const TEXT: &str = "1 1 0 7 0\n1 2 0 9 0\n3 1 1 2 0\n8 1 2 450 0\n17 5 0 0 0\n2 1 0 0 0\n32 0 0 0 0\n21 5 0 0 0\n44 1 0 0 0\n";
 pub const TEXT_ANSWER: &str = "done 1\ndone 1\ndone 1\ndone 1\ndone 0\ndone 2\ndone 0\ndone 1\ndone 450\nimage 2 1 6 12 18 20 1 0 7 2 0 9 1 1 2 0 2 450 2 3\n";
 
@@ -209,6 +216,12 @@ mod tests {
         for e in slips() {
             assert_eq!(answers(&e.case()), e.answers, "{}", e.name);
         }
+    }
+
+    #[test]
+    fn every_range_has_its_grade() {
+        let grades: Vec<(u32, u32)> = answers(&every_grade()).into_iter().skip(3).step_by(2).collect();
+        assert_eq!(grades, (0..10_000).map(|d| (0, d / 250)).collect::<Vec<_>>());
     }
 
     #[test]

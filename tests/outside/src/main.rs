@@ -298,6 +298,10 @@ mod compare {
                 fail(format!("example {}: {message}", e.name));
             }
         }
+        let grades = examples::every_grade();
+        if let Err(message) = engine::compare(&grades, &grades.run(), 1) {
+            fail(format!("the grades of all ranges: {message}"));
+        }
         for (code, case) in examples::list_codes() {
             if let Err(message) = engine::compare(&case, &Outcome::Refused(code), 1) {
                 fail(format!("example of code {code}: {message}"));

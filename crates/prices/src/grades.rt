@@ -1,0 +1,93 @@
+// The printed price list: the lower limit of each grade, and the grade of a range by such a table.
+ghost use mathlib.Core.Path.{_≡_};
+ghost use Prim.Native.Nat.{_+_, _-_, _<_};
+ghost use lib.ListN.{length};
+ghost use lib.Dec.{leb};
+ghost use Rattle.lists.specs.Choice.{bit};
+ghost use Rattle.pricing.specs.Grades.{gradeBy};
+ghost use Rattle.pricing.specs.Prices.{gradeOf};
+
+// Behind each limit its grade.
+const LIMITS: [u32; 40] = [
+    0, // 0
+    250, // 1
+    500, // 2
+    750, // 3
+    1000, // 4
+    1250, // 5
+    1500, // 6
+    1750, // 7
+    2000, // 8
+    2250, // 9
+    2500, // 10
+    2750, // 11
+    3000, // 12
+    3250, // 13
+    3500, // 14
+    3750, // 15
+    4000, // 16
+    4250, // 17
+    4500, // 18
+    4750, // 19
+    5000, // 20
+    5250, // 21
+    5500, // 22
+    5750, // 23
+    6000, // 24
+    6250, // 25
+    6500, // 26
+    6750, // 27
+    7000, // 28
+    7250, // 29
+    7500, // 30
+    7750, // 31
+    8000, // 32
+    8250, // 33
+    8500, // 34
+    8750, // 35
+    9000, // 36
+    9250, // 37
+    9500, // 38
+    9750, // 39
+];
+
+// One more where the limit is not above the range.
+fn counted(n: u32, limit: u32, range: u32) -> u32
+    requires { ⌜ n < 4294967295 ⌝ }
+    ensures { λ r. ⌜ r ≡ n + bit (leb limit range) ⌝ }
+{
+    if limit <= range {
+        return n + 1;
+    }
+    n
+}
+
+fn less_one(n: u32) -> u32
+    ensures { λ r. ⌜ r ≡ n - 1 ⌝ }
+{
+    if n == 0 {
+        return 0;
+    }
+    n - 1
+}
+
+// How many limits are not above the range, less one. A table has no more lines than a word can count.
+fn grade_by(limits: &[u32], range: u32) -> u32
+    requires { ⌜ length (now limits) < 4294967296 ⌝ }
+    ensures { λ r. ⌜ r ≡ gradeBy (now (limits .entry)) range ⌝ }
+{
+    let mut n: u32 = 0;
+    let mut i = 0;
+    while i < limits.len() {
+        n = counted(n, limits[i], range);
+        i += 1;
+    }
+    less_one(n)
+}
+
+// The grade of a range.
+pub fn grade_of(range: u32) -> u32
+    ensures { λ r. ⌜ r ≡ gradeOf range ⌝ }
+{
+    grade_by(&LIMITS, range)
+}
