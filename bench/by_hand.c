@@ -256,15 +256,15 @@ static inline u32 cost_of_delete(const struct store *s, u32 v) {
     return cost;
 }
 
-/* The largest heard on edges from a to b, plus 1; 0 where nothing is heard. */
+/* What the last tested word out to b, along the list of a, has heard, plus 1; 0 where nothing is heard. */
 static inline u32 one_way(const struct store *s, u32 a, u32 b) {
-    u32 best = 0;
+    u32 last = 0;
     for (u32 w = vertex_row(s, a)[V_FIRST]; w; w = half(s, w)[W_NEXT]) {
         if (w & 1) continue;
         const u32 *row = edge_row(s, w / 2);
-        if (row[E_OMEGA] == b && row[E_KIND] == 2 && row[E_DECIMETRES] >= best) best = row[E_DECIMETRES] + 1;
+        if (row[E_OMEGA] == b && row[E_KIND]) last = row[E_KIND] == 2 ? row[E_DECIMETRES] + 1 : 0;
     }
-    return best;
+    return last;
 }
 
 #define REFUSE(code_) do { answer[0] = (code_); answer[1] = 0; return; } while (0)

@@ -34,7 +34,7 @@ extern "C" {
 #endif
 
 /* What a caller sees; raised with every change to it (docs/CHANGES.md). */
-#define FUTTOCKFIG_VERSION 3
+#define FUTTOCKFIG_VERSION 4
 
 /* Words a row in each table, and the most rows that a table may have. The fewest is 1. */
 #define FUTTOCKFIG_VERTEX_WORDS 8
@@ -106,7 +106,9 @@ enum futtockfig_kind {
     FUTTOCKFIG_MARKS_STANDING = 50,
     FUTTOCKFIG_FREE_CHANGES = 51,
     FUTTOCKFIG_IS_BELOW = 52,          /* a, b types; 1 or 0 */
-    FUTTOCKFIG_RANGE = 53,             /* a, b vertices; the smaller of both ways' largest heard decimetres */
+    FUTTOCKFIG_RANGE = 53,             /* a, b vertices; the smaller of both ways. The way from a to b is what is heard on the
+                                          last edge that is tested (kind 1 or 2) and goes out to b, in the order of
+                                          a's list; a may equal b */
     FUTTOCKFIG_GRADE = 54              /* a, b vertices; that range's grade, 0 to 39: the last of the limits 0, 250, 500, ..
                                           9,750 that is not above the range, counted from 0 */
 };
@@ -130,7 +132,7 @@ enum futtockfig_code {
     FUTTOCKFIG_NO_SUCH_MARK = 13,      /* kinds 18, 21, 49: some mark that is named is not standing */
     FUTTOCKFIG_NO_STEP = 14,           /* nothing to undo or redo */
     FUTTOCKFIG_BAD_SIDE = 15,          /* kind 45: c above 2 */
-    FUTTOCKFIG_NOTHING_HEARD = 16,     /* kinds 53, 54: a way has nothing heard */
+    FUTTOCKFIG_NOTHING_HEARD = 16,     /* kinds 53, 54: a way's last tested edge is silent, or it has none */
     /* Of the whole list. Nothing is run and nothing is written, tables included. */
     FUTTOCKFIG_BAD_CALLS = 101,        /* calls_len is not a multiple of 5 */
     FUTTOCKFIG_SHORT_ANSWERS = 102,    /* answers_len is under 2 a call */

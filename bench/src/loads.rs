@@ -127,8 +127,9 @@ fn questions(start: &Graph, count: usize) -> Vec<Call> {
 
 /// Pairs with something heard both ways.
 fn pairs(g: &Graph) -> Vec<(u32, u32)> {
-    let ways: std::collections::HashSet<(u32, u32)> = g.edges.iter().filter(|e| e.reading.kind() == 2).map(|e| (e.alpha, e.omega)).collect();
-    let mut both: Vec<(u32, u32)> = ways.iter().filter(|w| ways.contains(&(w.1, w.0))).copied().collect();
+    let ends = g.edges.iter().map(|e| (e.alpha, e.omega));
+    let mut both: Vec<(u32, u32)> = ends.filter(|(a, b)| g.two_way(*a, *b).is_some()).collect();
     both.sort();
+    both.dedup();
     both
 }

@@ -34,7 +34,7 @@ use core::fmt;
 use raw::{futtockfig_part, futtockfig_run};
 
 /// The version of what a caller sees, that of `include/futtockfig.h`.
-pub const VERSION: u32 = 3;
+pub const VERSION: u32 = 4;
 
 /// Kind, a, b, c, d.
 pub type Call = [u32; 5];

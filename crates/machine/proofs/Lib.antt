@@ -1,6 +1,7 @@
 pub mod Accepts
 pub mod Stands
 pub mod MarkLaws
+pub mod PriceLaws
 pub mod Families
 pub mod CostsFit
 pub mod Cases

@@ -1,31 +1,41 @@
--- Two ways together are the price of the graph, and what its words answer.
+-- Two ways together are the price of the graph.
 use Prim.Native.Nat.{ℕ, min}
-use mathlib.Core.Path.{_≡_, refl, ap}
-use mathlib.Core.Bool.{false, _||_}
-use mathlib.Core.List.{List, [], _∷_}
+use mathlib.Core.Path.{_≡_, refl}
+use mathlib.Core.Bool.{not, _||_}
+use mathlib.Core.List.{[], _∷_}
+use types.Run.{OneOf, miss}
+use denote.Enum.Declared.{tagOf}
 use Rattle.lists.specs.Choice.{_⇒_else_}
-use Rattle.graph.specs.Graph.{Graph}
-use Rattle.pricing.specs.Prices.{heard, isNone, largest, nothingHeard, oneWay, twoWay, gradeOf, grade}
-use Rattle.prices.specs.Ways.{wayOf, bothWays, priceOf}
+use Rattle.graph.specs.declared.Reading.{Reading}
+use Rattle.graph.specs.declared.Reading.the-variants.{Untested, Silent, Heard}
+use Rattle.graph.specs.Graph.{Graph, decimetres}
+use Rattle.graph.proofs.Reading.{the-type}
+use Rattle.pricing.specs.Prices.{way, isHeard, nothingHeard, oneWay, twoWay}
+use Rattle.prices.specs.Ways.{bothWays, priceOf}
 
-both : (xs ys : List ℕ) → bothWays (wayOf xs) (wayOf ys) ≡ record { code = (isNone xs || isNone ys) ⇒ 16 else 0; range = (isNone xs || isNone ys) ⇒ 0 else min (largest xs) (largest ys) }
-both [] ys = refl
-both (x ∷ xs) [] = refl
-both (x ∷ xs) (y ∷ ys) = refl
+both : (x y : Reading) → bothWays x y ≡ record {
+  code = (not (isHeard x) || not (isHeard y)) ⇒ 16 else 0;
+  range = (not (isHeard x) || not (isHeard y)) ⇒ 0 else min (decimetres x) (decimetres y);
+}
+both Untested y = refl
+both Silent y = refl
+both (Heard d) Untested = refl
+both (Heard d) Silent = refl
+both (Heard d) (Heard k) = refl
 
-module _ (g : Graph) (a b : ℕ) where
-  pub both-is : bothWays (wayOf (heard g a b)) (wayOf (heard g b a)) ≡ priceOf g a b
-  unfolding nothingHeard twoWay oneWay
-  both-is = both (heard g a b) (heard g b a)
+pub both-is : (g : Graph) (a b : ℕ) → bothWays (way g a b) (way g b a) ≡ priceOf g a b
+unfolding nothingHeard twoWay oneWay
+both-is g a b = both (way g a b) (way g b a)
 
-  -- code 16
-  pub code-is : priceOf g a b .code ≡ (nothingHeard g a b ⇒ 16 else 0)
-  code-is = refl
+-- ---- a way that is not heard: untested or silent, by its number
 
-  -- kinds 53 and 54
-  pub range-is : nothingHeard g a b ≡ false → priceOf g a b .range ≡ twoWay g a b
-  range-is e = rw e
+pub there-not : (x y : Reading) → OneOf (0 ∷ 1 ∷ []) (tagOf the-type x) → record { code = 16; range = 0 } ≡ bothWays x y
+there-not Untested y k = refl
+there-not Silent y k = refl
+there-not (Heard d) y k = absurd (miss (0 ∷ 1 ∷ []) 2 tt k)
 
-  pub grade-is : nothingHeard g a b ≡ false → gradeOf (priceOf g a b .range) ≡ grade g a b
-  unfolding grade
-  grade-is e = ap gradeOf (range-is e)
+pub back-not : (x y : Reading) (d : ℕ) → x ≡ Heard d → OneOf (0 ∷ 1 ∷ []) (tagOf the-type y) →
+    record { code = 16; range = 0 } ≡ bothWays x y
+back-not x Untested d e k = rw e
+back-not x Silent d e k = rw e
+back-not x (Heard j) d e k = absurd (miss (0 ∷ 1 ∷ []) 2 tt k)

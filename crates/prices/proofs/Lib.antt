@@ -1,5 +1,4 @@
 pub mod Counted
-pub mod Largest
 pub mod Passes
 pub mod Heard
 pub mod BothWays

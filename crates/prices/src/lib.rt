@@ -25,14 +25,8 @@ ghost use Rattle.machine.specs.Machine.{priceNumber};
 ghost use Rattle.answers.specs.AnswerIs.{AnswerIs};
 ghost use Rattle.prices.specs.Priced.{Priced};
 ghost use Rattle.queries.specs.Walks.{CanWalk};
-ghost use Rattle.pricing.specs.Prices.{heard};
-ghost use Rattle.prices.specs.Ways.{wayOf, largerOf, withReading, readingTo, bothWays, priceOf};
-
-// What is heard one way: nothing, or some decimetres.
-pub enum Way {
-    Nothing,
-    Heard(u32),
-}
+ghost use Rattle.pricing.specs.Prices.{later, way as wayOf};
+ghost use Rattle.prices.specs.Ways.{readingTo, bothWays, priceOf};
 
 // A code and the two-way range: code 16 where a way has nothing heard; 0 as range with any code.
 pub struct Price {
@@ -40,27 +34,14 @@ pub struct Price {
     pub range: u32,
 }
 
-// A way after d is heard too: the larger decimetres.
-fn larger(way: Way, d: u32) -> Way
-    ensures { λ r. ⌜ r ≡ largerOf way d ⌝ }
-{
-    let Way::Heard(m) = way else {
-        return Way::Heard(d);
-    };
-    if m < d {
-        return Way::Heard(d);
-    }
-    Way::Heard(m)
-}
-
-// A way after one reading more.
-fn with_reading(way: Way, reading: Reading) -> Way
-    ensures { λ r. ⌜ r ≡ withReading way reading ⌝ }
+// A way after one reading more: the last that is not untested decides.
+fn with_reading(way: Reading, reading: Reading) -> Reading
+    ensures { λ r. ⌜ r ≡ later way reading ⌝ }
 {
     match reading {
         Reading::Untested => way,
-        Reading::Silent => way,
-        Reading::Heard(d) => larger(way, d),
+        Reading::Silent => Reading::Silent,
+        Reading::Heard(d) => Reading::Heard(d),
     }
 }
 
@@ -80,11 +61,12 @@ fn reading_to(et: &[u32], b: u32, w: u32) -> Reading
 }
 
 // One way from a to b: a walk along the list of a by a cursor.
-pub fn one_way(vt: &[u32], et: &[u32], a: u32, b: u32) -> Way
+pub fn one_way(vt: &[u32], et: &[u32], a: u32, b: u32) -> Reading
     requires { ⌜ CanWalk (now vt) (now et) a ⌝ }
-    ensures { λ r. ⌜ ((h : Head) (g : Graph) → Holds (st h (now (vt .entry)) (now (et .entry))) g → VertexThere g a → r ≡ wayOf (heard g a b)) ⌝ }
+    ensures { λ r. ⌜ ((h : Head) (g : Graph) → Holds (st h (now (vt .entry)) (now (et .entry))) g
+        → VertexThere g a → r ≡ wayOf g a b) ⌝ }
 {
-    let mut way = Way::Nothing;
+    let mut way = Reading::Untested;
     let mut w = first_word(vt, a);
     while w != 0 {
         let reading = reading_to(et, b, w);
@@ -104,13 +86,13 @@ fn smaller(x: u32, y: u32) -> u32
 }
 
 // The price of two ways: the smaller of both.
-fn both_ways(there: Way, back: Way) -> Price
+fn both_ways(there: Reading, back: Reading) -> Price
     ensures { λ r. ⌜ r ≡ bothWays there back ⌝ }
 {
-    let Way::Heard(x) = there else {
+    let Reading::Heard(x) = there else {
         return Price { code: 16, range: 0 };
     };
-    let Way::Heard(y) = back else {
+    let Reading::Heard(y) = back else {
         return Price { code: 16, range: 0 };
     };
     let range = smaller(x, y);
@@ -120,7 +102,8 @@ fn both_ways(there: Way, back: Way) -> Price
 // Code 16 or 0, and the two-way range, of the vertices a and b.
 fn price_of(vt: &[u32], et: &[u32], a: u32, b: u32) -> Price
     requires { ⌜ CanWalk (now vt) (now et) a × CanWalk (now vt) (now et) b ⌝ }
-    ensures { λ r. ⌜ ((h : Head) (g : Graph) → Holds (st h (now (vt .entry)) (now (et .entry))) g → VertexThere g a → VertexThere g b → r ≡ priceOf g a b) ⌝ }
+    ensures { λ r. ⌜ ((h : Head) (g : Graph) → Holds (st h (now (vt .entry)) (now (et .entry))) g
+        → VertexThere g a → VertexThere g b → r ≡ priceOf g a b) ⌝ }
 {
     let there = one_way(vt, et, a, b);
     let back = one_way(vt, et, b, a);
@@ -129,8 +112,10 @@ fn price_of(vt: &[u32], et: &[u32], a: u32, b: u32) -> Price
 
 // Codes 4 and 16, and the range of an accepted pair.
 fn priced(vt: &[u32], et: &[u32], a: u32, b: u32) -> Price
-    requires { ⌜ ((z : Bounds) × (head : Head) × (g : Graph) × Sized z (st head (now vt) (now et)) × Holds (st head (now vt) (now et)) g) ⌝ }
-    ensures { λ r. ⌜ ((head : Head) → (g : Graph) → Holds (st head (now (vt .entry)) (now (et .entry))) g → Priced g a b r) ⌝ }
+    requires { ⌜ ((z : Bounds) × (head : Head) × (g : Graph) × Sized z (st head (now vt) (now et))
+        × Holds (st head (now vt) (now et)) g) ⌝ }
+    ensures { λ r. ⌜ ((head : Head) → (g : Graph) → Holds (st head (now (vt .entry)) (now (et .entry))) g
+        → Priced g a b r) ⌝ }
 {
     let code = vertices_code(vt, a, b);
     if code != 0 {
@@ -141,8 +126,10 @@ fn priced(vt: &[u32], et: &[u32], a: u32, b: u32) -> Price
 
 // Kind 53: the two-way range of a and b.
 fn range(vt: &[u32], et: &[u32], a: u32, b: u32) -> Answer
-    requires { ⌜ ((z : Bounds) × (head : Head) × (g : Graph) × Sized z (st head (now vt) (now et)) × Holds (st head (now vt) (now et)) g) ⌝ }
-    ensures { λ r. ⌜ ((head : Head) → (g : Graph) → Holds (st head (now (vt .entry)) (now (et .entry))) g → AnswerIs r (priceCode g (price.Range a b)) (priceNumber g (price.Range a b))) ⌝ }
+    requires { ⌜ ((z : Bounds) × (head : Head) × (g : Graph) × Sized z (st head (now vt) (now et))
+        × Holds (st head (now vt) (now et)) g) ⌝ }
+    ensures { λ r. ⌜ ((head : Head) → (g : Graph) → Holds (st head (now (vt .entry)) (now (et .entry))) g
+        → AnswerIs r (priceCode g (price.Range a b)) (priceNumber g (price.Range a b))) ⌝ }
 {
     let p = priced(vt, et, a, b);
     Answer {
@@ -153,8 +140,10 @@ fn range(vt: &[u32], et: &[u32], a: u32, b: u32) -> Answer
 
 // Kind 54: the grade of a and b.
 fn grade(vt: &[u32], et: &[u32], a: u32, b: u32) -> Answer
-    requires { ⌜ ((z : Bounds) × (head : Head) × (g : Graph) × Sized z (st head (now vt) (now et)) × Holds (st head (now vt) (now et)) g) ⌝ }
-    ensures { λ r. ⌜ ((head : Head) → (g : Graph) → Holds (st head (now (vt .entry)) (now (et .entry))) g → AnswerIs r (priceCode g (price.Grade a b)) (priceNumber g (price.Grade a b))) ⌝ }
+    requires { ⌜ ((z : Bounds) × (head : Head) × (g : Graph) × Sized z (st head (now vt) (now et))
+        × Holds (st head (now vt) (now et)) g) ⌝ }
+    ensures { λ r. ⌜ ((head : Head) → (g : Graph) → Holds (st head (now (vt .entry)) (now (et .entry))) g
+        → AnswerIs r (priceCode g (price.Grade a b)) (priceNumber g (price.Grade a b))) ⌝ }
 {
     let p = priced(vt, et, a, b);
     let number = grade_of(p.range);
@@ -166,8 +155,10 @@ fn grade(vt: &[u32], et: &[u32], a: u32, b: u32) -> Answer
 
 // Any call of the price list.
 pub fn quote(vt: &[u32], et: &[u32], call: PriceCall) -> Answer
-    requires { ⌜ ((z : Bounds) × (head : Head) × (g : Graph) × Sized z (st head (now vt) (now et)) × Holds (st head (now vt) (now et)) g) ⌝ }
-    ensures { λ r. ⌜ ((head : Head) → (g : Graph) → Holds (st head (now (vt .entry)) (now (et .entry))) g → AnswerIs r (priceCode g call) (priceNumber g call)) ⌝ }
+    requires { ⌜ ((z : Bounds) × (head : Head) × (g : Graph) × Sized z (st head (now vt) (now et))
+        × Holds (st head (now vt) (now et)) g) ⌝ }
+    ensures { λ r. ⌜ ((head : Head) → (g : Graph) → Holds (st head (now (vt .entry)) (now (et .entry))) g
+        → AnswerIs r (priceCode g call) (priceNumber g call)) ⌝ }
 {
     match call {
         PriceCall::Range(a, b) => range(vt, et, a, b),

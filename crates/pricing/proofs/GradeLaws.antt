@@ -102,7 +102,7 @@ module _ (d : ℕ) where
       let e : suc i + j ≡ i + suc j = omega arith in
       multiple-at (suc i) ls (a .1) j (omega arith) ∙ ap (λ (n : ℕ). n * d) e
 
-  -- "rounded down": by n multiples of d, for a range below n × d
+  -- by n multiples of d, for a range below n × d
   pub grade-of-multiples : (ls : List ℕ) (r : ℕ) → rising ls ≡ true → multiplesFrom d 0 ls ≡ true → r < length ls * d →
       gradeBy ls r ≡ r / d
   grade-of-multiples ls r up even top = by (gradeBy ls r) (graded ls r up)
@@ -127,7 +127,7 @@ pub limits-rise : rising limits ≡ true
 unfolding limits
 limits-rise = refl
 
--- "Every grade is as before": of every range that a graph can have
+-- as by dividing by 250, for every range that a graph can have
 pub grade-as-before : (r : ℕ) → r ≤ 9999 → gradeBy limits r ≡ r / 250
 unfolding limits
 grade-as-before r h = grade-of-multiples 250 limits r limits-rise refl (omega arith)

@@ -1,52 +1,54 @@
 -- Decimetres are 0 to 9,999, so every range is; a grade is a line of the table, at most 39.
-use Prim.Native.Nat.{ℕ, _/_, _≤_}
+use Prim.Native.Nat.{ℕ, _%_, _/_, _≤_}
 use mathlib.Core.Path.{_≡_}
-use mathlib.Core.Bool.{Bool, true, false, _&&_}
-use mathlib.Core.List.{List, []}
+use mathlib.Core.List.{List, [], _∷_}
 use native.Mathlib.Omega.{arith}
-use Rattle.lists.specs.Choice.{_⇒_else_, _==_}
-use Rattle.lists.specs.Lists.{All, done, more, each}
-use Rattle.lists.proofs.Sums.{all-append, all-imp}
+use Rattle.lists.proofs.Picks.{pick-yes, pick-no, same, differ, same?}
+use Rattle.lists.proofs.Sums.{all-imp}
+use Rattle.lists.proofs.KeyedAll.{all-found}
 use Rattle.graph.specs.declared.Reading.{Reading}
 use Rattle.graph.specs.declared.Reading.the-variants.{Untested, Silent, Heard}
-use Rattle.graph.specs.Graph.{Edge, Graph, decimetres}
+use Rattle.graph.specs.Graph.{Edge, Graph, en, noEdge, edge, edgeOf, listOf, decimetres}
 use Rattle.graph.specs.WellFormed.{Bounds, Within}
 use Rattle.graph.proofs.Readings.{reading-range}
 use Rattle.pricing.specs.Grades.{limits}
-use Rattle.pricing.specs.Prices.{heardIn, heard, largest, oneWay, twoWay, grade}
+use Rattle.pricing.specs.Prices.{readingOut, later, lastTested, way, oneWay, twoWay, grade}
 use Rattle.pricing.proofs.GradeLaws.{Graded, graded, limits-rise, grade-as-before}
 
--- where every edge is heard at n at most
-module _ (n : ℕ) where
-  heard-le : (r : Reading) (t : Bool) → decimetres r ≤ n → All (λ d. d ≤ n) (t ⇒ heardIn r else [])
-  heard-le r false h = done
-  heard-le Untested true h = done
-  heard-le Silent true h = done
-  heard-le (Heard d) true h = more h done
+-- where every reading is of n decimetres at most, the last tested one is
+module _ (n : ℕ) (f : ℕ → Reading) (h : (w : ℕ) → decimetres (f w) ≤ n) where
+  later-le : (r s : Reading) → decimetres r ≤ n → decimetres s ≤ n → decimetres (later r s) ≤ n
+  later-le r Untested p q = p
+  later-le r Silent p q = omega arith
+  later-le r (Heard d) p q = q
 
-  largest-le : {ds : List ℕ} → All (λ d. d ≤ n) ds → largest ds ≤ n
-  largest-le done = omega arith
-  largest-le (more h s) = omega (arith, largest-le s)
+  last-le : (r : Reading) (ws : List ℕ) → decimetres r ≤ n → decimetres (lastTested f r ws) ≤ n
+  last-le r [] p = p
+  last-le r (w ∷ ws) p = last-le (later r (f w)) ws (later-le r (f w) p (h w))
 
-  ways-le : (a b : ℕ) {es : List Edge} → All (λ (e : Edge). decimetres (e .reading) ≤ n) es →
-      All (λ d. d ≤ n) (each (λ (e : Edge). ((e .alpha == a) && (e .omega == b)) ⇒ heardIn (e .reading) else []) es)
-  ways-le a b done = done
-  ways-le a b (more {x = e} h s) = all-append (heard-le (e .reading) ((e .alpha == a) && (e .omega == b)) h) (ways-le a b s)
+module _ (k : Bounds) (g : Graph) (w : Within k g) where
+  edge-le : (e : ℕ) → decimetres (edge g e .reading) ≤ 9999
+  edge-le e =
+      all-found en (λ (x : Edge). decimetres (x .reading) ≤ 9999) noEdge e (omega arith)
+      (all-imp (λ (x : Edge) f. reading-range (x .reading) (f .reading) .1) (w .edges))
 
-  way-le : (g : Graph) (a b : ℕ) → All (λ (e : Edge). decimetres (e .reading) ≤ n) (g .eseq) → oneWay g a b ≤ n
-  unfolding oneWay heard
-  way-le g a b s = largest-le (ways-le a b s)
+  out-le : (b x : ℕ) → decimetres (readingOut g b x) ≤ 9999
+  out-le b x = elim (same? (x % 2) 0) [
+    | differ i j ↦ simp pick-no (omega arith)
+    | same i j ↦ simp pick-yes (elim (same? (edge g (edgeOf x) .omega) b) [
+      | same p q ↦ simp pick-yes (edge-le (edgeOf x))
+      | differ p q ↦ simp pick-no (omega arith)
+    ])
+  ]
+
+  pub one-way-range : (a b : ℕ) → oneWay g a b ≤ 9999
+  unfolding oneWay
+  one-way-range a b = last-le 9999 (readingOut g b) (out-le b) Untested (listOf g a) (omega arith)
 
 module _ (k : Bounds) (g : Graph) (w : Within k g) (a b : ℕ) where
-  readings : All (λ (e : Edge). decimetres (e .reading) ≤ 9999) (g .eseq)
-  readings = all-imp (λ (e : Edge) f. reading-range (e .reading) (f .reading) .1) (w .edges)
-
-  pub one-way-range : oneWay g a b ≤ 9999
-  one-way-range = way-le 9999 g a b readings
-
   pub two-way-range : twoWay g a b ≤ 9999
   unfolding twoWay
-  two-way-range = omega (arith, one-way-range)
+  two-way-range = omega (arith, one-way-range k g w a b)
 
   pub grade-is-before : grade g a b ≡ twoWay g a b / 250
   unfolding grade

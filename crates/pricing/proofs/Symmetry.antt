@@ -1,10 +1,10 @@
 -- A price is the same seen from both vertices.
 use Prim.Native.Nat.{ℕ}
 use mathlib.Core.Path.{_≡_, refl, ap}
-use mathlib.Core.Bool.{Bool, true, false, _||_}
+use mathlib.Core.Bool.{Bool, true, false, not, _||_}
 use native.Mathlib.Omega.{arith}
 use Rattle.graph.specs.Graph.{Graph}
-use Rattle.pricing.specs.Prices.{heard, isNone, twoWay, nothingHeard, gradeOf, grade}
+use Rattle.pricing.specs.Prices.{way, isHeard, twoWay, nothingHeard, gradeOf, grade}
 
 or-swap : (p q : Bool) → (p || q) ≡ (q || p)
 or-swap true true = refl
@@ -18,7 +18,7 @@ two-way-symmetric g a b = omega arith
 
 pub nothing-heard-symmetric : (g : Graph) (a b : ℕ) → nothingHeard g a b ≡ nothingHeard g b a
 unfolding nothingHeard
-nothing-heard-symmetric g a b = or-swap (isNone (heard g a b)) (isNone (heard g b a))
+nothing-heard-symmetric g a b = or-swap (not (isHeard (way g a b))) (not (isHeard (way g b a)))
 
 pub grade-symmetric : (g : Graph) (a b : ℕ) → grade g a b ≡ grade g b a
 unfolding grade

@@ -1,41 +1,45 @@
 -- The price list: range and grade of a pair.
-use Prim.Native.Nat.{ℕ, min, max}
-use mathlib.Core.Bool.{Bool, true, false, _&&_, _||_}
+use Prim.Native.Nat.{ℕ, min}
+use mathlib.Core.Bool.{Bool, true, false, not, _||_}
 use mathlib.Core.List.{List, [], _∷_}
-use Rattle.lists.specs.Choice.{_⇒_else_, _==_}
-use Rattle.lists.specs.Lists.{each}
+use Rattle.lists.specs.Choice.{pick}
 use Rattle.graph.specs.declared.Reading.{Reading}
 use Rattle.graph.specs.declared.Reading.the-variants.{Untested, Silent, Heard}
-use Rattle.graph.specs.Graph.{Edge, Graph}
+use Rattle.graph.specs.Graph.{Graph, edge, edgeOf, bySide, listOf, decimetres}
 use Rattle.pricing.specs.Grades.{limits, gradeBy}
 
--- the decimetres of a heard reading
-abbrev pub heardIn : Reading → List ℕ
-heardIn Untested = []
-heardIn Silent = []
-heardIn (Heard d) = d ∷ []
+-- the reading of the edge of word w where w goes out to b, else untested
+abbrev pub readingOut : Graph → ℕ → ℕ → Reading
+readingOut g b w = bySide w (pick (edge g (edgeOf w) .omega) b (edge g (edgeOf w) .reading) Untested) Untested
 
--- what is heard on the edges with alpha a and omega b
-unfoldable pub heard : Graph → ℕ → ℕ → List ℕ
-heard g a b = each (λ (e : Edge). ((e .alpha == a) && (e .omega == b)) ⇒ heardIn (e .reading) else []) (g .eseq)
+-- the later of two readings, unless that is untested
+abbrev pub later : Reading → Reading → Reading
+later r Untested = r
+later r Silent = Silent
+later r (Heard d) = Heard d
 
-abbrev pub isNone : List ℕ → Bool
-isNone [] = true
-isNone (d ∷ ds) = false
+-- the last reading along a list of words that is not untested; r where all are
+abbrev pub lastTested : (ℕ → Reading) → Reading → List ℕ → Reading
+lastTested f r [] = r
+lastTested f r (w ∷ ws) = lastTested f (later r (f w)) ws
 
-abbrev pub largest : List ℕ → ℕ
-largest [] = 0
-largest (d ∷ ds) = max d (largest ds)
+-- the reading that sets the way from a to b: the last tested one along the list of a, on words out to b (REFERENCE 6.1)
+unfoldable pub way : Graph → ℕ → ℕ → Reading
+way g a b = lastTested (readingOut g b) Untested (listOf g a)
 
--- REFERENCE 6.1
+abbrev pub isHeard : Reading → Bool
+isHeard Untested = false
+isHeard Silent = false
+isHeard (Heard d) = true
+
 unfoldable pub oneWay : Graph → ℕ → ℕ → ℕ
-unfolding heard
-oneWay g a b = largest (heard g a b)
+unfolding way
+oneWay g a b = decimetres (way g a b)
 
 -- code 16 (REFERENCE 7.16)
 unfoldable pub nothingHeard : Graph → ℕ → ℕ → Bool
-unfolding heard
-nothingHeard g a b = isNone (heard g a b) || isNone (heard g b a)
+unfolding way
+nothingHeard g a b = not (isHeard (way g a b)) || not (isHeard (way g b a))
 
 -- REFERENCE 6.2
 unfoldable pub twoWay : Graph → ℕ → ℕ → ℕ

@@ -125,16 +125,15 @@ impl Graph {
         }
     }
 
-    /// REFERENCE 6.1.
+    /// One way of the price list: what the last walk from a to b heard. A walk is a word of a's list that goes out to b,
+    /// with a reading that is not untested (REFERENCE 6.1).
     fn one_way(&self, a: u32, b: u32) -> Option<u32> {
-        self.edges
-            .iter()
-            .filter(|e| e.alpha == a && e.omega == b)
-            .filter_map(|e| match e.reading {
-                Reading::Heard(d) => Some(d),
-                _ => None,
-            })
-            .max()
+        let out = self.vertex(a)?.list.iter().filter(|w| *w % 2 == 0).map(|w| self.edge(w / 2).unwrap());
+        let walk = out.filter(|e| e.omega == b && e.reading != Reading::Untested).last()?;
+        match walk.reading {
+            Reading::Heard(d) => Some(d),
+            _ => None,
+        }
     }
 
     /// This graph after a change that codes 1 to 9 allow.
@@ -171,7 +170,8 @@ impl Graph {
         g
     }
 
-    fn two_way(&self, a: u32, b: u32) -> Option<u32> {
+    /// The smaller of both ways.
+    pub fn two_way(&self, a: u32, b: u32) -> Option<u32> {
         Some(self.one_way(a, b)?.min(self.one_way(b, a)?))
     }
 }

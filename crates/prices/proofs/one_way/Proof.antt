@@ -10,9 +10,9 @@ use Rattle.graph.specs.declared.Reading.{Reading}
 use Rattle.tables.specs.Tables.{st, ilane, endsAt, EIn, wnext}
 use Rattle.tables.proofs.Frames.{valid-i}
 use Rattle.queries.proofs.ListWalks.{Walk, Step, left, walk-start, walk-step, first-link, word-in, next-link}
-use Rattle.prices.specs.declared.Way.{Way}
-use Rattle.prices.specs.declared.Way.the-variants.{Nothing}
-use Rattle.prices.specs.Ways.{withReading, readingTo, along}
+use Rattle.graph.specs.declared.Reading.the-variants.{Untested}
+use Rattle.pricing.specs.Prices.{later, lastTested}
+use Rattle.prices.specs.Ways.{readingTo}
 use Rattle.prices.proofs.Heard.{way-is}
 use Rattle.prices.proofs.Passes.{ahead, ahead-end, ahead-on}
 use Rattle.prices.proofs.one_way.Statement.{statement}
@@ -27,7 +27,7 @@ Stands et e w = Walk (λ x. 0) (Row et) ilane et e w 0 (sumOf (λ x. 0) (nodes i
 
 abbrev Inv-loop : tie.InvT-loop
 Inv-loop vt et a b way₀ w₀ way w =
-    Stands et (endsAt vt a) w × (along (readingTo et b) way (ahead ilane et (endsAt vt a) w) ≡ along (readingTo et b) Nothing (nodes ilane et (endsAt vt a)))
+    Stands et (endsAt vt a) w × (lastTested (readingTo et b) way (ahead ilane et (endsAt vt a) w) ≡ lastTested (readingTo et b) Untested (nodes ilane et (endsAt vt a)))
 
 abbrev μ-loop : tie.MeasureT-loop
 μ-loop vt et a b way₀ w₀ way w = left ilane et (endsAt vt a) w
@@ -39,12 +39,12 @@ module _ (et : List ℕ) (e : Ends) (w : ℕ) (k : Stands et e w) (z : w ≡ 0 �
   link : (y : ℕ) → y ≡ wnext et w → y ≡ linkOf nxt ilane et e w
   link = next-link et w (step .holds) e
 
-  on : (b : ℕ) (way way′ : Way) (r : Reading) (y : ℕ) → r ≡ readingTo et b w → way′ ≡ withReading way r → y ≡ wnext et w →
-      along (readingTo et b) way (ahead ilane et e w) ≡ along (readingTo et b) Nothing (nodes ilane et e) →
-      along (readingTo et b) way′ (ahead ilane et e y) ≡ along (readingTo et b) Nothing (nodes ilane et e)
+  on : (b : ℕ) (way way′ : Reading) (r : Reading) (y : ℕ) → r ≡ readingTo et b w → way′ ≡ later way r → y ≡ wnext et w →
+      lastTested (readingTo et b) way (ahead ilane et e w) ≡ lastTested (readingTo et b) Untested (nodes ilane et e) →
+      lastTested (readingTo et b) way′ (ahead ilane et e y) ≡ lastTested (readingTo et b) Untested (nodes ilane et e)
   on b way way′ r y p q n h =
-      ap (λ (x : Way). along (readingTo et b) x (ahead ilane et e y)) (q ∙ ap (withReading way) p)
-      ∙ sym (ap (along (readingTo et b) way) (ahead-on (λ x. 0) (Row et) ilane et e w 0 (sumOf (λ x. 0) (nodes ilane et e)) k z y (link y n)))
+      ap (λ (x : Reading). lastTested (readingTo et b) x (ahead ilane et e y)) (q ∙ ap (later way) p)
+      ∙ sym (ap (lastTested (readingTo et b) way) (ahead-on (λ x. 0) (Row et) ilane et e w 0 (sumOf (λ x. 0) (nodes ilane et e)) k z y (link y n)))
       ∙ h
 
 first-word-requires : tie.Need-first-word-requires Inv-loop μ-loop
@@ -58,7 +58,7 @@ loop-holds c =
     let e = endsAt (s .args .vt .now) (s .args .a) in
     let q = c .first-word .ensures ∙ first-link (s .args .vt .now) et (s .args .a) in (
       walk-start (λ x. 0) (Row et) ilane et e valid-i (s .pre .list) (s .pre .held) (s .pre .rows) (c .first-word .result) q,
-      ap (λ (w : ℕ). along (readingTo et (s .args .b)) Nothing (ahead ilane et e w)) q,
+      ap (λ (w : ℕ). lastTested (readingTo et (s .args .b)) Untested (ahead ilane et e w)) q,
     )
 
 reading-to-requires : tie.Need-reading-to-requires Inv-loop μ-loop
@@ -108,7 +108,7 @@ returns c =
     let et = s .args .et .now in
     let e = endsAt (s .args .vt .now) (s .args .a) in
     λ h g holds there.
-    sym (ap (along (readingTo et (s .args .b)) (l .way)) (ahead-end (λ x. 0) (Row et) ilane et e (l .w) 0 0 (c .loop-test .left)))
+    sym (ap (lastTested (readingTo et (s .args .b)) (l .way)) (ahead-end (λ x. 0) (Row et) ilane et e (l .w) 0 0 (c .loop-test .left)))
     ∙ l .inv .1
     ∙ way-is (st h (s .args .vt .now) et) g holds (s .args .a) (s .args .b) there
 
