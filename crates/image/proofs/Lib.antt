@@ -18,3 +18,7 @@ pub mod ListPass
 pub mod ScratchPass
 pub mod SoundLoads
 pub mod SavedSound
+pub mod Offsets
+pub mod FirstBad
+pub mod Fill
+pub mod Follows

@@ -61,7 +61,8 @@ edgeCount ws = getD ws 1 0
 -- "a sound header (length, offsets, total)", "the total .. equals the length"
 unfoldable pub soundHeader : List ℕ → Bool
 soundHeader ws =
-    same (take 6 ws) (headerOf (vertexCount ws) (edgeCount ws)) && (length ws == imageLength (vertexCount ws) (edgeCount ws))
+    same (take 6 ws) (headerOf (vertexCount ws) (edgeCount ws))
+    && (length ws == imageLength (vertexCount ws) (edgeCount ws))
 
 abbrev pub vertexPart : List ℕ → List ℕ
 vertexPart ws = take (vertexSize * vertexCount ws) (drop vertexOffset ws)

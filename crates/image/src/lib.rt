@@ -7,15 +7,39 @@ mod passes; // passes.rt: each part in turn, over scratch
 ghost use mathlib.Core.Path.{_≡_};
 ghost use Prim.Native.Nat.{_≤_};
 ghost use Rattle.image.specs.Image.{part as partOf};
-ghost use Rattle.image.specs.Checks.{bounds, verdict, codeOf, loadCode};
+ghost use Rattle.image.specs.Checks.{bounds, verdict, codeOf, offsetOf, loadCode};
 
-// What words are: those that some graph saves as, or the offset of the first word that cannot follow the words before it.
+// What words are: those that some graph saves as, or the offset of the first word that cannot follow those before it.
 // Where the header or a count is bad there is no offset.
 pub enum Verdict {
     Sound,
     BadHeader,
     BadRecord(u32),
     BadIncidence(u32),
+}
+
+// The code that a verdict is answered by.
+pub fn code_of(found: Verdict) -> u32
+    ensures { λ r. ⌜ r ≡ codeOf found ⌝ }
+{
+    match found {
+        Verdict::Sound => 0,
+        Verdict::BadHeader => 105,
+        Verdict::BadRecord(_) => 105,
+        Verdict::BadIncidence(_) => 105,
+    }
+}
+
+// The offset of the first bad word, from 0 at the first word; 0 where the verdict names none.
+pub fn offset_of(found: Verdict) -> u32
+    ensures { λ r. ⌜ r ≡ offsetOf found ⌝ }
+{
+    match found {
+        Verdict::Sound => 0,
+        Verdict::BadHeader => 0,
+        Verdict::BadRecord(at) => at,
+        Verdict::BadIncidence(at) => at,
+    }
 }
 
 // Part 1, 2 or 3 (vertices, edges, incidences) of words with a sound header; else an empty part.
