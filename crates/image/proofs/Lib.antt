@@ -10,6 +10,7 @@ pub mod Examples
 -- the code
 pub mod Readings
 pub mod Headers
+pub mod Parts
 pub mod Turns
 pub mod Verdicts
 pub mod VertexPass

@@ -19,6 +19,7 @@ use Rattle.image.specs.declared.Verdict.the-variants.{Sound, BadHeader}
 use Rattle.image.proofs.Verdict.{the-type}
 use Rattle.image.proofs.Verdicts.{stop, then-same}
 use Rattle.image.proofs.Headers.{sound-length}
+use Rattle.image.proofs.Parts.{part-1, part-2, part-3}
 use Rattle.image.proofs.VertexPass.{Small, small-take, small-drop, Indicator, vertex-agrees, marks-agree, walk-distinct, walk-positive}
 use Rattle.image.proofs.EdgePass.{Marked, Seen, Paired, marked-by, edge-agrees, degrees-agree, owners-agree}
 use Rattle.image.proofs.ListPass.{positive, incidence-agrees}
@@ -108,21 +109,9 @@ module _ (ws : List ℕ) (h : soundHeader ws ≡ true) where
   unfolding verdict
   bad-counts b k = rw (h, k)
 
-  part-one : part 1 ws ≡ vertexPart ws
-  unfolding part
-  part-one = rw h
-
-  part-two : part 2 ws ≡ edgePart ws
-  unfolding part
-  part-two = rw h
-
-  part-three : part 3 ws ≡ incidencePart ws
-  unfolding part
-  part-three = rw h
-
   pub incidences-few : (v e : ℕ) → v ≡ vertexCount ws → e ≡ edgeCount ws → v ≤ 1000 → e ≤ 4000 → (is : List ℕ) → is ≡ part 3 ws → length is ≤ 100000
   incidences-few v e hv he lv le is q =
-      omega (arith, sound-length ws h, ap length (q ∙ part-three), length-drop (incidenceOffset (vertexCount ws) (edgeCount ws)) ws)
+      omega (arith, sound-length ws h, ap length (q ∙ part-3 ws h), length-drop (incidenceOffset (vertexCount ws) (edgeCount ws)) ws)
 
   pub verdict-by : Small ws → (vcap ecap types v e : ℕ) → vcap ≤ 1000 → ecap ≤ 4000 → v ≡ vertexCount ws → e ≡ edgeCount ws → soundCounts vcap ecap v e ≡ true →
       (vs es is : List ℕ) → vs ≡ part 1 ws → es ≡ part 2 ws → is ≡ part 3 ws → (r : Verdict) →
@@ -130,5 +119,5 @@ module _ (ws : List ℕ) (h : soundHeader ws ≡ true) where
   unfolding verdict
   verdict-by m vcap ecap types v e lv le hv he k vs es is p q s r g =
       let k′ : soundCounts vcap ecap (vertexCount ws) (edgeCount ws) ≡ true = rw (hv, he) at k in
-      let t = scratch-agrees (replicate 1001 0) (replicate 8002 0) (zeros 1001) (zeros 8002) (bounds vcap ecap types) (rw length-replicate (omega arith)) (rw length-replicate (omega arith)) v e vs es is (subst (λ (l : List ℕ). Small l) (sym (p ∙ part-one)) (small-take (vertexSize * vertexCount ws) (drop vertexOffset ws) (small-drop vertexOffset ws m))) in
-      rw (h, k′) (rw (p ∙ part-one, q ∙ part-two, s ∙ part-three, hv, he) at (g ∙ t))
+      let t = scratch-agrees (replicate 1001 0) (replicate 8002 0) (zeros 1001) (zeros 8002) (bounds vcap ecap types) (rw length-replicate (omega arith)) (rw length-replicate (omega arith)) v e vs es is (subst (λ (l : List ℕ). Small l) (sym (p ∙ part-1 ws h)) (small-take (vertexSize * vertexCount ws) (drop vertexOffset ws) (small-drop vertexOffset ws m))) in
+      rw (h, k′) (rw (p ∙ part-1 ws h, q ∙ part-2 ws h, s ∙ part-3 ws h, hv, he) at (g ∙ t))

@@ -73,11 +73,12 @@ edgePart ws = take (edgeSize * edgeCount ws) (drop (edgeOffset (vertexCount ws))
 abbrev pub incidencePart : List ℕ → List ℕ
 incidencePart ws = drop (incidenceOffset (vertexCount ws) (edgeCount ws)) ws
 
--- "Part 1, 2 or 3 of words with a sound header (length, offsets, total) can be had as that very part of the caller's words; else the part is empty."
+-- part 1, 2 or 3 of words with a sound header; any other part is empty (Parts: where it lies in the caller's words)
 unfoldable pub part : ℕ → List ℕ → List ℕ
 unfolding soundHeader
 part k ws =
-    not (soundHeader ws) ⇒ [] else (k == 1) ⇒ vertexPart ws else (k == 2) ⇒ edgePart ws else (k == 3) ⇒ incidencePart ws else []
+    not (soundHeader ws) ⇒ [] else
+    (k == 1) ⇒ vertexPart ws else (k == 2) ⇒ edgePart ws else (k == 3) ⇒ incidencePart ws else []
 
 -- ---- loading: the only graph that can have saved as these words
 

@@ -62,7 +62,7 @@ all-requires c κs =
     let p = c .before .before .before .before .before .before .before .before .before .before .pre in
     let lv : x .result ≤ 1000 = omega (arith, l .0, p .0) in
     let le : y .result ≤ 4000 = omega (arith, l .1, p .1) in
-    (lv, le, p .1, incidences-few (a .words .now) h (x .result) (y .result) (x .ensures) (y .ensures) lv le (c .part3 .result .now) (c .part3 .ensures))
+    (lv, le, p .1, incidences-few (a .words .now) h (x .result) (y .result) (x .ensures) (y .ensures) lv le (c .part3 .result .now) (c .part3 .ensures .0))
 
 returns-3 : tie.Need-returns-3
 returns-3 c =
@@ -76,7 +76,7 @@ returns-3 c =
     let p = c .before .before .before .before .before .before .before .before .before .before .before .pre in
     let b = bounds (a .vertices) (a .edges) (a .types) in
     let v = verdict-by (a .words .now) h (λ i. omega (arith, c .before .before .before .before .before .before .before .before .before .before .shared-slice-known .given i)) (a .vertices) (a .edges) (a .types) (x .result) (y .result) (p .0) (p .1) (x .ensures) (y .ensures) k
-    (c .before .before .before .part .result .now) (c .before .before .part2 .result .now) (c .before .part3 .result .now) (c .before .before .before .part .ensures) (c .before .before .part2 .ensures) (c .before .part3 .ensures) (c .all .result) (c .all .ensures) in
+    (c .before .before .before .part .result .now) (c .before .before .part2 .result .now) (c .before .part3 .result .now) (c .before .before .before .part .ensures .0) (c .before .before .part2 .ensures .0) (c .before .part3 .ensures .0) (c .all .result) (c .all .ensures) in
     (ap codeOf v ∙ verdict-code b (a .words .now), v)
 
 pub check-spec : {M : Type 1} → statement M
