@@ -34,7 +34,7 @@ extern "C" {
 #endif
 
 /* What a caller sees; raised with every change to it (docs/CHANGES.md). */
-#define FUTTOCKFIG_VERSION 4
+#define FUTTOCKFIG_VERSION 5
 
 /* Words a row in each table, and the most rows that a table may have. The fewest is 1. */
 #define FUTTOCKFIG_VERTEX_WORDS 8
@@ -201,8 +201,9 @@ struct futtockfig_span {
 };
 
 /*
- * Where a part of an image lies: words[offset] to words[offset + len - 1]. Only the header is read: where length,
- * offsets or total do not fit the counts, or part is not 1, 2 or 3, len is 0. Where len is 0, offset is 0.
+ * Where a part of an image lies: words[offset] to words[offset + len - 1]. Only the header is read: offset is the
+ * header's offset of the part, also where the part is empty. Where length, offsets or total do not fit the counts, or
+ * part is not 1, 2 or 3, offset and len are 0; no part of a sound header has offset 0.
  * The pointer must not be NULL, also where words_len is 0.
  */
 struct futtockfig_span futtockfig_part(const uint32_t *words, size_t words_len, uint32_t part);

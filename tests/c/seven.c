@@ -90,8 +90,18 @@ int main(void) {
     for (uint32_t part = 0; part < 5; part++) {
         struct futtockfig_span span = futtockfig_part(image, r.words, part);
         expect("length of part", part, span.len, parts[part][1]);
-        if (span.len) expect("offset of part", part, span.offset, parts[part][0]);
-        expect("length of part, one word short,", part, futtockfig_part(image, r.words - 1, part).len, 0);
+        expect("offset of part", part, span.offset, parts[part][0]);
+        span = futtockfig_part(image, r.words - 1, part);
+        expect("length of part, one word short,", part, span.len, 0);
+        expect("offset of part, one word short,", part, span.offset, 0);
+    }
+    /* An empty part has its offset too, so that it can be told from words without a sound header. */
+    static const uint32_t lone[] = {1, 0, 6, 9, 9, 9, 5, 0, 7};
+    static const size_t lone_parts[5][2] = {{0, 0}, {6, 3}, {9, 0}, {9, 0}, {0, 0}};
+    for (uint32_t part = 0; part < 5; part++) {
+        struct futtockfig_span span = futtockfig_part(lone, 9, part);
+        expect("length of part of one vertex", part, span.len, lone_parts[part][1]);
+        expect("offset of part of one vertex", part, span.offset, lone_parts[part][0]);
     }
     if (!wrong) printf("seven: %d calls through the C header, as worked out\n", CALLS);
     return wrong;

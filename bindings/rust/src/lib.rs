@@ -1,7 +1,7 @@
 //! Futtockfig: an ordered graph with history and marks, kept in tables that the caller lends.
 //!
 //! A list of calls is run by [`run`]; each call is five words and is answered by two, a code and a number. The graph
-//! goes in and out as an image, whose parts [`part`] finds. `include/futtockfig.h` describes the graph, every kind of
+//! goes in and out as an image, whose parts [`part`] and [`span`] find. `include/futtockfig.h` describes the graph, every kind of
 //! call ([`kind`] has their numbers), every code and the words of an image.
 //!
 //! The crate links `libfuttockfig.a`, from the folder that the environment variable `FUTTOCKFIG_LIB_DIR` names when it
@@ -31,10 +31,11 @@
 pub mod raw;
 
 use core::fmt;
+use core::ops::Range;
 use raw::{futtockfig_part, futtockfig_run};
 
 /// The version of what a caller sees, that of `include/futtockfig.h`.
-pub const VERSION: u32 = 4;
+pub const VERSION: u32 = 5;
 
 /// Kind, a, b, c, d.
 pub type Call = [u32; 5];
@@ -243,12 +244,16 @@ pub enum Part {
     Lists = 3,
 }
 
-/// That part of the caller's own words; empty where the header (length, offsets, total) is not sound.
-pub fn part(words: &[u32], which: Part) -> &[u32] {
+/// Where that part lies in the words, also where it is empty; `None` where the header (length, offsets, total) is not
+/// sound.
+pub fn span(words: &[u32], which: Part) -> Option<Range<usize>> {
     // SAFETY: pointer and length are those of a slice.
     let span = unsafe { futtockfig_part(words.as_ptr(), words.len(), which as u32) };
-    match span.len {
-        0 => &[],
-        len => &words[span.offset..span.offset + len],
-    }
+    // The offset of a sound header is never 0.
+    (span.offset != 0).then_some(span.offset..span.offset + span.len)
+}
+
+/// That part of the caller's own words; empty where the header is not sound.
+pub fn part(words: &[u32], which: Part) -> &[u32] {
+    &words[span(words, which).unwrap_or(0..0)]
 }

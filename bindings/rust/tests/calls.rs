@@ -1,6 +1,6 @@
 //! Examples of docs/REFERENCE.md through the safe functions.
 
-use futtockfig::{answers, image_words, kind, part, run, Done, Lent, Part, Refused, EMPTY};
+use futtockfig::{answers, image_words, kind, part, run, span, Done, Lent, Part, Refused, EMPTY};
 
 /// Runs calls with capacities 10, 10, 20 and one type, in lent words that are full of junk.
 fn with<T>(calls: &[u32], start: &[u32], then: impl FnOnce(Result<Done, Refused>) -> T) -> T {
@@ -26,8 +26,12 @@ fn seven_and_its_parts() {
     assert_eq!(part(&image, Part::Vertices), [1, 0, 0, 2, 0, 0, 3, 0, 0, 4, 0, 0]);
     assert_eq!(part(&image, Part::Edges).len(), 42);
     assert_eq!(part(&image, Part::Lists), [2, 3, 4, 6, 9, 11, 5, 7, 8, 13, 10, 12, 14, 15]);
-    // The part is within the caller's words.
-    assert!(image.as_ptr_range().contains(&part(&image, Part::Lists).as_ptr()));
+    // The part is that very part of the caller's words.
+    assert_eq!(part(&image, Part::Lists).as_ptr(), image[60..].as_ptr());
+    // An empty part lies where the header says; without a sound header there is none.
+    assert_eq!([Part::Vertices, Part::Edges, Part::Lists].map(|which| span(&EMPTY, which)), [Some(6..6), Some(6..6), Some(6..6)]);
+    assert_eq!(span(&[1, 0, 6, 9, 9, 9, 1, 0, 7], Part::Edges), Some(9..9));
+    assert_eq!(span(&image[1..], Part::Vertices), None);
     assert!(part(&image[1..], Part::Vertices).is_empty());
     assert!(part(&[], Part::Vertices).is_empty());
 }

@@ -5,8 +5,8 @@ ghost use mathlib.Core.Path.{_≡_};
 ghost use lib.ListN.{length};
 ghost use Rattle.machine.specs.Run.{run as runOf};
 ghost use Rattle.image.specs.Image.{part as partOf};
+ghost use Rattle.image.specs.Parts.{partStart};
 ghost use Rattle.engine.specs.Outcomes.{given, left, Untouched, MeetsDemand3};
-ghost use Rattle.futtockfig.specs.Span.{partOffset};
 
 // A slice is a pointer and a length.
 #[no_mangle]
@@ -22,7 +22,8 @@ pub extern "C" fn futtockfig_run(
 ) -> Outcome
     ensures { λ r. ⌜ left r answers image ≡ runOf (given start rows calls vertices edges journal answers image) ⌝ }
     ensures { λ r. ⌜ Untouched (given start rows calls vertices edges journal answers image) vertices edges journal ⌝ }
-    ensures { λ r. ⌜ MeetsDemand3 (given start rows calls vertices edges journal answers image) (left r answers image) ⌝ }
+    ensures { λ r. ⌜ MeetsDemand3 (given start rows calls vertices edges journal answers image)
+        (left r answers image) ⌝ }
 {
     run(start, rows, calls, vertices, edges, journal, answers, image)
 }
@@ -36,24 +37,12 @@ pub struct Span {
 
 #[no_mangle]
 pub extern "C" fn futtockfig_part(words: &[u32], part: u32) -> Span
-    ensures { λ r. ⌜ (r .offset ≡ partOffset part (now (words .entry))) × (r .len ≡ length (partOf part (now (words .entry)))) ⌝ }
+    ensures { λ r. ⌜ (r .offset ≡ partStart part (now (words .entry)))
+        × (r .len ≡ length (partOf part (now (words .entry)))) ⌝ }
 {
-    let len = image::part(words, part).len();
-    if len == 0 {
-        return Span { offset: 0, len };
-    }
-    if part == 1 {
-        return Span { offset: 6, len };
-    }
-    if part == 2 {
-        let before = image::part(words, 1).len();
-        return Span {
-            offset: 6 + before,
-            len,
-        };
-    }
+    let offset = image::part_start(words, part);
     Span {
-        offset: words.len() - len,
-        len,
+        offset,
+        len: image::part(words, part).len(),
     }
 }

@@ -22,10 +22,10 @@ pub has-number : (n : ℕ) (vs : List Vertex) → any (isVertex n) vs ≡ has n 
 has-number n [] = refl
 has-number n (v ∷ vs) = ap (λ (t : Bool). (v .number == n) || t) (has-number n vs)
 
--- the ends that the edges have at the vertices
-ends : List Edge → List Vertex → ℕ
+-- the ends that the edges have at the vertices of these numbers
+unfoldable pub ends : List Edge → List ℕ → ℕ
 ends es [] = 0
-ends es (v ∷ vs) = length (wordsAt es (v .number)) + ends es vs
+ends es (n ∷ ns) = length (wordsAt es n) + ends es ns
 
 pub words-length : (v : ℕ) (e : Edge) → length (wordsOf v e) ≡ bit (v == e .alpha) + bit (v == e .omega)
 words-length v e = go (v == e .alpha) (v == e .omega)
@@ -36,31 +36,32 @@ words-length v e = go (v == e .alpha) (v == e .omega)
     go false true = refl
     go false false = refl
 
-ends-nil : (vs : List Vertex) → ends [] vs ≡ 0
+pub ends-nil : (ns : List ℕ) → ends [] ns ≡ 0
 unfolding ends wordsAt
 ends-nil [] = refl
-ends-nil (v ∷ vs) = omega (arith, ends-nil vs)
+ends-nil (n ∷ ns) = omega (arith, ends-nil ns)
 
-ends-cons : (e : Edge) (es : List Edge) (vs : List Vertex) → ends (e ∷ es) vs ≡ count (e .alpha) (map vn vs) + count (e .omega) (map vn vs) + ends es vs
+ends-cons : (e : Edge) (es : List Edge) (ns : List ℕ) → ends (e ∷ es) ns ≡ count (e .alpha) ns + count (e .omega) ns + ends es ns
 unfolding ends wordsAt
 ends-cons e es [] = refl
-ends-cons e es (v ∷ vs) =
-    omega (arith, length-append (wordsOf (v .number) e) (wordsAt es (v .number)), words-length (v .number) e, ends-cons e es vs)
+ends-cons e es (n ∷ ns) = omega (arith, length-append (wordsOf n e) (wordsAt es n), words-length n e, ends-cons e es ns)
 
-ends-all : (b : Bounds) (g : Graph) → distinct (vertexNumbers g) ≡ true → (es : List Edge) → all (soundEdge b g) es ≡ true → ends es (g .vseq) ≡ 2 * length es
-ends-all b g d [] h = ends-nil (g .vseq)
+-- each edge has two ends at them
+pub ends-two : (e : Edge) (es : List Edge) (ns : List ℕ) → distinct ns ≡ true → has (e .alpha) ns ≡ true → has (e .omega) ns ≡ true → ends (e ∷ es) ns ≡ 2 + ends es ns
+ends-two e es ns d a o = omega (arith, ends-cons e es ns, count-one (e .alpha) ns d a, count-one (e .omega) ns d o)
+
+ends-all : (b : Bounds) (g : Graph) → distinct (vertexNumbers g) ≡ true → (es : List Edge) → all (soundEdge b g) es ≡ true → ends es (vertexNumbers g) ≡ 2 * length es
+ends-all b g d [] h = ends-nil (vertexNumbers g)
 ends-all b g d (e ∷ es) h =
     let a = and-true (soundEdge b g e) (all (soundEdge b g) es) h in
     let f = edge-facts b g e (a .0) in
     omega (
       arith,
-      ends-cons e es (g .vseq),
+      ends-two e es (vertexNumbers g) d (sym (has-number (e .alpha) (g .vseq)) ∙ f .starts) (sym (has-number (e .omega) (g .vseq)) ∙ f .stops),
       ends-all b g d es (a .1),
-      count-one (e .alpha) (map vn (g .vseq)) d (sym (has-number (e .alpha) (g .vseq)) ∙ f .starts),
-      count-one (e .omega) (map vn (g .vseq)) d (sym (has-number (e .omega) (g .vseq)) ∙ f .stops),
     )
 
-fits-length : (es : List Edge) (vs : List Vertex) → Fits es vs → length (each incidencesOf vs) ≡ ends es vs
+fits-length : (es : List Edge) (vs : List Vertex) → Fits es vs → length (each incidencesOf vs) ≡ ends es (map vn vs)
 unfolding Fits ends
 fits-length es [] f = refl
 fits-length es (v ∷ vs) f = omega (arith, length-append (v .incidences) (each incidencesOf vs), f .0, fits-length es vs (f .1))

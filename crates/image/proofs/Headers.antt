@@ -1,17 +1,16 @@
--- The header's tests one by one, and the parts as the code cuts them.
-use Prim.Native.Nat.{ℕ, _*_, _-_, _≤_, _<_}
+-- The header's tests one by one, and what its words are where it is sound.
+use Prim.Native.Nat.{ℕ, _≤_, _<_}
 use mathlib.Core.Path.{_≡_, refl, sym, ap, _∙_}
 use mathlib.Core.Bool.{Bool, true, false, _&&_}
 use mathlib.Core.List.{List, [], _∷_}
 use native.Mathlib.Omega.{arith}
 use lib.Dec.{leb, eqb}
-use lib.ListN.{length, getD, take, drop, length-take, length-drop}
-use lib.Seq.{take-all}
+use lib.ListN.{length, getD, take, length-take}
 use borrow.Author.Tests.{eq-eqb, ne-eqb, eqb-true, leb-true}
 use Rattle.lists.specs.Choice.{_==_, _⇒_else_}
 use Rattle.lists.specs.Lists.{same}
 use Rattle.lists.proofs.Bools.{and-true, and-false}
-use Rattle.image.specs.Image.{edgeOffset, incidenceOffset, imageLength, headerOf, soundHeader, vertexCount, edgeCount, part}
+use Rattle.image.specs.Image.{edgeOffset, incidenceOffset, imageLength, headerOf, soundHeader, vertexCount, edgeCount}
 use Rattle.image.specs.Checks.{soundCounts}
 use Rattle.image.proofs.RecordWords.{same-eq}
 
@@ -93,6 +92,22 @@ module _ (ws : List ℕ) (v e : ℕ) (hv : v ≡ vertexCount ws) (he : e ≡ edg
               eq-eqb (getD ws 5 0) (imageLength v e) s,
             )
 
+-- what the words of a sound header are
+pub record HeaderWords (ws : List ℕ) : Type 0 where
+  pub first : getD ws 2 0 ≡ 6
+  pub second : getD ws 3 0 ≡ edgeOffset (vertexCount ws)
+  pub third : getD ws 4 0 ≡ incidenceOffset (vertexCount ws) (edgeCount ws)
+  pub total : getD ws 5 0 ≡ imageLength (vertexCount ws) (edgeCount ws)
+
+pub header-words : (ws : List ℕ) → soundHeader ws ≡ true → HeaderWords ws
+unfolding tests
+header-words ws h =
+    let a = and-true (getD ws 2 0 == 6) _ (sym (law ws) ∙ h) in
+    let b = and-true (getD ws 3 0 == edgeOffset (vertexCount ws)) _ (a .1) in
+    let c = and-true (getD ws 4 0 == incidenceOffset (vertexCount ws) (edgeCount ws)) _ (b .1) in
+    let d = and-true (getD ws 5 0 == imageLength (vertexCount ws) (edgeCount ws)) _ (c .1) in
+    record { first = eqb-true _ _ (a .0); second = eqb-true _ _ (b .0); third = eqb-true _ _ (c .0); total = eqb-true _ _ (d .0) }
+
 -- what a sound header says of the length
 pub sound-length : (ws : List ℕ) → soundHeader ws ≡ true → length ws ≡ imageLength (vertexCount ws) (edgeCount ws)
 unfolding soundHeader
@@ -104,32 +119,3 @@ counts-le vcap ecap v e h =
     let a = and-true (leb v vcap) (leb e ecap && ((v == 0) ⇒ (e == 0) else true)) h in
     let b = and-true (leb e ecap) ((v == 0) ⇒ (e == 0) else true) (a .1) in
     (leb-true v vcap (a .0), leb-true e ecap (b .0))
-
--- ---- the parts as the code cuts them
-
-pub part-bad : (ws : List ℕ) (k : ℕ) → soundHeader ws ≡ false → [] ≡ part k ws
-unfolding part
-part-bad ws k h = rw h
-
-module _ (ws : List ℕ) (k v e : ℕ) (h : soundHeader ws ≡ true) (hv : v ≡ vertexCount ws) (he : e ≡ edgeCount ws) where
-  pub part-1 : k ≡ 1 → take (edgeOffset v - 6) (drop 6 ws) ≡ part k ws
-  unfolding part
-  part-1 p = let f : edgeOffset v - 6 ≡ 3 * v = omega arith in rw (h, eq-eqb k 1 p, f, hv)
-
-  pub part-2 : (k ≡ 1 → ⊥) → k ≡ 2 → take (incidenceOffset v e - edgeOffset v) (drop (edgeOffset v) ws) ≡ part k ws
-  unfolding part
-  part-2 n p = let f : incidenceOffset v e - edgeOffset v ≡ 6 * e = omega arith in rw (h, ne-eqb k 1 n, eq-eqb k 2 p, f, hv, he)
-
-  pub part-3 : (k ≡ 1 → ⊥) → (k ≡ 2 → ⊥) → k ≡ 3 → take (length ws - incidenceOffset v e) (drop (incidenceOffset v e) ws) ≡ part k ws
-  unfolding part
-  part-3 n m p =
-      take-all (length ws - incidenceOffset v e) (drop (incidenceOffset v e) ws) (omega (arith, length-drop (incidenceOffset v e) ws))
-      ∙ rw (h, ne-eqb k 1 n, ne-eqb k 2 m, eq-eqb k 3 p, hv, he)
-
-  pub part-none : (k ≡ 1 → ⊥) → (k ≡ 2 → ⊥) → (k ≡ 3 → ⊥) → [] ≡ part k ws
-  unfolding part
-  part-none n m o = rw (h, ne-eqb k 1 n, ne-eqb k 2 m, ne-eqb k 3 o)
-
-  -- the ends of the parts are within the words
-  pub part-ends : imageLength v e ≡ length ws
-  part-ends = rw (hv, he) (sym (sound-length ws h))

@@ -10,6 +10,7 @@ pub mod Examples
 -- the code
 pub mod Readings
 pub mod Headers
+pub mod Parts
 pub mod Turns
 pub mod Verdicts
 pub mod VertexPass
@@ -18,3 +19,7 @@ pub mod ListPass
 pub mod ScratchPass
 pub mod SoundLoads
 pub mod SavedSound
+pub mod Offsets
+pub mod FirstBad
+pub mod Fill
+pub mod Follows

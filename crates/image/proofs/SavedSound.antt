@@ -29,7 +29,7 @@ use Rattle.image.proofs.Counts.{self-one, rem-count, rem-length}
 use Rattle.image.proofs.Room.{few-vertices, few-edges}
 use Rattle.image.proofs.Verdicts.{code-by}
 use Rattle.image.proofs.VertexPass.{has-self}
-use Rattle.image.proofs.SoundLoads.{Small, sound-loads}
+use Rattle.image.proofs.SoundLoads.{sound-loads}
 
 -- later numbers are not seen, once n is
 later : (n : ℕ) (seen ns : List ℕ) → has n ns ≡ false → ((m : ℕ) → has m (n ∷ ns) ≡ true → has m seen ≡ false) → (m : ℕ) → has m ns ≡ true → has m (n ∷ seen) ≡ false
@@ -49,7 +49,7 @@ vertices-walk b g seen (v ∷ vs) at h d k =
     let a = and-true (soundVertex b g v) (all (soundVertex b g) vs) h in
     let f = vertex-facts b g v (a .0) in
     let e = and-true (not (has (v .number) (map vn vs))) (distinct (map vn vs)) d in
-    rw (f .number, f .type, k (v .number) (has-self (v .number) (map vn vs)))
+    rw (f .number, f .type, f .value, k (v .number) (has-self (v .number) (map vn vs)))
     (vertices-walk b g (v .number ∷ seen) vs (at + 3) (a .1) (e .1) (later (v .number) seen (map vn vs) (not-true (has (v .number) (map vn vs)) (e .0)) k))
 
 numbers-each : (vs : List Vertex) → numbersIn vertexSize (length vs) (each vertexRecord vs) ≡ map vn vs
@@ -59,7 +59,7 @@ numbers-each (v ∷ vs) = ap (λ (l : List ℕ). v .number ∷ l) (numbers-each 
 
 -- ---- edges
 
-kind-le : (r : Reading) → leb (readingKind r) 2 ≡ true
+pub kind-le : (r : Reading) → leb (readingKind r) 2 ≡ true
 kind-le Untested = refl
 kind-le Silent = refl
 kind-le (Heard d) = refl
@@ -78,7 +78,7 @@ edges-walk b g ns seen (x ∷ es) at u h d k =
 
 -- ---- lists
 
-alike-good : (d : ℕ) (wanted xs rest : List ℕ) → length wanted ≡ d → Alike xs wanted → goodList d wanted (xs ++ rest) ≡ d
+pub alike-good : (d : ℕ) (wanted xs rest : List ℕ) → length wanted ≡ d → Alike xs wanted → goodList d wanted (xs ++ rest) ≡ d
 unfolding goodList
 alike-good zero wanted xs rest e k = refl
 alike-good (suc d) [] xs rest e k = absurd (omega arith)
@@ -141,12 +141,12 @@ module _ (b : Bounds) (g : Graph) (h : wellFormed b g ≡ true) where
       rw (header-sound b g h, counted, vertex-words g, edge-words g, incidence-words g, numbers-each (g .vseq), edges-back (g .eseq), first)
       (rw (second (edgeOffset (length (g .vseq)))) (third (incidenceOffset (length (g .vseq)) (length (g .eseq)))))
 
-loads-sound : (b : Bounds) (ws : List ℕ) → loadable b ws ≡ true → verdict b ws ≡ Sound
+pub loads-sound : (b : Bounds) (ws : List ℕ) → loadable b ws ≡ true → verdict b ws ≡ Sound
 loads-sound b ws h = let s = loads b ws .0 h in subst (λ (l : List ℕ). verdict b l ≡ Sound) (s .2) (saved-sound b (s .0) (s .1))
 
 -- a verdict is sound for exactly the words that load
-pub sound-exactly : (b : Bounds) (ws : List ℕ) → Small ws → (verdict b ws ≡ Sound) ↔ (loadable b ws ≡ true)
-sound-exactly b ws m = (sound-loads b ws m, loads-sound b ws)
+pub sound-exactly : (b : Bounds) (ws : List ℕ) → (verdict b ws ≡ Sound) ↔ (loadable b ws ≡ true)
+sound-exactly b ws = (sound-loads b ws, loads-sound b ws)
 
-pub verdict-code : (b : Bounds) (ws : List ℕ) → Small ws → codeOf (verdict b ws) ≡ loadCode b ws
-verdict-code b ws m = code-by (verdict b ws) (loadable b ws) (sound-loads b ws m) (loads-sound b ws)
+pub verdict-code : (b : Bounds) (ws : List ℕ) → codeOf (verdict b ws) ≡ loadCode b ws
+verdict-code b ws = code-by (verdict b ws) (loadable b ws) (sound-loads b ws) (loads-sound b ws)

@@ -1,12 +1,12 @@
 -- The three passes over scratch of zeros are the verdict.
 use Prim.Native.Nat.{ℕ, zero, suc, _+_, _*_, _≤_, _<_}
-use mathlib.Core.Path.{_≡_, refl, ap, _∙_}
+use mathlib.Core.Path.{_≡_, refl, sym, ap, _∙_, subst}
 use mathlib.Core.Bool.{true, false}
 use mathlib.Core.List.{List, [], _∷_}
 use native.Mathlib.Omega.{arith}
 use types.Run.{OneOf}
 use denote.Enum.Declared.{tagOf}
-use lib.ListN.{length, getD, replicate, length-drop, length-replicate}
+use lib.ListN.{length, getD, drop, replicate, length-drop, length-replicate}
 use borrow.Author.Tests.{eq-eqb, ne-eqb}
 use Rattle.lists.specs.Choice.{_==_, bit}
 use Rattle.lists.specs.Lists.{has}
@@ -19,7 +19,8 @@ use Rattle.image.specs.declared.Verdict.the-variants.{Sound, BadHeader}
 use Rattle.image.proofs.Verdict.{the-type}
 use Rattle.image.proofs.Verdicts.{stop, then-same}
 use Rattle.image.proofs.Headers.{sound-length}
-use Rattle.image.proofs.VertexPass.{Indicator, vertex-agrees, marks-agree, walk-distinct, walk-positive}
+use Rattle.image.proofs.Parts.{part-1, part-2, part-3}
+use Rattle.image.proofs.VertexPass.{Small, small-take, small-drop, Indicator, vertex-agrees, marks-agree, walk-distinct, walk-positive}
 use Rattle.image.proofs.EdgePass.{Marked, Seen, Paired, marked-by, edge-agrees, degrees-agree, owners-agree}
 use Rattle.image.proofs.ListPass.{positive, incidence-agrees}
 
@@ -30,14 +31,14 @@ zeros (suc n) (suc i) = zeros n i
 
 module _ (deg own : List ℕ) (deg-zero : (i : ℕ) → getD deg i 0 ≡ 0) (own-zero : (i : ℕ) → getD own i 0 ≡ 0)
     (b : Bounds) (deg-room : b .vertices < length deg) (own-room : 2 * b .edges + 1 < length own) where
-  scratch-agrees : (v e : ℕ) (vs es is : List ℕ) →
+  scratch-agrees : (v e : ℕ) (vs es is : List ℕ) → Small vs →
       scratchRun deg own b v e vs es is
       ≡ andThen (vertexWalk vertexSize (b .vertices) (b .types) [] v vs vertexOffset)
       (andThen (edgeWalk (b .edges) (b .types) (numbersIn vertexSize v vs) [] e es (edgeOffset v))
       (listWalk (edgesFrom e es) (numbersIn vertexSize v vs) is (incidenceOffset v e)))
   unfolding scratchRun
-  scratch-agrees v e vs es is =
-      rw (vertex-agrees vertexSize (b .vertices) (b .types) deg [] v vs vertexOffset deg-room deg-zero)
+  scratch-agrees v e vs es is small =
+      rw (vertex-agrees vertexSize (b .vertices) (b .types) deg [] v vs vertexOffset deg-room deg-zero small)
       (then-same (vertexWalk vertexSize (b .vertices) (b .types) [] v vs vertexOffset) _ _ after-vertices)
     where
       numbers : List ℕ
@@ -108,27 +109,15 @@ module _ (ws : List ℕ) (h : soundHeader ws ≡ true) where
   unfolding verdict
   bad-counts b k = rw (h, k)
 
-  part-one : part 1 ws ≡ vertexPart ws
-  unfolding part
-  part-one = rw h
-
-  part-two : part 2 ws ≡ edgePart ws
-  unfolding part
-  part-two = rw h
-
-  part-three : part 3 ws ≡ incidencePart ws
-  unfolding part
-  part-three = rw h
-
   pub incidences-few : (v e : ℕ) → v ≡ vertexCount ws → e ≡ edgeCount ws → v ≤ 1000 → e ≤ 4000 → (is : List ℕ) → is ≡ part 3 ws → length is ≤ 100000
   incidences-few v e hv he lv le is q =
-      omega (arith, sound-length ws h, ap length (q ∙ part-three), length-drop (incidenceOffset (vertexCount ws) (edgeCount ws)) ws)
+      omega (arith, sound-length ws h, ap length (q ∙ part-3 ws h), length-drop (incidenceOffset (vertexCount ws) (edgeCount ws)) ws)
 
-  pub verdict-by : (vcap ecap types v e : ℕ) → vcap ≤ 1000 → ecap ≤ 4000 → v ≡ vertexCount ws → e ≡ edgeCount ws → soundCounts vcap ecap v e ≡ true →
+  pub verdict-by : Small ws → (vcap ecap types v e : ℕ) → vcap ≤ 1000 → ecap ≤ 4000 → v ≡ vertexCount ws → e ≡ edgeCount ws → soundCounts vcap ecap v e ≡ true →
       (vs es is : List ℕ) → vs ≡ part 1 ws → es ≡ part 2 ws → is ≡ part 3 ws → (r : Verdict) →
       r ≡ scratchRun (replicate 1001 0) (replicate 8002 0) (bounds vcap ecap types) v e vs es is → r ≡ verdict (bounds vcap ecap types) ws
   unfolding verdict
-  verdict-by vcap ecap types v e lv le hv he k vs es is p q s r g =
+  verdict-by m vcap ecap types v e lv le hv he k vs es is p q s r g =
       let k′ : soundCounts vcap ecap (vertexCount ws) (edgeCount ws) ≡ true = rw (hv, he) at k in
-      let t = scratch-agrees (replicate 1001 0) (replicate 8002 0) (zeros 1001) (zeros 8002) (bounds vcap ecap types) (rw length-replicate (omega arith)) (rw length-replicate (omega arith)) v e vs es is in
-      rw (h, k′) (rw (p ∙ part-one, q ∙ part-two, s ∙ part-three, hv, he) at (g ∙ t))
+      let t = scratch-agrees (replicate 1001 0) (replicate 8002 0) (zeros 1001) (zeros 8002) (bounds vcap ecap types) (rw length-replicate (omega arith)) (rw length-replicate (omega arith)) v e vs es is (subst (λ (l : List ℕ). Small l) (sym (p ∙ part-1 ws h)) (small-take (vertexSize * vertexCount ws) (drop vertexOffset ws) (small-drop vertexOffset ws m))) in
+      rw (h, k′) (rw (p ∙ part-1 ws h, q ∙ part-2 ws h, s ∙ part-3 ws h, hv, he) at (g ∙ t))

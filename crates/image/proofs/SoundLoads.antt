@@ -1,5 +1,5 @@
 -- Words with a sound verdict are loadable.
-use Prim.Native.Nat.{ℕ, zero, suc, _+_, _*_, _^_, _≤_, _<_}
+use Prim.Native.Nat.{ℕ, zero, suc, _+_, _*_, _^_, _≤_}
 use mathlib.Core.Path.{_≡_, refl, sym, ap, _∙_, subst}
 use mathlib.Core.Bool.{Bool, true, false, not, _&&_, _||_}
 use mathlib.Core.List.{List, [], _∷_, _++_, map}
@@ -7,7 +7,7 @@ use native.Mathlib.Omega.{arith}
 use lib.Dec.{leb, ltb, eqb}
 use lib.ListN.{length, getD, take, drop, length-take, length-drop, take-append-drop}
 use lib.Seq.{drop-drop}
-use borrow.Author.Tests.{ne-eqb, eqb-true, eqb-false, lt-ltb, leb-true, not-true}
+use borrow.Author.Tests.{ne-eqb, eqb-true, eqb-false, leb-true, not-true}
 use Rattle.lists.specs.Choice.{_==_, _⇒_else_, bit, within}
 use Rattle.lists.specs.Lists.{all, has, count, distinct, same, each}
 use Rattle.lists.specs.Keyed.{rem}
@@ -28,24 +28,9 @@ use Rattle.image.proofs.Verdicts.{header-not, list-sound, ended-nil, th
 use Rattle.image.proofs.VertexPass.{has-self, vertex-step, walk-distinct}
 use Rattle.image.proofs.EdgePass.{edge-step}
 
--- each word is one of 32 bits
-abbrev pub Small : List ℕ → Type 0
-Small ws = (i : ℕ) → getD ws i 0 < 2 ^ 32
-
-small-take : (n : ℕ) (ws : List ℕ) → Small ws → Small (take n ws)
-small-take zero ws s i = omega arith
-small-take (suc n) [] s i = omega arith
-small-take (suc n) (w ∷ ws) s zero = s 0
-small-take (suc n) (w ∷ ws) s (suc i) = small-take n ws (λ j. s (suc j)) i
-
-small-drop : (n : ℕ) (ws : List ℕ) → Small ws → Small (drop n ws)
-small-drop zero ws s = s
-small-drop (suc n) [] s = s
-small-drop (suc n) (w ∷ ws) s = small-drop n ws (λ j. s (suc j))
-
 -- ---- one list
 
-good-alike : (d : ℕ) (wanted ws : List ℕ) → length wanted ≡ d → d ≤ goodList d wanted ws → Alike (take d ws) wanted
+pub good-alike : (d : ℕ) (wanted ws : List ℕ) → length wanted ≡ d → d ≤ goodList d wanted ws → Alike (take d ws) wanted
 unfolding goodList
 good-alike zero [] ws e h x = refl
 good-alike zero (y ∷ ys) ws e h x = absurd (omega arith)
@@ -67,10 +52,10 @@ numbers-load size es zero vs ws = refl
 numbers-load size es (suc k) vs ws = ap (λ (l : List ℕ). getD vs 0 0 ∷ l) (numbers-load size es k (drop size vs) (drop (length (wordsAt es (getD vs 0 0))) ws))
 
 vertices-sound : (size : ℕ) (b : Bounds) (g : Graph) (seen : List ℕ) (k : ℕ) (vs ws : List ℕ) (at to : ℕ) → vertexWalk size (b .vertices) (b .types) seen k vs at ≡ Sound →
-    listWalk (g .eseq) (numbersIn size k vs) ws to ≡ Sound → Small vs → all (soundVertex b g) (verticesFrom size (g .eseq) k vs ws) ≡ true
+    listWalk (g .eseq) (numbersIn size k vs) ws to ≡ Sound → all (soundVertex b g) (verticesFrom size (g .eseq) k vs ws) ≡ true
 unfolding listWalk numbersIn verticesFrom
-vertices-sound size b g seen zero vs ws at to s l m = refl
-vertices-sound size b g seen (suc k) vs ws at to s l m =
+vertices-sound size b g seen zero vs ws at to s l = refl
+vertices-sound size b g seen (suc k) vs ws at to s l =
     let n = getD vs 0 0 in
     let t = getD vs 1 0 in
     let x = getD vs 2 0 in
@@ -80,13 +65,13 @@ vertices-sound size b g seen (suc k) vs ws at to s l m =
     let q = list-sound d to (goodList d wanted ws) (listWalk (g .eseq) (numbersIn size k (drop size vs)) (drop d ws) (to + d)) l in
     and-both _ (all (soundVertex b g) (verticesFrom size (g .eseq) k (drop size vs) (drop d ws)))
     (and-both _ (sameWords (take d ws) wanted)
-    (and-both _ (ltb x (2 ^ 32)) (and-both (within 1 (b .vertices) n) (ltb t (b .types)) (r .ok .number) (r .ok .type)) (lt-ltb x (2 ^ 32) (m 2)))
+    (and-both _ (ltb x (2 ^ 32)) (and-both (within 1 (b .vertices) n) (ltb t (b .types)) (r .ok .number) (r .ok .type)) (r .ok .value))
     (alike-same (take d ws) wanted (good-alike d wanted ws refl (q .0))))
-    (vertices-sound size b g (n ∷ seen) k (drop size vs) (drop d ws) (at + size) (to + d) (r .rest) (q .1) (small-drop size vs m))
+    (vertices-sound size b g (n ∷ seen) k (drop size vs) (drop d ws) (at + size) (to + d) (r .rest) (q .1))
 
 -- ---- edges
 
-reading-known : (k d : ℕ) → isReading k d ≡ true → (readingKind (readingOf k d) ≡ k) × (decimetres (readingOf k d) ≡ d)
+pub reading-known : (k d : ℕ) → isReading k d ≡ true → (readingKind (readingOf k d) ≡ k) × (decimetres (readingOf k d) ≡ d)
 reading-known k d h = go (k == 0) (k == 1) refl refl
   where
     low : leb k 1 ≡ true → d ≡ 0
@@ -158,11 +143,17 @@ edges-sound b g vs seen (suc k) ws at s u =
 
 -- ---- the words again
 
-cut3 : (ws : List ℕ) (m : ℕ) → length ws ≡ 3 + m → getD ws 0 0 ∷ getD ws 1 0 ∷ getD ws 2 0 ∷ drop 3 ws ≡ ws
+pub cut3 : (ws : List ℕ) (m : ℕ) → length ws ≡ 3 + m → getD ws 0 0 ∷ getD ws 1 0 ∷ getD ws 2 0 ∷ drop 3 ws ≡ ws
 cut3 [] m e = absurd (omega arith)
 cut3 (a ∷ []) m e = absurd (omega arith)
 cut3 (a ∷ b ∷ []) m e = absurd (omega arith)
 cut3 (a ∷ b ∷ c ∷ ws) m e = refl
+
+pub cut6 : (ws : List ℕ) (m : ℕ) → length ws ≡ 6 + m → getD ws 0 0 ∷ getD ws 1 0 ∷ getD ws 2 0 ∷ getD ws 3 0 ∷ getD ws 4 0 ∷ getD ws 5 0 ∷ drop 6 ws ≡ ws
+cut6 (a ∷ b ∷ c ∷ ws) m e = ap (λ (l : List ℕ). a ∷ b ∷ c ∷ l) (cut3 ws m (omega arith))
+cut6 [] m e = absurd (omega arith)
+cut6 (a ∷ []) m e = absurd (omega arith)
+cut6 (a ∷ b ∷ []) m e = absurd (omega arith)
 
 vertices-again : (es : List Edge) (k : ℕ) (vs ws : List ℕ) → length vs ≡ vertexSize * k →
     (each vertexRecord (verticesFrom vertexSize es k vs ws) ≡ vs) × (length (verticesFrom vertexSize es k vs ws) ≡ k)
@@ -183,12 +174,6 @@ edges-again cap types vs seen (suc k) ws at s e =
     let q = reading-known (getD ws 4 0) (getD ws 5 0) (r .ok .reading) in
     let i = edges-again cap types vs (getD ws 0 0 ∷ seen) k (drop 6 ws) (at + 6) (r .rest) (omega (arith, length-drop 6 ws)) in
     (rw (q .0, q .1, i .0) (cut6 ws (6 * k) (omega arith)), ap suc (i .1))
-  where
-    cut6 : (ws : List ℕ) (m : ℕ) → length ws ≡ 6 + m → getD ws 0 0 ∷ getD ws 1 0 ∷ getD ws 2 0 ∷ getD ws 3 0 ∷ getD ws 4 0 ∷ getD ws 5 0 ∷ drop 6 ws ≡ ws
-    cut6 (a ∷ b ∷ c ∷ ws) m e = ap (λ (l : List ℕ). a ∷ b ∷ c ∷ l) (cut3 ws m (omega arith))
-    cut6 [] m e = absurd (omega arith)
-    cut6 (a ∷ []) m e = absurd (omega arith)
-    cut6 (a ∷ b ∷ []) m e = absurd (omega arith)
 
 lists-again : (size : ℕ) (es : List Edge) (k : ℕ) (vs ws : List ℕ) (at : ℕ) → listWalk es (numbersIn size k vs) ws at ≡ Sound →
     each incidencesOf (verticesFrom size es k vs ws) ≡ ws
@@ -200,7 +185,7 @@ lists-again size es (suc k) vs ws at l =
     let q = list-sound d at (goodList d wanted ws) (listWalk es (numbersIn size k (drop size vs)) (drop d ws) (at + d)) l in
     ap (λ (z : List ℕ). take d ws ++ z) (lists-again size es k (drop size vs) (drop d ws) (at + d) (q .1)) ∙ take-append-drop d ws
 
-split-words : (ws : List ℕ) → take 6 ws ++ (vertexPart ws ++ (edgePart ws ++ incidencePart ws)) ≡ ws
+pub split-words : (ws : List ℕ) → take 6 ws ++ (vertexPart ws ++ (edgePart ws ++ incidencePart ws)) ≡ ws
 split-words ws =
     let v = vertexCount ws in
     let e = edgeCount ws in
@@ -213,13 +198,13 @@ split-words ws =
 
 -- ---- the parts of a sound verdict
 
-record Sounds (b : Bounds) (ws : List ℕ) : Type 0 where
-  header : soundHeader ws ≡ true
-  vertices : vertexWalk vertexSize (b .vertices) (b .types) [] (vertexCount ws) (vertexPart ws) vertexOffset ≡ Sound
-  edges : edgeWalk (b .edges) (b .types) (numbersOf ws) [] (edgeCount ws) (edgePart ws) (edgeOffset (vertexCount ws)) ≡ Sound
-  lists : listWalk (edgesFrom (edgeCount ws) (edgePart ws)) (numbersOf ws) (incidencePart ws) (incidenceOffset (vertexCount ws) (edgeCount ws)) ≡ Sound
+pub record Sounds (b : Bounds) (ws : List ℕ) : Type 0 where
+  pub header : soundHeader ws ≡ true
+  pub vertices : vertexWalk vertexSize (b .vertices) (b .types) [] (vertexCount ws) (vertexPart ws) vertexOffset ≡ Sound
+  pub edges : edgeWalk (b .edges) (b .types) (numbersOf ws) [] (edgeCount ws) (edgePart ws) (edgeOffset (vertexCount ws)) ≡ Sound
+  pub lists : listWalk (edgesFrom (edgeCount ws) (edgePart ws)) (numbersOf ws) (incidencePart ws) (incidenceOffset (vertexCount ws) (edgeCount ws)) ≡ Sound
 
-sounds : (b : Bounds) (ws : List ℕ) → verdict b ws ≡ Sound → Sounds b ws
+pub sounds : (b : Bounds) (ws : List ℕ) → verdict b ws ≡ Sound → Sounds b ws
 unfolding verdict
 sounds b ws h = go (soundHeader ws) (soundCounts (b .vertices) (b .edges) (vertexCount ws) (edgeCount ws)) refl h
   where
@@ -240,9 +225,9 @@ sounds b ws h = go (soundHeader ws) (soundCounts (b .vertices) (b .edges) (verte
     go true false e h = absurd (header-not h)
     go false y e h = absurd (header-not h)
 
-pub sound-loads : (b : Bounds) (ws : List ℕ) → Small ws → verdict b ws ≡ Sound → loadable b ws ≡ true
+pub sound-loads : (b : Bounds) (ws : List ℕ) → verdict b ws ≡ Sound → loadable b ws ≡ true
 unfolding loadable load save wellFormed soundHeader
-sound-loads b ws m h =
+sound-loads b ws h =
     and-both (soundHeader ws && wellFormed b (load ws)) (same ws (save (load ws)))
     (and-both (soundHeader ws) (wellFormed b (load ws)) (s .header) formed)
     (subst (λ (l : List ℕ). same ws l ≡ true) again (same-refl ws))
@@ -272,8 +257,7 @@ sound-loads b ws m h =
         (and-both (distinct (vertexNumbers (load ws))) (distinct (edgeNumbers (load ws)))
         (ap distinct numbers ∙ walk-distinct vertexSize (b .vertices) (b .types) [] v (vertexPart ws) vertexOffset (s .vertices))
         (edges-distinct (b .edges) (b .types) (numbersOf ws) [] e (edgePart ws) (edgeOffset v) (s .edges)))
-        (vertices-sound vertexSize b (load ws) [] v (vertexPart ws) (incidencePart ws) vertexOffset (incidenceOffset v e) (s .vertices) (s .lists)
-        (small-take (vertexSize * v) (drop vertexOffset ws) (small-drop vertexOffset ws m))))
+        (vertices-sound vertexSize b (load ws) [] v (vertexPart ws) (incidencePart ws) vertexOffset (incidenceOffset v e) (s .vertices) (s .lists)))
         (edges-sound b (load ws) (numbersOf ws) [] e (edgePart ws) (edgeOffset v) (s .edges) known)
 
     total : length ws ≡ imageLength v e

@@ -32,7 +32,7 @@ module _ (count i : ℕ) (ws : List ℕ) (from at : ℕ) (turn : i < count) wher
   along : (size : ℕ) → from + at + size ≡ from + (at + size)
   along size = omega arith
 
-  module _ (size cap types : ℕ) (deg : List ℕ) (g : ℕ) (good : g ≡ goodVertex cap types (eqb (getD deg (getD ws at 0) 0) 0) (getD ws at 0) (getD ws (at + 1) 0)) where
+  module _ (size cap types : ℕ) (deg : List ℕ) (g : ℕ) (good : g ≡ goodVertex cap types (eqb (getD deg (getD ws at 0) 0) 0) (getD ws at 0) (getD ws (at + 1) 0) 0) where
     pub vertex-stop : g < 3 → BadRecord (from + at + g) ≡ vertexRun size cap types deg (count - i) (drop at ws) (from + at)
     unfolding vertexRun
     vertex-stop h = rw (left, first-at ws at, word-at ws at 1, ← good, lt-ltb g 3 h)
@@ -235,7 +235,7 @@ pub edge-by : (cap types : ℕ) (deg own ws : List ℕ) (at n m f a fa o fo t k 
 edge-by cap types deg own ws at n m f a fa o fo t k d r e1 e2 e3 e4 e5 e6 e7 e8 e9 e10 e = cc
 
 pub vertex-by : (cap types : ℕ) (deg ws : List ℕ) (at n m f t r : ℕ) → n ≡ getD ws at 0 → m ≡ n → f ≡ getD deg m 0 → t ≡ getD ws (at + 1) 0 →
-    r ≡ goodVertex cap types (eqb f 0) n t → r ≡ goodVertex cap types (eqb (getD deg (getD ws at 0) 0) 0) (getD ws at 0) (getD ws (at + 1) 0)
+    r ≡ goodVertex cap types (eqb f 0) n t 0 → r ≡ goodVertex cap types (eqb (getD deg (getD ws at 0) 0) 0) (getD ws at 0) (getD ws (at + 1) 0) 0
 vertex-by cap types deg ws at n m f t r e1 e2 e3 e4 e = cc
 
 pub put-by : (deg ws new : List ℕ) (at n m x : ℕ) → n ≡ getD ws at 0 → m ≡ n → new ≡ set deg m x → new ≡ set deg (getD ws at 0) x

@@ -1,5 +1,5 @@
 -- Laws of verdicts: what a sound one says of its steps, and that any other one stops the check.
-use Prim.Native.Nat.{ℕ, _+_, _≤_}
+use Prim.Native.Nat.{ℕ, _+_, _^_, _≤_, _<_}
 use mathlib.Core.Path.{_≡_, refl}
 use mathlib.Core.Logic.{⊎-elim}
 use mathlib.Core.Bool.{Bool, true, false, not, _&&_}
@@ -8,7 +8,7 @@ use native.Mathlib.Omega.{arith}
 use types.Run.{OneOf}
 use denote.Enum.Declared.{tagOf}
 use lib.Dec.{leb, ltb}
-use borrow.Author.Tests.{ltb-false}
+use borrow.Author.Tests.{lt-ltb, ltb-false}
 use Rattle.lists.specs.Choice.{_⇒_else_, within}
 use Rattle.graph.specs.Graph.{isReading}
 use Rattle.image.proofs.Verdict.{the-type}
@@ -21,7 +21,7 @@ use Rattle.image.specs.declared.Verdict.the-variants.{Sound, BadHeader, 
 pub record-not : {k : ℕ} → BadRecord k ≡ Sound → ⊥
 record-not e = let z : _≡_ {A = ℕ} 0 1 = cc in omega arith
 
-incidence-not : {k : ℕ} → BadIncidence k ≡ Sound → ⊥
+pub incidence-not : {k : ℕ} → BadIncidence k ≡ Sound → ⊥
 incidence-not e = let z : _≡_ {A = ℕ} 0 1 = cc in omega arith
 
 pub header-not : BadHeader ≡ Sound → ⊥
@@ -111,20 +111,28 @@ code-bad (BadIncidence at) false k h = refl
 
 -- ---- what a whole good record says
 
-pub record VertexOk (cap types : ℕ) (fresh : Bool) (n t : ℕ) : Type 0 where
+pub record VertexOk (cap types : ℕ) (fresh : Bool) (n t x : ℕ) : Type 0 where
   pub number : within 1 cap n ≡ true
   pub new : fresh ≡ true
   pub type : ltb t types ≡ true
+  pub value : ltb x (2 ^ 32) ≡ true
 
-pub vertex-ok : (cap types : ℕ) (fresh : Bool) (n t : ℕ) → 3 ≤ goodVertex cap types fresh n t → VertexOk cap types fresh n t
+pub vertex-ok : (cap types : ℕ) (fresh : Bool) (n t x : ℕ) → 3 ≤ goodVertex cap types fresh n t x → VertexOk cap types fresh n t x
 unfolding goodVertex
-vertex-ok cap types fresh n t h = go (within 1 cap n) fresh (ltb t types) refl refl refl h
+vertex-ok cap types fresh n t x h = go (within 1 cap n) fresh (ltb t types) (ltb x (2 ^ 32)) refl refl refl refl h
   where
-    go : (x y z : Bool) → within 1 cap n ≡ x → fresh ≡ y → ltb t types ≡ z → 3 ≤ (not (x && y) ⇒ 0 else z ⇒ 3 else 1) → VertexOk cap types fresh n t
-    go true true true e f g h = record { number = e; new = f; type = g }
-    go true true false e f g h = absurd (omega arith)
-    go true false z e f g h = absurd (omega arith)
-    go false y z e f g h = absurd (omega arith)
+    go : (p y z u : Bool) → within 1 cap n ≡ p → fresh ≡ y → ltb t types ≡ z → ltb x (2 ^ 32) ≡ u →
+        3 ≤ (not (p && y) ⇒ 0 else not z ⇒ 1 else not u ⇒ 2 else 3) → VertexOk cap types fresh n t x
+    go true true true true e f g v h = record { number = e; new = f; type = g; value = v }
+    go true true true false e f g v h = absurd (omega arith)
+    go true true false u e f g v h = absurd (omega arith)
+    go true false z u e f g v h = absurd (omega arith)
+    go false y z u e f g v h = absurd (omega arith)
+
+-- a value of 32 bits is never bad
+pub any-value : (cap types : ℕ) (fresh : Bool) (n t x : ℕ) → x < 2 ^ 32 → goodVertex cap types fresh n t 0 ≡ goodVertex cap types fresh n t x
+unfolding goodVertex
+any-value cap types fresh n t x h = rw (lt-ltb x (2 ^ 32) h)
 
 pub record EdgeOk (cap types : ℕ) (fresh from to : Bool) (n t k d : ℕ) : Type 0 where
   pub number : within 1 cap n ≡ true

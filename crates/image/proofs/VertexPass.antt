@@ -1,11 +1,11 @@
 -- The vertex part: the run over scratch is the walk over lists.
-use Prim.Native.Nat.{ℕ, zero, suc, _+_, _≤_, _<_}
+use Prim.Native.Nat.{ℕ, zero, suc, _+_, _^_, _≤_, _<_}
 use mathlib.Core.Path.{_≡_, refl, sym, ap, _∙_, subst}
 use mathlib.Core.Bool.{Bool, true, false, not, _||_}
-use mathlib.Core.List.{List, _∷_}
+use mathlib.Core.List.{List, [], _∷_}
 use native.Mathlib.Omega.{arith}
 use lib.Dec.{eqb}
-use lib.ListN.{length, getD, drop, set, length-set}
+use lib.ListN.{length, getD, take, drop, set, length-set}
 use lib.Seq.{getD-set-same, getD-set-other}
 use borrow.Author.Tests.{eq-eqb, ne-eqb, eqb-true, eqb-false, not-true}
 use Rattle.lists.specs.Choice.{_==_, bit}
@@ -14,10 +14,25 @@ use Rattle.lists.proofs.Bools.{tf, and-both, within-range, or-false}
 use Rattle.image.specs.Checks.{goodVertex, vertexWalk, numbersIn}
 use Rattle.image.specs.Scratch.{vertexRun, vertexMarks}
 use Rattle.image.specs.declared.Verdict.the-variants.{Sound}
-use Rattle.image.proofs.Verdicts.{record-same, record-sound, VertexOk, vertex-ok}
+use Rattle.image.proofs.Verdicts.{record-same, record-sound, VertexOk, vertex-ok, any-value}
 
 pub has-self : (n : ℕ) (ns : List ℕ) → has n (n ∷ ns) ≡ true
 has-self n ns = rw (eq-eqb n n refl)
+
+-- each word is one of 32 bits
+abbrev pub Small : List ℕ → Type 0
+Small ws = (i : ℕ) → getD ws i 0 < 2 ^ 32
+
+pub small-take : (n : ℕ) (ws : List ℕ) → Small ws → Small (take n ws)
+small-take zero ws s i = omega arith
+small-take (suc n) [] s i = omega arith
+small-take (suc n) (w ∷ ws) s zero = s 0
+small-take (suc n) (w ∷ ws) s (suc i) = small-take n ws (λ j. s (suc j)) i
+
+pub small-drop : (n : ℕ) (ws : List ℕ) → Small ws → Small (drop n ws)
+small-drop zero ws s = s
+small-drop (suc n) [] s = s
+small-drop (suc n) (w ∷ ws) s = small-drop n ws (λ j. s (suc j))
 
 -- a number has 1 in the table where it is in the list, else 0
 abbrev pub Indicator : List ℕ → List ℕ → Type 0
@@ -41,21 +56,22 @@ or-swap false true c = refl
 or-swap false false c = refl
 
 module _ (size cap types : ℕ) where
-  pub vertex-agrees : (deg seen : List ℕ) (k : ℕ) (ws : List ℕ) (at : ℕ) → cap < length deg → Indicator seen deg →
+  pub vertex-agrees : (deg seen : List ℕ) (k : ℕ) (ws : List ℕ) (at : ℕ) → cap < length deg → Indicator seen deg → Small ws →
       vertexRun size cap types deg k ws at ≡ vertexWalk size cap types seen k ws at
   unfolding vertexRun vertexWalk
-  vertex-agrees deg seen zero ws at h a = refl
-  vertex-agrees deg seen (suc k) ws at h a =
+  vertex-agrees deg seen zero ws at h a m = refl
+  vertex-agrees deg seen (suc k) ws at h a m =
       let n = getD ws 0 0 in
       let t = getD ws 1 0 in
-      rw (fresh-by (getD deg n 0) (has n seen) (a n))
-      (record-same 3 at (goodVertex cap types (not (has n seen)) n t) _ _ λ g.
-      let l = within-range 1 cap n (vertex-ok cap types (not (has n seen)) n t g .number) in
-      vertex-agrees (set deg n 1) (n ∷ seen) k (drop size ws) (at + size) (rw length-set h) (indicator-set seen deg n (omega arith) a))
+      let x = getD ws 2 0 in
+      rw (fresh-by (getD deg n 0) (has n seen) (a n), any-value cap types (not (has n seen)) n t x (m 2))
+      (record-same 3 at (goodVertex cap types (not (has n seen)) n t x) _ _ λ g.
+      let l = within-range 1 cap n (vertex-ok cap types (not (has n seen)) n t x g .number) in
+      vertex-agrees (set deg n 1) (n ∷ seen) k (drop size ws) (at + size) (rw length-set h) (indicator-set seen deg n (omega arith) a) (small-drop size ws m))
 
   -- a sound walk of one record more: the record, and the rest
   pub record VertexStep (seen : List ℕ) (k : ℕ) (ws : List ℕ) (at : ℕ) : Type 0 where
-    pub ok : VertexOk cap types (not (has (getD ws 0 0) seen)) (getD ws 0 0) (getD ws 1 0)
+    pub ok : VertexOk cap types (not (has (getD ws 0 0) seen)) (getD ws 0 0) (getD ws 1 0) (getD ws 2 0)
     pub low : 1 ≤ getD ws 0 0
     pub high : getD ws 0 0 ≤ cap
     pub rest : vertexWalk size cap types (getD ws 0 0 ∷ seen) k (drop size ws) (at + size) ≡ Sound
@@ -65,8 +81,9 @@ module _ (size cap types : ℕ) where
   vertex-step seen k ws at s =
       let n = getD ws 0 0 in
       let t = getD ws 1 0 in
-      let r = record-sound 3 at (goodVertex cap types (not (has n seen)) n t) (vertexWalk size cap types (n ∷ seen) k (drop size ws) (at + size)) s in
-      let o = vertex-ok cap types (not (has n seen)) n t (r .0) in
+      let x = getD ws 2 0 in
+      let r = record-sound 3 at (goodVertex cap types (not (has n seen)) n t x) (vertexWalk size cap types (n ∷ seen) k (drop size ws) (at + size)) s in
+      let o = vertex-ok cap types (not (has n seen)) n t x (r .0) in
       let l = within-range 1 cap n (o .number) in
       record { ok = o; low = l .0; high = l .1; rest = r .1 }
 

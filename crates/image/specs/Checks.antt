@@ -1,5 +1,5 @@
--- What a check says of words: sound, or the offset at which it stops, going through records and lists in turn.
-use Prim.Native.Nat.{ℕ, zero, suc, _+_}
+-- What a check says of words: sound, or where the first word stands that cannot follow the words before it.
+use Prim.Native.Nat.{ℕ, zero, suc, _+_, _^_}
 use mathlib.Core.Bool.{Bool, true, not, _&&_}
 use mathlib.Core.List.{List, [], _∷_}
 use lib.ListN.{length, getD, drop}
@@ -9,7 +9,21 @@ use Rattle.lists.specs.Lists.{has}
 use Rattle.lists.specs.Keyed.{rem}
 use Rattle.graph.specs.Graph.{Edge, wd, isReading}
 use Rattle.graph.specs.WellFormed.{Bounds, wordsAt}
-use Rattle.image.specs.Image.{vertexSize, edgeSize, vertexOffset, edgeOffset, incidenceOffset, vertexCount, edgeCount, soundHeader, vertexPart, edgePart, incidencePart, edgesFrom, loadable}
+use Rattle.image.specs.Image.{
+  vertexSize,
+  edgeSize,
+  vertexOffset,
+  edgeOffset,
+  incidenceOffset,
+  vertexCount,
+  edgeCount,
+  soundHeader,
+  vertexPart,
+  edgePart,
+  incidencePart,
+  edgesFrom,
+  loadable,
+}
 use Rattle.image.specs.declared.Verdict.{Verdict}
 use Rattle.image.specs.declared.Verdict.the-variants.{Sound, BadHeader, BadRecord, BadIncidence}
 
@@ -20,6 +34,13 @@ codeOf BadHeader = 105
 codeOf (BadRecord at) = 105
 codeOf (BadIncidence at) = 105
 
+-- the offset of the first bad word, counted from the first word; 0 where the verdict names no word
+abbrev pub offsetOf : Verdict → ℕ
+offsetOf Sound = 0
+offsetOf BadHeader = 0
+offsetOf (BadRecord at) = at
+offsetOf (BadIncidence at) = at
+
 abbrev pub loadCode : Bounds → List ℕ → ℕ
 loadCode b ws = loadable b ws ⇒ 0 else 105
 
@@ -29,8 +50,9 @@ bounds vertices edges types = record { vertices = vertices; edges = edges; types
 -- ---- one record
 
 -- how many words a vertex record begins with are sound: 3 is all
-unfoldable pub goodVertex : ℕ → ℕ → Bool → ℕ → ℕ → ℕ
-goodVertex cap types fresh n t = not (within 1 cap n && fresh) ⇒ 0 else ltb t types ⇒ 3 else 1
+unfoldable pub goodVertex : ℕ → ℕ → Bool → ℕ → ℕ → ℕ → ℕ
+goodVertex cap types fresh n t x =
+    not (within 1 cap n && fresh) ⇒ 0 else not (ltb t types) ⇒ 1 else not (ltb x (2 ^ 32)) ⇒ 2 else 3
 
 -- how many words an edge record begins with are sound: 6 is all
 unfoldable pub goodEdge : ℕ → ℕ → Bool → Bool → Bool → ℕ → ℕ → ℕ → ℕ → ℕ
@@ -49,7 +71,7 @@ unfoldable pub vertexWalk : ℕ → ℕ → ℕ → List ℕ → ℕ → List �
 unfolding goodVertex
 vertexWalk size cap types seen zero ws at = Sound
 vertexWalk size cap types seen (suc k) ws at =
-    recordAt 3 at (goodVertex cap types (not (has (getD ws 0 0) seen)) (getD ws 0 0) (getD ws 1 0))
+    recordAt 3 at (goodVertex cap types (not (has (getD ws 0 0) seen)) (getD ws 0 0) (getD ws 1 0) (getD ws 2 0))
     (vertexWalk size cap types (getD ws 0 0 ∷ seen) k (drop size ws) (at + size))
 
 -- the numbers of k records of size words
@@ -63,7 +85,8 @@ unfolding goodEdge
 edgeWalk cap types vs seen zero ws at = Sound
 edgeWalk cap types vs seen (suc k) ws at =
     recordAt 6 at
-    (goodEdge cap types (not (has (getD ws 0 0) seen)) (has (getD ws 1 0) vs) (has (getD ws 2 0) vs) (getD ws 0 0) (getD ws 3 0) (getD ws 4 0) (getD ws 5 0))
+    (goodEdge cap types (not (has (getD ws 0 0) seen)) (has (getD ws 1 0) vs) (has (getD ws 2 0) vs)
+    (getD ws 0 0) (getD ws 3 0) (getD ws 4 0) (getD ws 5 0))
     (edgeWalk cap types vs (getD ws 0 0 ∷ seen) k (drop edgeSize ws) (at + edgeSize))
 
 -- how many words are in turn among those still wanted, until none is
@@ -107,7 +130,9 @@ numbersOf ws = numbersIn vertexSize (vertexCount ws) (vertexPart ws)
 unfoldable pub verdict : Bounds → List ℕ → Verdict
 unfolding soundHeader vertexWalk numbersIn edgeWalk listWalk soundCounts edgesFrom
 verdict b ws =
-    not (soundHeader ws && soundCounts (b .vertices) (b .edges) (vertexCount ws) (edgeCount ws)) ⇒ BadHeader
-    else andThen (vertexWalk vertexSize (b .vertices) (b .types) [] (vertexCount ws) (vertexPart ws) vertexOffset)
-    (andThen (edgeWalk (b .edges) (b .types) (numbersOf ws) [] (edgeCount ws) (edgePart ws) (edgeOffset (vertexCount ws)))
-    (listWalk (edgesFrom (edgeCount ws) (edgePart ws)) (numbersOf ws) (incidencePart ws) (incidenceOffset (vertexCount ws) (edgeCount ws))))
+    let v = vertexCount ws in
+    let e = edgeCount ws in
+    not (soundHeader ws && soundCounts (b .vertices) (b .edges) v e) ⇒ BadHeader
+    else andThen (vertexWalk vertexSize (b .vertices) (b .types) [] v (vertexPart ws) vertexOffset)
+    (andThen (edgeWalk (b .edges) (b .types) (numbersOf ws) [] e (edgePart ws) (edgeOffset v))
+    (listWalk (edgesFrom e (edgePart ws)) (numbersOf ws) (incidencePart ws) (incidenceOffset v e)))

@@ -61,7 +61,8 @@ edgeCount ws = getD ws 1 0
 -- REFERENCE 10.5
 unfoldable pub soundHeader : List ℕ → Bool
 soundHeader ws =
-    same (take 6 ws) (headerOf (vertexCount ws) (edgeCount ws)) && (length ws == imageLength (vertexCount ws) (edgeCount ws))
+    same (take 6 ws) (headerOf (vertexCount ws) (edgeCount ws))
+    && (length ws == imageLength (vertexCount ws) (edgeCount ws))
 
 abbrev pub vertexPart : List ℕ → List ℕ
 vertexPart ws = take (vertexSize * vertexCount ws) (drop vertexOffset ws)
@@ -72,11 +73,12 @@ edgePart ws = take (edgeSize * edgeCount ws) (drop (edgeOffset (vertexCount ws))
 abbrev pub incidencePart : List ℕ → List ℕ
 incidencePart ws = drop (incidenceOffset (vertexCount ws) (edgeCount ws)) ws
 
--- REFERENCE 10.7
+-- part 1, 2 or 3 of words with a sound header; any other part is empty (REFERENCE 10.7; Parts: where it lies)
 unfoldable pub part : ℕ → List ℕ → List ℕ
 unfolding soundHeader
 part k ws =
-    not (soundHeader ws) ⇒ [] else (k == 1) ⇒ vertexPart ws else (k == 2) ⇒ edgePart ws else (k == 3) ⇒ incidencePart ws else []
+    not (soundHeader ws) ⇒ [] else
+    (k == 1) ⇒ vertexPart ws else (k == 2) ⇒ edgePart ws else (k == 3) ⇒ incidencePart ws else []
 
 -- ---- loading: the only graph that can have saved as these words
 

@@ -1,5 +1,6 @@
 -- The same walks over scratch tables in place of lists: one lookup a word, so that a check is linear.
--- deg has, for a vertex's number, 1 + its ends so far; own has, for an oriented word, its vertex until the word is used.
+-- deg has, for a vertex's number, 1 + its ends so far;
+-- own has, for an oriented word, its vertex until the word is used.
 use Prim.Native.Nat.{ℕ, zero, suc, _+_, _-_, _≤_}
 use mathlib.Core.List.{List, [], _∷_}
 use lib.ListN.{getD, drop, set}
@@ -18,10 +19,11 @@ Below k s = (i : ℕ) → getD s i 0 ≤ k
 
 -- ---- vertices
 
+-- a word of 32 bits is always a value: the run does not read it
 unfoldable pub vertexRun : ℕ → ℕ → ℕ → List ℕ → ℕ → List ℕ → ℕ → Verdict
 vertexRun size cap types deg zero ws at = Sound
 vertexRun size cap types deg (suc k) ws at =
-    recordAt 3 at (goodVertex cap types (getD deg (getD ws 0 0) 0 == 0) (getD ws 0 0) (getD ws 1 0))
+    recordAt 3 at (goodVertex cap types (getD deg (getD ws 0 0) 0 == 0) (getD ws 0 0) (getD ws 1 0) 0)
     (vertexRun size cap types (set deg (getD ws 0 0) 1) k (drop size ws) (at + size))
 
 unfoldable pub vertexMarks : ℕ → List ℕ → ℕ → List ℕ → List ℕ
@@ -42,7 +44,8 @@ owned n a o own = set (set own (outWord n) a) (inWord n) o
 -- the record at `at`: how many words are sound; its ends counted; its words entered
 abbrev pub edgeGood : ℕ → ℕ → List ℕ → List ℕ → List ℕ → ℕ → ℕ
 edgeGood cap types deg own ws at =
-    goodEdge cap types (getD own (outWord (getD ws at 0)) 0 == 0) (ltb 0 (getD deg (getD ws (at + 1) 0) 0)) (ltb 0 (getD deg (getD ws (at + 2) 0) 0))
+    goodEdge cap types (getD own (outWord (getD ws at 0)) 0 == 0)
+    (ltb 0 (getD deg (getD ws (at + 1) 0) 0)) (ltb 0 (getD deg (getD ws (at + 2) 0) 0))
     (getD ws at 0) (getD ws (at + 3) 0) (getD ws (at + 4) 0) (getD ws (at + 5) 0)
 
 abbrev pub edgeEnds : List ℕ → ℕ → List ℕ → List ℕ
@@ -84,8 +87,8 @@ unfolding listRun listOwners
 incidenceRun size deg own zero vs ws at = ended ws at
 incidenceRun size deg own (suc k) vs ws at =
     listAt (getD deg (getD vs 0 0) 0 - 1) at (listRun (getD vs 0 0) (getD deg (getD vs 0 0) 0 - 1) own ws)
-    (incidenceRun size deg (listOwners (getD deg (getD vs 0 0) 0 - 1) own ws) k (drop size vs) (drop (getD deg (getD vs 0 0) 0 - 1) ws)
-    (at + (getD deg (getD vs 0 0) 0 - 1)))
+    (incidenceRun size deg (listOwners (getD deg (getD vs 0 0) 0 - 1) own ws) k
+    (drop size vs) (drop (getD deg (getD vs 0 0) 0 - 1) ws) (at + (getD deg (getD vs 0 0) 0 - 1)))
 
 -- ---- the three passes, over the parts of v vertices and e edges
 
@@ -94,4 +97,5 @@ unfolding vertexRun vertexMarks edgeRun edgeDegrees edgeOwners incidenceRun
 scratchRun deg own b v e vs es is =
     andThen (vertexRun vertexSize (b .vertices) (b .types) deg v vs vertexOffset)
     (andThen (edgeRun (b .edges) (b .types) (vertexMarks vertexSize deg v vs) own e es (edgeOffset v))
-    (incidenceRun vertexSize (edgeDegrees (vertexMarks vertexSize deg v vs) e es) (edgeOwners own e es) v vs is (incidenceOffset v e)))
+    (incidenceRun vertexSize (edgeDegrees (vertexMarks vertexSize deg v vs) e es) (edgeOwners own e es)
+    v vs is (incidenceOffset v e)))

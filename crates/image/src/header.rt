@@ -1,6 +1,7 @@
 // The header: counts, offsets, total and length. Its words may be any, so the sums are those of 64 bits.
 ghost use mathlib.Core.Path.{_≡_};
 ghost use Rattle.image.specs.Image.{soundHeader};
+ghost use Rattle.image.specs.Parts.{hasPart};
 ghost use Rattle.image.specs.Checks.{soundCounts};
 use crate::words::word;
 
@@ -22,6 +23,19 @@ pub fn sound(words: &[u32]) -> bool
         return false;
     }
     words.len() == 6 + 3 * v + 8 * e
+}
+
+// Whether the words have this part: 1, 2 or 3 of a sound header.
+pub fn has_part(words: &[u32], which: u32) -> bool
+    ensures { λ r. ⌜ r ≡ hasPart which (now (words .entry)) ⌝ }
+{
+    if !sound(words) {
+        return false;
+    }
+    if which < 1 {
+        return false;
+    }
+    which <= 3
 }
 
 // Counts within the capacities, and no edges without a vertex.

@@ -5,11 +5,12 @@ mod records; // records.rt: one vertex record, one edge record
 mod passes; // passes.rt: each part in turn, over scratch
 
 ghost use mathlib.Core.Path.{_≡_};
-ghost use Prim.Native.Nat.{_≤_};
+ghost use Prim.Native.Nat.{_≤_, _<_, _^_};
 ghost use Rattle.image.specs.Image.{part as partOf};
-ghost use Rattle.image.specs.Checks.{bounds, verdict, codeOf, loadCode};
+ghost use Rattle.image.specs.Parts.{partBound, partStart, LiesAt};
+ghost use Rattle.image.specs.Checks.{bounds, verdict, codeOf, offsetOf, loadCode};
 
-// What words are: an image, or the offset at which the check stops, going through records and lists in turn.
+// What words are: those that some graph saves as, or the offset of the first word that cannot follow those before it.
 // Where the header or a count is bad there is no offset.
 pub enum Verdict {
     Sound,
@@ -18,25 +19,57 @@ pub enum Verdict {
     BadIncidence(u32),
 }
 
-// Part 1, 2 or 3 (vertices, edges, incidences) of words with a sound header; else an empty part.
-pub fn part(words: &[u32], which: u32) -> &[u32]
-    ensures { λ r. ⌜ now r ≡ partOf which (now (words .entry)) ⌝ }
+// The code that a verdict is answered by.
+pub fn code_of(found: Verdict) -> u32
+    ensures { λ r. ⌜ r ≡ codeOf found ⌝ }
 {
-    if !header::sound(words) {
-        return &words[0..0];
+    match found {
+        Verdict::Sound => 0,
+        Verdict::BadHeader => 105,
+        Verdict::BadRecord(_) => 105,
+        Verdict::BadIncidence(_) => 105,
     }
-    let a = 6 + 3 * words::word(words, 0);
-    let b = a + 6 * words::word(words, 1);
-    if which == 1 {
-        return &words[6..a];
+}
+
+// The offset of the first bad word, from 0 at the first word; 0 where the verdict names none.
+pub fn offset_of(found: Verdict) -> u32
+    ensures { λ r. ⌜ r ≡ offsetOf found ⌝ }
+{
+    match found {
+        Verdict::Sound => 0,
+        Verdict::BadHeader => 0,
+        Verdict::BadRecord(at) => at,
+        Verdict::BadIncidence(at) => at,
     }
-    if which == 2 {
-        return &words[a..b];
+}
+
+// The header's word `next` behind the number of a part: where the part starts (1) or ends (2). 0 where there is no such
+// part: without a sound header, or for another number than 1, 2 or 3.
+fn part_bound(words: &[u32], which: u32, next: u32) -> usize
+    ensures { λ r. ⌜ (r ≡ partBound next which (now (words .entry))) × (r < 2 ^ 32) ⌝ }
+{
+    if !header::has_part(words, which) {
+        return 0;
     }
-    if which == 3 {
-        return &words[b..];
-    }
-    &words[0..0]
+    words::word(words, words::wide(which) + words::wide(next))
+}
+
+// Where a part starts, in words from the first: the header's offset of it, also where the part is empty.
+pub fn part_start(words: &[u32], which: u32) -> usize
+    ensures { λ r. ⌜ r ≡ partStart which (now (words .entry)) ⌝ }
+{
+    part_bound(words, which, 1)
+}
+
+// Part 1, 2 or 3 (vertices, edges, incidences) of words with a sound header, as it lies in these very words;
+// else an empty part at their first.
+pub fn part(words: &[u32], which: u32) -> &[u32]
+    ensures { λ r. ⌜ (now r ≡ partOf which (now (words .entry)))
+        × LiesAt (partStart which (now (words .entry))) (words .entry) r ⌝ }
+{
+    let start = part_bound(words, which, 1);
+    let end = part_bound(words, which, 2);
+    &words[start..end]
 }
 
 // Whether the words are those that some graph within the capacities and types saves as.

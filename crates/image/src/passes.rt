@@ -1,9 +1,12 @@
-// Each part in turn, over scratch of their own: deg has 1 + its ends so far for a vertex, own the vertex of an oriented word.
+// Each part in turn, over scratch of their own: deg has 1 + its ends so far for a vertex, own the vertex of an
+// oriented word.
 ghost use mathlib.Core.Path.{_≡_};
 ghost use Prim.Native.Nat.{_≤_};
 ghost use lib.ListN.{length, getD, drop, replicate};
 ghost use Rattle.image.specs.Checks.{bounds};
-ghost use Rattle.image.specs.Scratch.{Below, ends, owned, edgeGood, edgeEnds, edgeOwned, vertexRun, vertexMarks, edgeRun, edgeDegrees, edgeOwners, listRun, listOwners, incidenceRun, scratchRun};
+ghost use Rattle.image.specs.Scratch.{Below, ends, owned, edgeGood, edgeEnds, edgeOwned};
+ghost use Rattle.image.specs.Scratch.{vertexRun, vertexMarks, edgeRun, edgeDegrees, edgeOwners};
+ghost use Rattle.image.specs.Scratch.{listRun, listOwners, incidenceRun, scratchRun};
 use crate::Verdict;
 use crate::records::good_edge;
 use crate::records::good_vertex;
@@ -17,7 +20,8 @@ use crate::words::word;
 // Count vertex records of size words: marks each number with 1.
 fn vertices(part: &[u32], size: usize, count: u32, deg: &mut [u32], cap: u32, types: u32) -> Verdict
     requires { ⌜ (size ≤ 4) × (count ≤ 1000) ⌝ }
-    ensures { λ r. ⌜ (r ≡ vertexRun size cap types (now (deg .entry)) count (now (part .entry)) 6) × (r ≡ Verdict.Sound → now (deg .exit) ≡ vertexMarks size (now (deg .entry)) count (now (part .entry))) ⌝ }
+    ensures { λ r. ⌜ (r ≡ vertexRun size cap types (now (deg .entry)) count (now (part .entry)) 6)
+        × (r ≡ Verdict.Sound → now (deg .exit) ≡ vertexMarks size (now (deg .entry)) count (now (part .entry))) ⌝ }
 {
     let mut i: u32 = 0;
     let mut at = 0;
@@ -61,7 +65,8 @@ fn edge_good(part: &[u32], at: usize, deg: &[u32], own: &[u32], cap: u32, types:
 // Counts both ends of an edge, and enters its two words with their vertices.
 fn enter(deg: &mut [u32], own: &mut [u32], n: u32, a: u32, o: u32)
     requires { ⌜ (n ≤ 100000) × Below 900000 (now deg) ⌝ }
-    ensures { λ r. ⌜ (now (deg .exit) ≡ ends a o (now (deg .entry))) × (now (own .exit) ≡ owned n a o (now (own .entry))) ⌝ }
+    ensures { λ r. ⌜ (now (deg .exit) ≡ ends a o (now (deg .entry)))
+        × (now (own .exit) ≡ owned n a o (now (own .entry))) ⌝ }
 {
     bump(deg, wide(a));
     bump(deg, wide(o));
@@ -73,7 +78,8 @@ fn enter(deg: &mut [u32], own: &mut [u32], n: u32, a: u32, o: u32)
 // The same for the record at `at`.
 fn edge_enter(part: &[u32], at: usize, deg: &mut [u32], own: &mut [u32])
     requires { ⌜ (at ≤ 100000) × (getD (now part) at 0 ≤ 100000) × Below 900000 (now deg) ⌝ }
-    ensures { λ r. ⌜ (now (deg .exit) ≡ edgeEnds (now (part .entry)) at (now (deg .entry))) × (now (own .exit) ≡ edgeOwned (now (part .entry)) at (now (own .entry))) ⌝ }
+    ensures { λ r. ⌜ (now (deg .exit) ≡ edgeEnds (now (part .entry)) at (now (deg .entry)))
+        × (now (own .exit) ≡ edgeOwned (now (part .entry)) at (now (own .entry))) ⌝ }
 {
     enter(
         deg,
@@ -95,7 +101,9 @@ fn edges(
     types: u32,
 ) -> Verdict
     requires { ⌜ (count ≤ 4000) × (from ≤ 100000) × (cap ≤ 100000) × Below 1 (now deg) ⌝ }
-    ensures { λ r. ⌜ (r ≡ edgeRun cap types (now (deg .entry)) (now (own .entry)) count (now (part .entry)) from) × (r ≡ Verdict.Sound → (now (deg .exit) ≡ edgeDegrees (now (deg .entry)) count (now (part .entry))) × (now (own .exit) ≡ edgeOwners (now (own .entry)) count (now (part .entry)))) ⌝ }
+    ensures { λ r. ⌜ (r ≡ edgeRun cap types (now (deg .entry)) (now (own .entry)) count (now (part .entry)) from)
+        × (r ≡ Verdict.Sound → (now (deg .exit) ≡ edgeDegrees (now (deg .entry)) count (now (part .entry)))
+        × (now (own .exit) ≡ edgeOwners (now (own .entry)) count (now (part .entry)))) ⌝ }
 {
     let mut i: u32 = 0;
     let mut at = 0;
@@ -114,7 +122,8 @@ fn edges(
 // How many of the d words from at on are v's. Each word found is taken from v.
 fn list(part: &[u32], at: usize, d: u32, v: u32, own: &mut [u32]) -> u32
     requires { ⌜ at ≤ length (now part) ⌝ }
-    ensures { λ r. ⌜ (r ≡ listRun v d (now (own .entry)) (drop at (now (part .entry)))) × (r ≡ d → now (own .exit) ≡ listOwners d (now (own .entry)) (drop at (now (part .entry)))) ⌝ }
+    ensures { λ r. ⌜ (r ≡ listRun v d (now (own .entry)) (drop at (now (part .entry))))
+        × (r ≡ d → now (own .exit) ≡ listOwners d (now (own .entry)) (drop at (now (part .entry)))) ⌝ }
 {
     let mut k: u32 = 0;
     let mut i = at;
@@ -144,7 +153,8 @@ fn incidences(
     own: &mut [u32],
 ) -> Verdict
     requires { ⌜ (size ≤ 4) × (count ≤ 1000) × (length (now part) ≤ 100000) × (from ≤ 100000) ⌝ }
-    ensures { λ r. ⌜ r ≡ incidenceRun size (now (deg .entry)) (now (own .entry)) count (now (vs .entry)) (now (part .entry)) from ⌝ }
+    ensures { λ r. ⌜ r
+        ≡ incidenceRun size (now (deg .entry)) (now (own .entry)) count (now (vs .entry)) (now (part .entry)) from ⌝ }
 {
     let mut i: u32 = 0;
     let mut row = 0;
@@ -178,7 +188,8 @@ pub fn all(
     types: u32,
 ) -> Verdict
     requires { ⌜ (v ≤ 1000) × (e ≤ 4000) × (ecap ≤ 4000) × (length (now is) ≤ 100000) ⌝ }
-    ensures { λ r. ⌜ r ≡ scratchRun (replicate 1001 0) (replicate 8002 0) (bounds vcap ecap types) v e (now (vs .entry)) (now (es .entry)) (now (is .entry)) ⌝ }
+    ensures { λ r. ⌜ r ≡ scratchRun (replicate 1001 0) (replicate 8002 0) (bounds vcap ecap types)
+        v e (now (vs .entry)) (now (es .entry)) (now (is .entry)) ⌝ }
 {
     let mut deg = [0u32; 1001];
     let mut own = [0u32; 8002];

@@ -25,9 +25,9 @@ pub fn reading(k: u32, d: u32) -> bool
     false
 }
 
-// Of 3: number, type, value.
+// Of 3: number, type, value. A word is always a value.
 pub fn good_vertex(cap: u32, types: u32, fresh: bool, n: u32, t: u32) -> u32
-    ensures { λ r. ⌜ r ≡ goodVertex cap types fresh n t ⌝ }
+    ensures { λ r. ⌜ r ≡ goodVertex cap types fresh n t 0 ⌝ }
 {
     if !numbered(cap, n) {
         return 0;

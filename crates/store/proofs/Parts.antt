@@ -9,25 +9,14 @@ use Rattle.lists.specs.Lists.{each}
 use Rattle.graph.specs.Graph.{Graph}
 use Rattle.graph.specs.WellFormed.{Bounds, WellFormed, Within}
 use Rattle.graph.proofs.Facts.{to-facts}
-use Rattle.image.specs.Image.{vertexRecord, edgeRecord, incidencesOf, soundHeader, vertexPart, edgePart, incidencePart, part, load, loadable}
+use Rattle.image.specs.Image.{vertexRecord, edgeRecord, incidencesOf, vertexPart, edgePart, incidencePart, part, load, loadable}
 use Rattle.image.proofs.Loads.{loaded, vertex-words, edge-words, incidence-words}
+use Rattle.image.proofs.Parts.{part-1, part-2, part-3}
 use Rattle.image.proofs.Room.{few-vertices, few-edges}
 use Rattle.tables.specs.declared.Head.{Head}
 use Rattle.tables.specs.Tables.{st, noHead}
 use Rattle.tables.specs.Capacities.{Sized}
 use Rattle.store.specs.Filling.{CanLoad}
-
-part-1 : (ws : List ℕ) → soundHeader ws ≡ true → part 1 ws ≡ vertexPart ws
-unfolding part
-part-1 ws h = rw h
-
-part-2 : (ws : List ℕ) → soundHeader ws ≡ true → part 2 ws ≡ edgePart ws
-unfolding part
-part-2 ws h = rw h
-
-part-3 : (ws : List ℕ) → soundHeader ws ≡ true → part 3 ws ≡ incidencePart ws
-unfolding part
-part-3 ws h = rw h
 
 pub record Source (b : Bounds) (words : List ℕ) (g : Graph) : Type 0 where
   pub formed : WellFormed g

@@ -119,8 +119,8 @@ pub fn compare_parts(words: &[u32]) -> Result<(), String> {
     for which in [0, 1, 2, 3, 4, u32::MAX] {
         // SAFETY: the pointer is to a slice of the given length.
         let span = unsafe { futtockfig_part(words.as_ptr(), words.len(), which) };
-        // Where a part is empty, offset and length are 0.
-        let (offset, len) = image::part(words, which).filter(|(_, len)| *len > 0).unwrap_or((0, 0));
+        // Also an empty part has the header's offset; where there is no part, offset and length are 0.
+        let (offset, len) = image::part(words, which).unwrap_or((0, 0));
         if (span.offset, span.len) != (offset, len) {
             return Err(format!("part {which} is {} words from {}, should be {len} from {offset}", span.len, span.offset));
         }

@@ -19,7 +19,7 @@ returns c =
     let s = c .before .sound in
     let b = bounds (a .vertices) (a .edges) (a .types) in
     let v = bad-head b (a .words .now) (sym (s .ensures) ∙ not-true (s .result) (c .if1 .taken)) in
-    (ap codeOf v ∙ verdict-code b (a .words .now) (λ i. omega (arith, c .before .before .shared-slice-known .given i)), v)
+    (ap codeOf v ∙ verdict-code b (a .words .now), v)
 
 get-requires : tie.Need-get-requires
 get-requires c κs = search needs
@@ -38,7 +38,7 @@ returns-2 c =
     let k = sym (n .ensures) ∙ not-true (n .result) (c .if2 .taken) in
     let b = bounds (a .vertices) (a .edges) (a .types) in
     let v = bad-counts (a .words .now) (sym (s .ensures) ∙ not-false (s .result) (c .before .before .before .before .if1 .left)) b (rw (c .before .before .before .get .ensures, c .before .before .get2 .ensures) at k) in
-    (ap codeOf v ∙ verdict-code b (a .words .now) (λ i. omega (arith, c .before .before .before .before .before .before .shared-slice-known .given i)), v)
+    (ap codeOf v ∙ verdict-code b (a .words .now), v)
 
 part-requires : tie.Need-part-requires
 part-requires c κs = search needs
@@ -62,7 +62,7 @@ all-requires c κs =
     let p = c .before .before .before .before .before .before .before .before .before .before .pre in
     let lv : x .result ≤ 1000 = omega (arith, l .0, p .0) in
     let le : y .result ≤ 4000 = omega (arith, l .1, p .1) in
-    (lv, le, p .1, incidences-few (a .words .now) h (x .result) (y .result) (x .ensures) (y .ensures) lv le (c .part3 .result .now) (c .part3 .ensures))
+    (lv, le, p .1, incidences-few (a .words .now) h (x .result) (y .result) (x .ensures) (y .ensures) lv le (c .part3 .result .now) (c .part3 .ensures .0))
 
 returns-3 : tie.Need-returns-3
 returns-3 c =
@@ -75,9 +75,9 @@ returns-3 c =
     let k = sym (n .ensures) ∙ not-false (n .result) (c .before .before .before .before .if2 .left) in
     let p = c .before .before .before .before .before .before .before .before .before .before .before .pre in
     let b = bounds (a .vertices) (a .edges) (a .types) in
-    let v = verdict-by (a .words .now) h (a .vertices) (a .edges) (a .types) (x .result) (y .result) (p .0) (p .1) (x .ensures) (y .ensures) k
-    (c .before .before .before .part .result .now) (c .before .before .part2 .result .now) (c .before .part3 .result .now) (c .before .before .before .part .ensures) (c .before .before .part2 .ensures) (c .before .part3 .ensures) (c .all .result) (c .all .ensures) in
-    (ap codeOf v ∙ verdict-code b (a .words .now) (λ i. omega (arith, c .before .before .before .before .before .before .before .before .before .before .shared-slice-known .given i)), v)
+    let v = verdict-by (a .words .now) h (λ i. omega (arith, c .before .before .before .before .before .before .before .before .before .before .shared-slice-known .given i)) (a .vertices) (a .edges) (a .types) (x .result) (y .result) (p .0) (p .1) (x .ensures) (y .ensures) k
+    (c .before .before .before .part .result .now) (c .before .before .part2 .result .now) (c .before .part3 .result .now) (c .before .before .before .part .ensures .0) (c .before .before .part2 .ensures .0) (c .before .part3 .ensures .0) (c .all .result) (c .all .ensures) in
+    (ap codeOf v ∙ verdict-code b (a .words .now), v)
 
 pub check-spec : {M : Type 1} → statement M
 check-spec =

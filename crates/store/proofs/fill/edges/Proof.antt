@@ -28,7 +28,7 @@ loop-holds c =
     let s = c .before .before .before .before in (
       refl,
       fill-start edgeRecord (ECore (map withoutList (load (s .args .words .now) .vseq))) (load (s .args .words .now) .eseq) (c .part .result .now) (st (s .args .head) (s .args .vt .now) (s .args .et .now))
-          (c .part .ensures ∙ given (s .args .words .now) (s .args .vt .now) (s .args .et .now) (s .pre .0) .edges) (s .pre .1),
+          (c .part .ensures .0 ∙ given (s .args .words .now) (s .args .vt .now) (s .args .et .now) (s .pre .0) .edges) (s .pre .1),
     )
 
 -- what is known in a turn

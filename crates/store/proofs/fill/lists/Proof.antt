@@ -34,7 +34,7 @@ loop-holds c =
     let k = given (s .args .words .now) (s .args .vt .now) (s .args .et .now) (s .pre .0) in (
       refl,
       refl,
-      fill-start (λ x. x ∷ []) (WCore (load (s .args .words .now))) (each incidencesOf (load (s .args .words .now) .vseq)) (c .part .result .now) (st (s .args .head) (s .args .vt .now) (s .args .et .now)) (c .part .ensures ∙ k .lists ∙ sym (each-one _)) (s .pre .1),
+      fill-start (λ x. x ∷ []) (WCore (load (s .args .words .now))) (each incidencesOf (load (s .args .words .now) .vseq)) (c .part .result .now) (st (s .args .head) (s .args .vt .now) (s .args .et .now)) (c .part .ensures .0 ∙ k .lists ∙ sym (each-one _)) (s .pre .1),
     )
 
 -- what is known in a turn

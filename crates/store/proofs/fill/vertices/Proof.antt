@@ -26,7 +26,7 @@ loop-holds c =
     let s = c .before .before .before .before in (
       refl,
       fill-start vertexRecord VCore (load (s .args .words .now) .vseq) (c .part .result .now) (st (s .args .head) (s .args .vt .now) (s .args .et .now))
-          (c .part .ensures ∙ given (s .args .words .now) (s .args .vt .now) (s .args .et .now) (s .pre .0) .vertices) (s .pre .1),
+          (c .part .ensures .0 ∙ given (s .args .words .now) (s .args .vt .now) (s .args .et .now) (s .pre .0) .vertices) (s .pre .1),
     )
 
 -- what is known in a turn

@@ -1,0 +1,274 @@
+-- Where the first bad word stands, and that the words up to it decide: words that begin with them have the same verdict.
+use Prim.Native.Nat.{ℕ, zero, suc, _+_, _*_, _^_, _≤_, _<_}
+use mathlib.Core.Path.{_≡_, refl, sym, ap, _∙_}
+use mathlib.Core.Logic.{_⊎_, inl, inr}
+use mathlib.Core.Bool.{Bool, true, false, not, _&&_}
+use mathlib.Core.List.{List, [], _∷_}
+use native.Mathlib.Omega.{arith}
+use lib.Dec.{leb, ltb}
+use lib.ListN.{length, getD, drop, length-drop}
+use lib.Seq.{getD-drop}
+use borrow.Author.Tests.{ltb-true, ltb-false}
+use Rattle.lists.specs.Choice.{_⇒_else_, within}
+use Rattle.lists.specs.Lists.{has}
+use Rattle.lists.specs.Keyed.{rem}
+use Rattle.graph.specs.Graph.{Edge, wd, isReading}
+use Rattle.graph.specs.WellFormed.{wordsAt}
+use Rattle.image.specs.Image.{vertexSize}
+use Rattle.image.specs.Checks.{goodVertex, goodEdge, recordAt, vertexWalk, edgeWalk, goodList, listAt, listWalk, andThen}
+use Rattle.image.specs.declared.Verdict.{Verdict}
+use Rattle.image.specs.declared.Verdict.the-variants.{Sound, BadHeader, BadRecord, BadIncidence}
+
+-- ---- verdicts that differ
+
+pub sound-record : {k : ℕ} → Sound ≡ BadRecord k → ⊥
+sound-record e = let z : _≡_ {A = ℕ} 0 1 = cc in omega arith
+
+pub sound-incidence : {k : ℕ} → Sound ≡ BadIncidence k → ⊥
+sound-incidence e = let z : _≡_ {A = ℕ} 0 1 = cc in omega arith
+
+pub record-incidence : {k m : ℕ} → BadRecord k ≡ BadIncidence m → ⊥
+record-incidence e = let z : _≡_ {A = ℕ} 0 1 = cc in omega arith
+
+pub header-record : {k : ℕ} → BadHeader ≡ BadRecord k → ⊥
+header-record e = let z : _≡_ {A = ℕ} 0 1 = cc in omega arith
+
+pub header-incidence : {k : ℕ} → BadHeader ≡ BadIncidence k → ⊥
+header-incidence e = let z : _≡_ {A = ℕ} 0 1 = cc in omega arith
+
+record-offset : {k m : ℕ} → BadRecord k ≡ BadRecord m → k ≡ m
+record-offset e = cc
+
+incidence-offset : {k m : ℕ} → BadIncidence k ≡ BadIncidence m → k ≡ m
+incidence-offset e = cc
+
+-- ---- one step of a walk that finds a bad word: here, or in the rest
+
+pub record-bad : (size at g m : ℕ) (x : Verdict) → recordAt size at g x ≡ BadRecord m → ((g < size) × (at + g ≡ m)) ⊎ ((size ≤ g) × (x ≡ BadRecord m))
+record-bad size at g m x h = go (ltb g size) refl h
+  where
+    go : (t : Bool) → ltb g size ≡ t → (t ⇒ BadRecord (at + g) else x) ≡ BadRecord m → ((g < size) × (at + g ≡ m)) ⊎ ((size ≤ g) × (x ≡ BadRecord m))
+    go true e h = inl (ltb-true g size e, record-offset h)
+    go false e h = inr (ltb-false g size e, h)
+
+pub list-bad : (d at g m : ℕ) (x : Verdict) → listAt d at g x ≡ BadIncidence m → ((g < d) × (at + g ≡ m)) ⊎ ((d ≤ g) × (x ≡ BadIncidence m))
+list-bad d at g m x h = go (ltb g d) refl h
+  where
+    go : (t : Bool) → ltb g d ≡ t → (t ⇒ BadIncidence (at + g) else x) ≡ BadIncidence m → ((g < d) × (at + g ≡ m)) ⊎ ((d ≤ g) × (x ≡ BadIncidence m))
+    go true e h = inl (ltb-true g d e, incidence-offset h)
+    go false e h = inr (ltb-false g d e, h)
+
+record-no-incidence : (size at g m : ℕ) (x : Verdict) → recordAt size at g x ≡ BadIncidence m → x ≡ BadIncidence m
+record-no-incidence size at g m x h = go (ltb g size) h
+  where
+    go : (t : Bool) → (t ⇒ BadRecord (at + g) else x) ≡ BadIncidence m → x ≡ BadIncidence m
+    go true h = absurd (record-incidence h)
+    go false h = h
+
+list-no-record : (d at g m : ℕ) (x : Verdict) → listAt d at g x ≡ BadRecord m → x ≡ BadRecord m
+list-no-record d at g m x h = go (ltb g d) h
+  where
+    go : (t : Bool) → (t ⇒ BadIncidence (at + g) else x) ≡ BadRecord m → x ≡ BadRecord m
+    go true h = absurd (record-incidence (sym h))
+    go false h = h
+
+pub then-record : (r x : Verdict) (m : ℕ) → andThen r x ≡ BadRecord m → (r ≡ BadRecord m) ⊎ ((r ≡ Sound) × (x ≡ BadRecord m))
+then-record Sound x m h = inr (refl, h)
+then-record BadHeader x m h = inl h
+then-record (BadRecord at) x m h = inl h
+then-record (BadIncidence at) x m h = inl h
+
+pub then-incidence : (r x : Verdict) (m : ℕ) → andThen r x ≡ BadIncidence m → (r ≡ BadIncidence m) ⊎ ((r ≡ Sound) × (x ≡ BadIncidence m))
+then-incidence Sound x m h = inr (refl, h)
+then-incidence BadHeader x m h = inl h
+then-incidence (BadRecord at) x m h = inl h
+then-incidence (BadIncidence at) x m h = inl h
+
+-- the same place in words whose record is as good
+record-keeps : (size at g f m : ℕ) (x y : Verdict) → f ≡ g → recordAt size at g x ≡ BadRecord m → (size ≤ g → x ≡ BadRecord m → y ≡ BadRecord m) → recordAt size at f y ≡ BadRecord m
+record-keeps size at g f m x y e h k = rw e (go (ltb g size) refl h)
+  where
+    go : (t : Bool) → ltb g size ≡ t → (t ⇒ BadRecord (at + g) else x) ≡ BadRecord m → (t ⇒ BadRecord (at + g) else y) ≡ BadRecord m
+    go true p h = h
+    go false p h = k (ltb-false g size p) h
+
+list-keeps : (d at g f m : ℕ) (x y : Verdict) → f ≡ g → listAt d at g x ≡ BadIncidence m → (d ≤ g → x ≡ BadIncidence m → y ≡ BadIncidence m) → listAt d at f y ≡ BadIncidence m
+list-keeps d at g f m x y e h k = rw e (go (ltb g d) refl h)
+  where
+    go : (t : Bool) → ltb g d ≡ t → (t ⇒ BadIncidence (at + g) else x) ≡ BadIncidence m → (t ⇒ BadIncidence (at + g) else y) ≡ BadIncidence m
+    go true p h = h
+    go false p h = k (ltb-false g d p) h
+
+-- us has the words of ws up to the place m, where both begin at `at`
+abbrev pub Upto : ℕ → ℕ → List ℕ → List ℕ → Type 0
+Upto at m us ws = (i : ℕ) → at + i ≤ m → getD us i 0 ≡ getD ws i 0
+
+upto-drop : (size at m : ℕ) (us ws : List ℕ) → Upto at m us ws → Upto (at + size) m (drop size us) (drop size ws)
+upto-drop size at m us ws a i h = getD-drop size us i 0 ∙ a (size + i) (omega arith) ∙ sym (getD-drop size ws i 0)
+
+-- ---- vertex records
+
+vertex-cut : (p z u z′ u′ : Bool) → (1 ≤ (not p ⇒ 0 else not z ⇒ 1 else not u ⇒ 2 else 3) → z′ ≡ z) → (2 ≤ (not p ⇒ 0 else not z ⇒ 1 else not u ⇒ 2 else 3) → u′ ≡ u) →
+    _≡_ {A = ℕ} (not p ⇒ 0 else not z′ ⇒ 1 else not u′ ⇒ 2 else 3) (not p ⇒ 0 else not z ⇒ 1 else not u ⇒ 2 else 3)
+vertex-cut false z u z′ u′ h k = refl
+vertex-cut true false u z′ u′ h k = rw (h (omega arith))
+vertex-cut true true false z′ u′ h k = rw (h (omega arith), k (omega arith))
+vertex-cut true true true z′ u′ h k = rw (h (omega arith), k (omega arith))
+
+-- how many words of the first record are sound
+abbrev pub vertexAt : ℕ → ℕ → List ℕ → List ℕ → ℕ
+vertexAt cap types seen ws = goodVertex cap types (not (has (getD ws 0 0) seen)) (getD ws 0 0) (getD ws 1 0) (getD ws 2 0)
+
+module _ (cap types : ℕ) where
+  pub vertex-range : (seen : List ℕ) (k : ℕ) (ws : List ℕ) (at m : ℕ) → vertexWalk vertexSize cap types seen k ws at ≡ BadRecord m → (at ≤ m) × (m < at + 3 * k)
+  unfolding vertexWalk
+  vertex-range seen zero ws at m h = absurd (sound-record h)
+  vertex-range seen (suc k) ws at m h = elim (record-bad 3 at (vertexAt cap types seen ws) m (vertexWalk vertexSize cap types (getD ws 0 0 ∷ seen) k (drop 3 ws) (at + 3)) h) [
+    | inl x ↦ (omega (arith, x .0, x .1), omega (arith, x .0, x .1))
+    | inr x ↦ let r = vertex-range (getD ws 0 0 ∷ seen) k (drop 3 ws) (at + 3) m (x .1) in (omega (arith, r .0), omega (arith, r .1))
+  ]
+
+  pub vertex-no-incidence : (seen : List ℕ) (k : ℕ) (ws : List ℕ) (at m : ℕ) → vertexWalk vertexSize cap types seen k ws at ≡ BadIncidence m → ⊥
+  unfolding vertexWalk
+  vertex-no-incidence seen zero ws at m h = sound-incidence h
+  vertex-no-incidence seen (suc k) ws at m h =
+      vertex-no-incidence (getD ws 0 0 ∷ seen) k (drop 3 ws) (at + 3) m (record-no-incidence 3 at (vertexAt cap types seen ws) m _ h)
+
+  -- the words of a record up to the first bad one decide how many are sound
+  vertex-same : (seen us ws : List ℕ) → ((i : ℕ) → i < 3 → i ≤ vertexAt cap types seen ws → getD us i 0 ≡ getD ws i 0) → vertexAt cap types seen us ≡ vertexAt cap types seen ws
+  unfolding goodVertex
+  vertex-same seen us ws a =
+      rw (a 0 (omega arith) (omega arith))
+      (vertex-cut (within 1 cap (getD ws 0 0) && not (has (getD ws 0 0) seen)) (ltb (getD ws 1 0) types) (ltb (getD ws 2 0) (2 ^ 32)) (ltb (getD us 1 0) types) (ltb (getD us 2 0) (2 ^ 32))
+      (λ h. ap (λ (t : ℕ). ltb t types) (a 1 (omega arith) h)) (λ h. ap (λ (x : ℕ). ltb x (2 ^ 32)) (a 2 (omega arith) h)))
+
+  -- the place of the bad word, in the record or behind it
+  vertex-near : (seen : List ℕ) (k : ℕ) (ws : List ℕ) (at m i : ℕ) → vertexWalk vertexSize cap types seen (suc k) ws at ≡ BadRecord m → i < 3 → i ≤ vertexAt cap types seen ws → at + i ≤ m
+  unfolding vertexWalk
+  vertex-near seen k ws at m i h l g = elim (record-bad 3 at (vertexAt cap types seen ws) m (vertexWalk vertexSize cap types (getD ws 0 0 ∷ seen) k (drop 3 ws) (at + 3)) h) [
+    | inl x ↦ omega (arith, g, x .1)
+    | inr x ↦ omega (arith, vertex-range (getD ws 0 0 ∷ seen) k (drop 3 ws) (at + 3) m (x .1) .0)
+  ]
+
+  pub vertex-prefix : (seen : List ℕ) (k : ℕ) (us ws : List ℕ) (at m : ℕ) → vertexWalk vertexSize cap types seen k ws at ≡ BadRecord m → Upto at m us ws →
+      vertexWalk vertexSize cap types seen k us at ≡ BadRecord m
+  unfolding vertexWalk
+  vertex-prefix seen zero us ws at m h a = h
+  vertex-prefix seen (suc k) us ws at m h a =
+      let e : getD us 0 0 ≡ getD ws 0 0 = a 0 (vertex-near seen k ws at m 0 h (omega arith) (omega arith)) in
+      let f = vertex-same seen us ws (λ i l g. a i (vertex-near seen k ws at m i h l g)) in
+      record-keeps 3 at (vertexAt cap types seen ws) (vertexAt cap types seen us) m _ _ f h
+      (λ l q. rw e (vertex-prefix (getD ws 0 0 ∷ seen) k (drop 3 us) (drop 3 ws) (at + 3) m q (upto-drop 3 at m us ws a)))
+
+-- ---- edge records
+
+abbrev edgeCut : Bool → Bool → Bool → Bool → Bool → Bool → ℕ
+edgeCut p a b z u v = not p ⇒ 0 else not a ⇒ 1 else not b ⇒ 2 else not z ⇒ 3 else not u ⇒ 4 else not v ⇒ 5 else 6
+
+edge-cut : (p a b z u v a′ b′ z′ u′ v′ : Bool) → (1 ≤ edgeCut p a b z u v → a′ ≡ a) → (2 ≤ edgeCut p a b z u v → b′ ≡ b) → (3 ≤ edgeCut p a b z u v → z′ ≡ z) →
+    (4 ≤ edgeCut p a b z u v → u′ ≡ u) → (5 ≤ edgeCut p a b z u v → v′ ≡ v) → edgeCut p a′ b′ z′ u′ v′ ≡ edgeCut p a b z u v
+edge-cut false a b z u v a′ b′ z′ u′ v′ h1 h2 h3 h4 h5 = refl
+edge-cut true false b z u v a′ b′ z′ u′ v′ h1 h2 h3 h4 h5 = rw (h1 (omega arith))
+edge-cut true true false z u v a′ b′ z′ u′ v′ h1 h2 h3 h4 h5 = rw (h1 (omega arith), h2 (omega arith))
+edge-cut true true true false u v a′ b′ z′ u′ v′ h1 h2 h3 h4 h5 = rw (h1 (omega arith), h2 (omega arith), h3 (omega arith))
+edge-cut true true true true false v a′ b′ z′ u′ v′ h1 h2 h3 h4 h5 = rw (h1 (omega arith), h2 (omega arith), h3 (omega arith), h4 (omega arith))
+edge-cut true true true true true false a′ b′ z′ u′ v′ h1 h2 h3 h4 h5 = rw (h1 (omega arith), h2 (omega arith), h3 (omega arith), h4 (omega arith), h5 (omega arith))
+edge-cut true true true true true true a′ b′ z′ u′ v′ h1 h2 h3 h4 h5 = rw (h1 (omega arith), h2 (omega arith), h3 (omega arith), h4 (omega arith), h5 (omega arith))
+
+abbrev pub edgeAt : ℕ → ℕ → List ℕ → List ℕ → List ℕ → ℕ
+edgeAt cap types ns seen ws =
+    goodEdge cap types (not (has (getD ws 0 0) seen)) (has (getD ws 1 0) ns) (has (getD ws 2 0) ns) (getD ws 0 0) (getD ws 3 0) (getD ws 4 0) (getD ws 5 0)
+
+module _ (cap types : ℕ) (ns : List ℕ) where
+  pub edge-range : (seen : List ℕ) (k : ℕ) (ws : List ℕ) (at m : ℕ) → edgeWalk cap types ns seen k ws at ≡ BadRecord m → (at ≤ m) × (m < at + 6 * k)
+  unfolding edgeWalk
+  edge-range seen zero ws at m h = absurd (sound-record h)
+  edge-range seen (suc k) ws at m h = elim (record-bad 6 at (edgeAt cap types ns seen ws) m (edgeWalk cap types ns (getD ws 0 0 ∷ seen) k (drop 6 ws) (at + 6)) h) [
+    | inl x ↦ (omega (arith, x .0, x .1), omega (arith, x .0, x .1))
+    | inr x ↦ let r = edge-range (getD ws 0 0 ∷ seen) k (drop 6 ws) (at + 6) m (x .1) in (omega (arith, r .0), omega (arith, r .1))
+  ]
+
+  pub edge-no-incidence : (seen : List ℕ) (k : ℕ) (ws : List ℕ) (at m : ℕ) → edgeWalk cap types ns seen k ws at ≡ BadIncidence m → ⊥
+  unfolding edgeWalk
+  edge-no-incidence seen zero ws at m h = sound-incidence h
+  edge-no-incidence seen (suc k) ws at m h = edge-no-incidence (getD ws 0 0 ∷ seen) k (drop 6 ws) (at + 6) m (record-no-incidence 6 at (edgeAt cap types ns seen ws) m _ h)
+
+  edge-same : (seen us ws : List ℕ) → ((i : ℕ) → i < 6 → i ≤ edgeAt cap types ns seen ws → getD us i 0 ≡ getD ws i 0) → edgeAt cap types ns seen us ≡ edgeAt cap types ns seen ws
+  unfolding goodEdge
+  edge-same seen us ws a =
+      rw (a 0 (omega arith) (omega arith))
+      (edge-cut (within 1 cap (getD ws 0 0) && not (has (getD ws 0 0) seen)) (has (getD ws 1 0) ns) (has (getD ws 2 0) ns) (ltb (getD ws 3 0) types) (leb (getD ws 4 0) 2) (isReading (getD ws 4 0) (getD ws 5 0))
+      (has (getD us 1 0) ns) (has (getD us 2 0) ns) (ltb (getD us 3 0) types) (leb (getD us 4 0) 2) (isReading (getD us 4 0) (getD us 5 0))
+      (λ h. ap (λ (x : ℕ). has x ns) (a 1 (omega arith) h))
+      (λ h. ap (λ (x : ℕ). has x ns) (a 2 (omega arith) h))
+      (λ h. ap (λ (x : ℕ). ltb x types) (a 3 (omega arith) h))
+      (λ h. ap (λ (x : ℕ). leb x 2) (a 4 (omega arith) h))
+      (λ h. ap (λ (x : ℕ). isReading x (getD us 5 0)) (a 4 (omega arith) (omega (arith, h))) ∙ ap (λ (x : ℕ). isReading (getD ws 4 0) x) (a 5 (omega arith) h)))
+
+  edge-near : (seen : List ℕ) (k : ℕ) (ws : List ℕ) (at m i : ℕ) → edgeWalk cap types ns seen (suc k) ws at ≡ BadRecord m → i < 6 → i ≤ edgeAt cap types ns seen ws → at + i ≤ m
+  unfolding edgeWalk
+  edge-near seen k ws at m i h l g = elim (record-bad 6 at (edgeAt cap types ns seen ws) m (edgeWalk cap types ns (getD ws 0 0 ∷ seen) k (drop 6 ws) (at + 6)) h) [
+    | inl x ↦ omega (arith, g, x .1)
+    | inr x ↦ omega (arith, edge-range (getD ws 0 0 ∷ seen) k (drop 6 ws) (at + 6) m (x .1) .0)
+  ]
+
+  pub edge-prefix : (seen : List ℕ) (k : ℕ) (us ws : List ℕ) (at m : ℕ) → edgeWalk cap types ns seen k ws at ≡ BadRecord m → Upto at m us ws → edgeWalk cap types ns seen k us at ≡ BadRecord m
+  unfolding edgeWalk
+  edge-prefix seen zero us ws at m h a = h
+  edge-prefix seen (suc k) us ws at m h a =
+      let e : getD us 0 0 ≡ getD ws 0 0 = a 0 (edge-near seen k ws at m 0 h (omega arith) (omega arith)) in
+      let f = edge-same seen us ws (λ i l g. a i (edge-near seen k ws at m i h l g)) in
+      record-keeps 6 at (edgeAt cap types ns seen ws) (edgeAt cap types ns seen us) m _ _ f h
+      (λ l q. rw e (edge-prefix (getD ws 0 0 ∷ seen) k (drop 6 us) (drop 6 ws) (at + 6) m q (upto-drop 6 at m us ws a)))
+
+-- ---- lists
+
+good-same : (d : ℕ) (wanted us ws : List ℕ) → length us ≡ length ws → ((i : ℕ) → i < d → i ≤ goodList d wanted ws → getD us i 0 ≡ getD ws i 0) → goodList d wanted us ≡ goodList d wanted ws
+unfolding goodList
+good-same zero wanted us ws e a = refl
+good-same (suc d) wanted [] [] e a = refl
+good-same (suc d) wanted [] (w ∷ ws) e a = absurd (omega arith)
+good-same (suc d) wanted (u ∷ us) [] e a = absurd (omega arith)
+good-same (suc d) wanted (u ∷ us) (w ∷ ws) e a = rw (a 0 (omega arith) (omega arith)) (go (λ k. good-same d (rem wd w wanted) us ws (omega arith) k) (has w wanted) refl)
+  where
+    go : (((i : ℕ) → i < d → i ≤ goodList d (rem wd w wanted) ws → getD us i 0 ≡ getD ws i 0) → goodList d (rem wd w wanted) us ≡ goodList d (rem wd w wanted) ws) →
+        (t : Bool) → has w wanted ≡ t → _≡_ {A = ℕ} (t ⇒ suc (goodList d (rem wd w wanted) us) else 0) (t ⇒ suc (goodList d (rem wd w wanted) ws) else 0)
+    go ih true f = ap suc (ih (λ i l g. a (suc i) (omega arith) (rw f (omega arith))))
+    go ih false f = refl
+
+pub list-from : (es : List Edge) (ns ws : List ℕ) (at m : ℕ) → listWalk es ns ws at ≡ BadIncidence m → at ≤ m
+unfolding listWalk
+list-from es [] [] at m h = absurd (sound-incidence h)
+list-from es [] (w ∷ ws) at m h = omega (arith, incidence-offset h)
+list-from es (n ∷ ns) ws at m h =
+    let wanted = wordsAt es n in
+    let d = length wanted in
+    elim (list-bad d at (goodList d wanted ws) m (listWalk es ns (drop d ws) (at + d)) h) [
+      | inl x ↦ omega (arith, x .1)
+      | inr x ↦ omega (arith, list-from es ns (drop d ws) (at + d) m (x .1))
+    ]
+
+pub list-no-bad-record : (es : List Edge) (ns ws : List ℕ) (at m : ℕ) → listWalk es ns ws at ≡ BadRecord m → ⊥
+unfolding listWalk
+list-no-bad-record es [] [] at m h = sound-record h
+list-no-bad-record es [] (w ∷ ws) at m h = record-incidence (sym h)
+list-no-bad-record es (n ∷ ns) ws at m h =
+    let d = length (wordsAt es n) in
+    list-no-bad-record es ns (drop d ws) (at + d) m (list-no-record d at (goodList d (wordsAt es n) ws) m _ h)
+
+pub list-prefix : (es : List Edge) (ns us ws : List ℕ) (at m : ℕ) → length us ≡ length ws → listWalk es ns ws at ≡ BadIncidence m → Upto at m us ws → listWalk es ns us at ≡ BadIncidence m
+unfolding listWalk
+list-prefix es [] [] [] at m e h a = h
+list-prefix es [] [] (w ∷ ws) at m e h a = absurd (omega arith)
+list-prefix es [] (u ∷ us) [] at m e h a = absurd (omega arith)
+list-prefix es [] (u ∷ us) (w ∷ ws) at m e h a = h
+list-prefix es (n ∷ ns) us ws at m e h a =
+    let wanted = wordsAt es n in
+    let d = length wanted in
+    let near : (i : ℕ) → i < d → i ≤ goodList d wanted ws → at + i ≤ m = λ i l g. elim (list-bad d at (goodList d wanted ws) m (listWalk es ns (drop d ws) (at + d)) h) [
+      | inl x ↦ omega (arith, g, x .1)
+      | inr x ↦ omega (arith, list-from es ns (drop d ws) (at + d) m (x .1))
+    ]
+    in
+    list-keeps d at (goodList d wanted ws) (goodList d wanted us) m _ _ (good-same d wanted us ws e (λ i l g. a i (near i l g))) h
+    (λ l q. list-prefix es ns (drop d us) (drop d ws) (at + d) m (omega (arith, length-drop d us, length-drop d ws)) q (upto-drop d at m us ws a))

@@ -1,0 +1,43 @@
+-- `image::part_bound` meets its contract.
+use mathlib.Core.Path.{_≡_, sym, ap, _∙_}
+use Prim.Native.Nat.{ℕ, _+_}
+use native.Mathlib.Omega.{arith}
+use borrow.Author.Needs.{needs}
+use borrow.Author.Tests.{not-true, not-false}
+use lib.ListN.{getD}
+use Rattle.image.specs.Parts.{partBound}
+use Rattle.image.proofs.part_bound.Statement.{statement}
+use Rattle.image.proofs.part_bound.Tie as tie
+
+has-part-requires : tie.Need-has-part-requires
+has-part-requires c κs = search needs
+
+returns : tie.Need-returns
+unfolding partBound
+returns c = (rw (sym (c .before .has-part .ensures) ∙ not-true (c .before .has-part .result) (c .if1 .taken)), search needs)
+
+wide-requires : tie.Need-wide-requires
+wide-requires c κs = search needs
+
+wide-requires-2 : tie.Need-wide-requires-2
+wide-requires-2 c κs = search needs
+
+add-word : tie.Need-add-word
+add-word c = search needs
+
+word-requires : tie.Need-word-requires
+word-requires c κs = search needs
+
+returns-2 : tie.Need-returns-2
+unfolding partBound
+returns-2 c =
+    let d = c .before .before .before in
+    let a = d .before .before .before .args in
+    let e : c .before .before .wide .result + c .before .wide2 .result ≡ a .which + a .next = omega arith in (
+      rw (sym (d .before .has-part .ensures) ∙ not-false (d .before .has-part .result) (d .if1 .left)) (c .word .ensures .0 ∙ ap (λ (i : ℕ). getD (a .words .now) i 0) e),
+      c .word .ensures .1,
+    )
+
+pub part-bound-spec : {M : Type 1} → statement M
+part-bound-spec =
+    tie.close (tie.spec has-part-requires returns wide-requires wide-requires-2 add-word word-requires returns-2)
