@@ -18,3 +18,4 @@ pub mod Lowest
 pub mod OnWords
 pub mod RuleLaws
 pub mod StepsAlter
+pub mod Demands

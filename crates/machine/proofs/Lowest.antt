@@ -37,7 +37,7 @@ list-codes l = refl
 -- ---- any table of codes from 1 on
 
 module _ (k : ℕ) where
-  lowest-to : (rs : List Row) → lowest rs ≡ suc k → Lowest (suc k) rs
+  pub lowest-to : (rs : List Row) → lowest rs ≡ suc k → Lowest (suc k) rs
   lowest-to [] e = absurd (omega arith)
   lowest-to (r ∷ rs) e = go (λ i. lowest-to rs i) (r .applies) refl e
     where
@@ -45,11 +45,11 @@ module _ (k : ℕ) where
       go ih true f i = found f i
       go ih false f i = later f (ih i)
 
-  lowest-from : {rs : List Row} → Lowest (suc k) rs → lowest rs ≡ suc k
+  pub lowest-from : {rs : List Row} → Lowest (suc k) rs → lowest rs ≡ suc k
   lowest-from (found f e) = rw f e
   lowest-from (later f h) = rw f (lowest-from h)
 
-none-to : (rs : List Row) → Coded rs → lowest rs ≡ 0 → NoneApplies rs
+pub none-to : (rs : List Row) → Coded rs → lowest rs ≡ 0 → NoneApplies rs
 none-to [] done e = none
 none-to (r ∷ rs) (more c cs) e = go (λ i. none-to rs cs i) (r .applies) refl e
   where
@@ -57,17 +57,17 @@ none-to (r ∷ rs) (more c cs) e = go (λ i. none-to rs cs i) (r .applies) refl 
     go ih true f i = absurd (omega arith)
     go ih false f i = passed f (ih i)
 
-none-from : {rs : List Row} → NoneApplies rs → lowest rs ≡ 0
+pub none-from : {rs : List Row} → NoneApplies rs → lowest rs ≡ 0
 none-from none = refl
 none-from (passed f h) = rw f (none-from h)
 
 -- ---- the table of a call
 
-module _ (w : Parameters) (m : Machine) (c : Command) where
-  coded : Coded (codeTable w m (callOf c))
-  unfolding codeTable
-  coded = all-bool (λ (r : Row). leb 1 (r .code)) (λ r e. leb-true 1 (r .code) e) (codeTable w m (callOf c)) refl
+pub coded : (w : Parameters) (m : Machine) (x : Call) → Coded (codeTable w m x)
+unfolding codeTable
+coded w m x = all-bool (λ (r : Row). leb 1 (r .code)) (λ r e. leb-true 1 (r .code) e) (codeTable w m x) refl
 
+module _ (w : Parameters) (m : Machine) (c : Command) where
   -- a code is given exactly where its row applies and no row before it does
   pub code-given : (k : ℕ) → (refusal w m c ≡ suc k) ↔ Lowest (suc k) (codeTable w m (callOf c))
   unfolding refusal
@@ -76,7 +76,7 @@ module _ (w : Parameters) (m : Machine) (c : Command) where
   -- a call is accepted exactly where no row applies
   pub none-given : (refusal w m c ≡ 0) ↔ NoneApplies (codeTable w m (callOf c))
   unfolding refusal
-  none-given = (none-to (codeTable w m (callOf c)) coded, none-from)
+  none-given = (none-to (codeTable w m (callOf c)) (coded w m (callOf c)), none-from)
 
 -- what row 10 says
 pub no-room : (w : Parameters) (m : Machine) (x : Call) → (noRoom (w .changes) m x ≡ true) ↔ ((isChange (x .kind) ≡ true) × (free w m < cost (changeOf x) (present m)) × (alters (changeOf x) (present m) ≡ true))

@@ -6,4 +6,5 @@ pub mod Machine
 pub mod Marks
 pub mod Run
 pub mod Demand
+pub mod Demands
 pub mod Seven

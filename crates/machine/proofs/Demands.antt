@@ -1,0 +1,80 @@
+-- Every list meets demands 1 and 2.
+use Prim.Native.Nat.{ℕ, suc}
+use mathlib.Core.Path.{_≡_, refl, sym, ap, _∙_}
+use mathlib.Core.Bool.{true}
+use mathlib.Core.List.{List, [], _∷_}
+use native.Mathlib.Omega.{arith}
+use borrow.Author.Tests.{eq-eqb, ne-eqb}
+use Rattle.lists.specs.Choice.{_==_}
+use Rattle.image.proofs.Loads.{saved-same, loads}
+use Rattle.history.specs.Machine.{Machine, present}
+use Rattle.commands.specs.declared.Command.{Command}
+use Rattle.commands.specs.Calls.{Call, callsOf}
+use Rattle.commands.specs.Commands.{commandOf}
+use Rattle.commands.specs.Tables.{NoneApplies}
+use Rattle.machine.specs.Calls.{Parameters, boundsIn}
+use Rattle.machine.specs.Codes.{codeTable, refusal}
+use Rattle.machine.specs.Machine.{Answer, deedOf, answerTo, answer, answers, step, last}
+use Rattle.machine.specs.Run.{Lent, parametersOf, listTable, listRefusal, refused, run}
+use Rattle.machine.specs.Demand.{begins, after}
+use Rattle.machine.specs.Demands.{Each, ByTable, Demand1, OfTheGraph, Demand2}
+use Rattle.machine.proofs.Accepts.{refused-step}
+use Rattle.machine.proofs.Graphs.{end-formed}
+use Rattle.machine.proofs.ListRows.{passed, start-formed}
+use Rattle.machine.proofs.Lowest.{lowest-to, lowest-from, none-to, none-from, coded, list-code-given}
+use Rattle.machine.proofs.OnWords.{on-words}
+use Rattle.machine.proofs.Whole.{demand-3}
+
+-- ---- one call
+
+module _ (w : Parameters) (m : Machine) (x : Call) where
+  by-table : ByTable w m x (answer w m x)
+  unfolding answerTo
+  by-table = record {
+    refused-by = λ k. (λ e. lowest-to k (codeTable w m x) (on-words w m x ∙ e), λ h. sym (on-words w m x) ∙ lowest-from k h);
+    accepted = (λ e. none-to (codeTable w m x) (coded w m x) (on-words w m x ∙ e), λ h. sym (on-words w m x) ∙ none-from h);
+    number = λ n. rw (ne-eqb (refusal w m (commandOf x)) 0 n);
+    leaves = λ n. refused-step w m (commandOf x) (ne-eqb (refusal w m (commandOf x)) 0 n);
+  }
+
+  number-of : (c : Command) → commandOf x ≡ c → answer w m x .code ≡ 0 → answer w m x .number ≡ deedOf w c m .number
+  unfolding answerTo
+  number-of c e z = let t : (refusal w m (commandOf x) == 0) ≡ true = eq-eqb _ 0 z in rw t (ap (λ (d : Command). deedOf w d m .number) e)
+
+  of-the-graph : OfTheGraph w m x (answer w m x)
+  of-the-graph = record { question = λ q e z. number-of _ e z; price = λ p e z. number-of _ e z }
+
+each : (P : Machine → Call → Answer → Type 0) (w : Parameters) → ((m : Machine) (x : Call) → P m x (answer w m x)) → (m : Machine) (xs : List Call) → Each P w m xs (answers w m xs)
+unfolding answers
+each P w f m [] = tt
+each P w f m (x ∷ xs) = (f m x, each P w f (step w m x) xs)
+
+-- ---- a list
+
+not-refused : (l : Lent) → NoneApplies (listTable l) → listRefusal l ≡ 0
+unfolding listRefusal
+not-refused l h = none-from {rs = listTable l} h
+
+refused-is : (l : Lent) (k : ℕ) → listRefusal l ≡ suc k → run l ≡ refused (suc k) l
+unfolding run
+refused-is l k e = rw (e, ne-eqb (suc k) 0 (omega arith))
+
+pub demand-1 : (l : Lent) (tables-stay : Type 0) → ((listRefusal l ≡ 0 → ⊥) → tables-stay) → Demand1 l (run l) tables-stay
+demand-1 l T f = record {
+  refusal = λ k h. let e = list-code-given l k .1 h in (refused-is l k e, f (λ z. omega (arith, e, z)));
+  answered = λ h.
+      let d = demand-3 l (not-refused l h) in
+      (d .code, d .done, (answers (parametersOf l) (begins l) (callsOf (l .calls)), d .answered, each (ByTable (parametersOf l)) (parametersOf l) (by-table (parametersOf l)) (begins l) (callsOf (l .calls))));
+}
+
+pub demand-2 : (l : Lent) → Demand2 l (run l)
+demand-2 l = record {
+  answered = λ h.
+      (answers (parametersOf l) (begins l) (callsOf (l .calls)), demand-3 l (not-refused l h) .answered, each (OfTheGraph (parametersOf l)) (parametersOf l) (of-the-graph (parametersOf l)) (begins l) (callsOf (l .calls)));
+  loads = loads (boundsIn (parametersOf l));
+  same = saved-same (boundsIn (parametersOf l));
+  ends = λ h f.
+      let e = not-refused l h in
+      let g = end-formed (parametersOf l) _ (callsOf (l .calls)) (start-formed l e) f in
+      (demand-3 l e .saved, loads (boundsIn (parametersOf l)) _ .1 (_, g, refl), saved-same (boundsIn (parametersOf l)) _ g);
+}
