@@ -22,7 +22,8 @@ class Picture:
         ]
 
     def text(self, x, y, words, anchor="middle", colour=INK, size=14):
-        self.parts.append(f'<text x="{x}" y="{y}" text-anchor="{anchor}" fill="{colour}" font-size="{size}">{words}</text>')
+        look = f'text-anchor="{anchor}" fill="{colour}" font-size="{size}"'
+        self.parts.append(f'<text x="{x}" y="{y}" {look}>{words}</text>')
 
     def circle(self, x, y, r, colour=INK, fill="#fff"):
         self.parts.append(f'<circle cx="{x}" cy="{y}" r="{r}" fill="{fill}" stroke="{colour}" stroke-width="1.5"/>')
@@ -32,7 +33,8 @@ class Picture:
         self.parts.append(f'<path d="{d}" fill="none" stroke="{colour}" stroke-width="1.5"{end}/>')
 
     def box(self, x, y, words, colour=INK):
-        self.parts.append(f'<rect x="{x}" y="{y}" width="34" height="26" fill="#fff" stroke="{colour}" stroke-width="1.5"/>')
+        look = f'fill="#fff" stroke="{colour}" stroke-width="1.5"'
+        self.parts.append(f'<rect x="{x}" y="{y}" width="34" height="26" {look}/>')
         self.text(x + 17, y + 18, words, colour=colour)
 
     def chain(self, x, y, label, items):
