@@ -510,7 +510,9 @@ static inline void step(struct store *s, const u32 *call, u32 *answer) {
         u32 there = one_way(s, a, b), back = one_way(s, b, a);
         if (!there || !back) REFUSE(16);
         u32 range = (there < back ? there : back) - 1;
-        ANSWER(call[0] == 53 ? range : range / 250);
+        if (call[0] == 53) ANSWER(range);
+        if (c > 2) REFUSE(17);
+        ANSWER(c == 2 ? range / 200 : range / 250);
     }
     default: REFUSE(1);
     }

@@ -34,7 +34,7 @@ extern "C" {
 #endif
 
 /* What a caller sees; raised with every change to it (docs/CHANGES.md). */
-#define FUTTOCKFIG_VERSION 5
+#define FUTTOCKFIG_VERSION 6
 
 /* Words a row in each table, and the most rows that a table may have. The fewest is 1. */
 #define FUTTOCKFIG_VERTEX_WORDS 8
@@ -109,8 +109,10 @@ enum futtockfig_kind {
     FUTTOCKFIG_RANGE = 53,             /* a, b vertices; the smaller of both ways. The way from a to b is what is heard on the
                                           last edge that is tested (kind 1 or 2) and goes out to b, in the order of
                                           a's list; a may equal b */
-    FUTTOCKFIG_GRADE = 54              /* a, b vertices; that range's grade, 0 to 39: the last of the limits 0, 250, 500, ..
-                                          9,750 that is not above the range, counted from 0 */
+    FUTTOCKFIG_GRADE = 54              /* a, b vertices, c price list: 0 and 1 the old, 2 the new; the grade of that range.
+                                          Limits of the old list: 0, 250, 500, .. 9,750 (grades 0 to 39); of the new:
+                                          0, 200, 400, .. 9,800 (0 to 49). The grade is the last of them that is not
+                                          above the range, counted from 0 */
 };
 
 /* Codes. Where several apply, the lowest is given. */
@@ -133,6 +135,7 @@ enum futtockfig_code {
     FUTTOCKFIG_NO_STEP = 14,           /* nothing to undo or redo */
     FUTTOCKFIG_BAD_SIDE = 15,          /* kind 45: c above 2 */
     FUTTOCKFIG_NOTHING_HEARD = 16,     /* kinds 53, 54: a way's last tested edge is silent, or it has none */
+    FUTTOCKFIG_BAD_PRICE_LIST = 17,    /* kind 54: c above 2 */
     /* Of the whole list. Nothing is run and nothing is written, tables included. */
     FUTTOCKFIG_BAD_CALLS = 101,        /* calls_len is not a multiple of 5 */
     FUTTOCKFIG_SHORT_ANSWERS = 102,    /* answers_len is under 2 a call */

@@ -35,7 +35,7 @@ use core::ops::Range;
 use raw::{futtockfig_part, futtockfig_run};
 
 /// The version of what a caller sees, that of `include/futtockfig.h`.
-pub const VERSION: u32 = 5;
+pub const VERSION: u32 = 6;
 
 /// Kind, a, b, c, d.
 pub type Call = [u32; 5];

@@ -48,6 +48,13 @@ fn delete_and_undo() {
 }
 
 #[test]
+fn grades_by_both_price_lists() {
+    let grade = |list| [kind::GRADE, 1, 1, list, 0];
+    let calls = [[kind::SET_READING, 1, 2, 400, 0], grade(0), grade(1), grade(2), grade(3)].concat();
+    with(&calls, &seven(), |done| assert!(answers(done.unwrap().answers).eq([Ok(1), Ok(1), Ok(1), Ok(2), Err(17)])));
+}
+
+#[test]
 fn lists_refused() {
     with(&[0; 6], &EMPTY, |done| assert_eq!(done, Err(Refused::Calls)));
     with(&[], &[0, 0, 6, 6, 6, 7], |done| assert_eq!(done, Err(Refused::Start)));

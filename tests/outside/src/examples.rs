@@ -71,7 +71,7 @@ fn then_walk(name: &'static str, before: &[(Call, (u32, u32))], vertex: u32, lis
     e
 }
 
-/// The rows of the table for single calls, codes 1 to 16.
+/// The rows of the table for single calls, codes 1 to 17.
 pub fn codes() -> Vec<Example> {
     // Fifteen changes of cost 1 leave 5 free: deleting vertex 1 costs 6.
     let mut fifteen = vec![[7, 1, 0, 0, 0]; 15];
@@ -95,6 +95,7 @@ pub fn codes() -> Vec<Example> {
         example("code 14", &[[19, 0, 0, 0, 0]], &[(14, 0)]),
         example("code 15", &[[45, 1, 0, 3, 0]], &[(15, 0)]),
         example("code 16", &[[53, 1, 2, 0, 0]], &[(16, 0)]),
+        example("code 17", &[[8, 1, 2, 0, 0], [54, 1, 1, 3, 0]], &[(0, 1), (17, 0)]),
     ]
 }
 
@@ -158,10 +159,10 @@ pub fn slips() -> Vec<Example> {
     ]
 }
 
-/// Every range, on a loop, and its grade.
+/// Every range, on a loop, and its grade by each price list.
 pub fn every_grade() -> Case {
     let mut calls = vec![[1, 1, 0, 0, 0], [3, 1, 1, 1, 0]];
-    calls.extend((0..10_000).flat_map(|d| [[8, 1, 2, d, 0], [54, 1, 1, 0, 0]]));
+    calls.extend((0..10_000).flat_map(|d| [[8, 1, 2, d, 0], [54, 1, 1, 0, 0], [54, 1, 1, 1, 0], [54, 1, 1, 2, 0]]));
     Case::new(Capacities { vertices: 1, edges: 1, changes: 20_000 }, &[0], &calls)
 }
 
@@ -190,7 +191,7 @@ mod tests {
 
     #[test]
     fn every_code_of_a_call() {
-        assert_eq!(codes().len(), 16);
+        assert_eq!(codes().len(), 17);
         for e in codes() {
             assert_eq!(answers(&e.case()), e.answers, "{}", e.name);
         }
@@ -220,8 +221,8 @@ mod tests {
 
     #[test]
     fn every_range_has_its_grade() {
-        let grades: Vec<(u32, u32)> = answers(&every_grade()).into_iter().skip(3).step_by(2).collect();
-        assert_eq!(grades, (0..10_000).map(|d| (0, d / 250)).collect::<Vec<_>>());
+        let grades: Vec<_> = answers(&every_grade())[2..].chunks(4).map(|a| [a[1], a[2], a[3]]).collect();
+        assert_eq!(grades, (0..10_000).map(|d| [(0, d / 250), (0, d / 250), (0, d / 200)]).collect::<Vec<_>>());
     }
 
     #[test]

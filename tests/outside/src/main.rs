@@ -108,7 +108,7 @@ impl Reached {
     /// Kinds never accepted, changes that never altered nothing, and codes never given.
     fn missing(&self) -> Vec<String> {
         let kinds = (0..100).filter(|k| is_kind(*k) && !self.kinds.contains_key(k)).map(|k| format!("kind {k}"));
-        let codes = (1..=16).chain(101..=106).filter(|c| !self.codes.contains_key(c)).map(|c| format!("code {c}"));
+        let codes = (1..=17).chain(101..=106).filter(|c| !self.codes.contains_key(c)).map(|c| format!("code {c}"));
         let idle = (5..=16).filter(|k| !self.idle.contains_key(k)).map(|k| format!("kind {k} that alters nothing"));
         kinds.chain(codes).chain(idle).collect()
     }
