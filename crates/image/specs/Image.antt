@@ -73,7 +73,7 @@ edgePart ws = take (edgeSize * edgeCount ws) (drop (edgeOffset (vertexCount ws))
 abbrev pub incidencePart : List ℕ → List ℕ
 incidencePart ws = drop (incidenceOffset (vertexCount ws) (edgeCount ws)) ws
 
--- part 1, 2 or 3 of words with a sound header; any other part is empty (Parts: where it lies in the caller's words)
+-- the three parts by number, where the header is sound; every other part is empty (Parts: where each lies)
 unfoldable pub part : ℕ → List ℕ → List ℕ
 unfolding soundHeader
 part k ws =

@@ -85,7 +85,7 @@ impl Reached {
     fn add(&mut self, case: &Case, outcome: &Outcome) {
         self.lists += 1;
         match outcome {
-            Outcome::Refused(code) => *self.codes.entry(*code).or_default() += 1,
+            Outcome::Refused(code, _) => *self.codes.entry(*code).or_default() += 1,
             Outcome::Done { answers, .. } => {
                 for (call, answer) in case.calls.chunks(5).zip(answers.chunks(2)) {
                     self.calls += 1;
@@ -103,7 +103,7 @@ impl Reached {
     /// Kinds never accepted and codes never given.
     fn missing(&self) -> Vec<String> {
         let kinds = (0..100).filter(|k| is_kind(*k) && !self.kinds.contains_key(k)).map(|k| format!("kind {k}"));
-        let codes = (1..=16).chain(101..=106).filter(|c| !self.codes.contains_key(c)).map(|c| format!("code {c}"));
+        let codes = (1..=16).chain(101..=106).chain(108..=109).filter(|c| !self.codes.contains_key(c)).map(|c| format!("code {c}"));
         kinds.chain(codes).collect()
     }
 
@@ -283,8 +283,8 @@ mod compare {
                 fail(format!("example {}: {message}", e.name));
             }
         }
-        for (code, case) in examples::list_codes() {
-            if let Err(message) = engine::compare(&case, &Outcome::Refused(code), 1) {
+        for (code, number, case) in examples::list_codes() {
+            if let Err(message) = engine::compare(&case, &Outcome::Refused(code, number), 1) {
                 fail(format!("example of code {code}: {message}"));
             }
         }
