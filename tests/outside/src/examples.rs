@@ -100,16 +100,27 @@ pub fn codes() -> Vec<Example> {
 }
 
 /// The rows of the table for whole lists: 101 to 106.
-pub fn list_codes() -> Vec<(u32, Case)> {
+pub fn list_codes() -> Vec<(u32, usize, Case)> {
     let seven = || Example { name: "", calls: vec![[30, 0, 0, 0, 0]], answers: vec![] }.case();
-    let mut cases = vec![(101, seven()), (102, seven()), (103, seven()), (104, seven()), (105, seven()), (106, seven())];
-    cases[0].1.calls.push(0);
-    cases[1].1.answers = 1;
-    cases[2].1.vertices = 7;
-    cases[3].1.rows.clear();
-    cases[4].1.start = vec![0, 0, 6, 6, 6, 7];
-    cases[5].1.image = 115;
-    cases
+    let with = |code, number, change: &dyn Fn(&mut Case)| {
+        let mut case = seven();
+        change(&mut case);
+        (code, number, case)
+    };
+    vec![
+        with(101, 0, &|c| c.calls.push(0)),
+        with(102, 0, &|c| c.answers = 1),
+        with(103, 0, &|c| c.vertices = 7),
+        with(104, 0, &|c| c.rows.clear()),
+        with(105, 0, &|c| c.start = vec![0, 0, 6, 6, 6, 7]),
+        // The second of two equal numbers; the second end; a reading kind; a word twice; a word of another vertex.
+        with(108, 9, &|c| c.start[9] = 1),
+        with(108, 20, &|c| c.start[20] = 5),
+        with(108, 22, &|c| c.start[22] = 3),
+        with(109, 61, &|c| c.start[61] = 2),
+        with(109, 73, &|c| c.start[73] = 3),
+        with(106, 0, &|c| c.image = 115),
+    ]
 }
 
 /// Cases A to L.
@@ -178,7 +189,7 @@ mod tests {
     fn answers(case: &Case) -> Vec<(u32, u32)> {
         match case.run() {
             Outcome::Done { answers, .. } => answers.chunks(2).map(|a| (a[0], a[1])).collect(),
-            Outcome::Refused(code) => panic!("refused {code}"),
+            Outcome::Refused(code, _) => panic!("refused {code}"),
         }
     }
 
@@ -199,8 +210,8 @@ mod tests {
 
     #[test]
     fn every_code_of_a_list() {
-        for (code, case) in list_codes() {
-            assert_eq!(case.run(), Outcome::Refused(code));
+        for (code, number, case) in list_codes() {
+            assert_eq!(case.run(), Outcome::Refused(code, number));
         }
     }
 
