@@ -1,4 +1,3 @@
-pub mod Stores
 pub mod Walks
 pub mod Pieces
 pub mod Numbers

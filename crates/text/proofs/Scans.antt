@@ -9,7 +9,8 @@ use borrow.Author.Tests.{leb-true, eqb-true, ne-eqb}
 use Rattle.lists.specs.Choice.{_⇒_else_, _==_}
 use Rattle.lists.specs.Lists.{all, done, more}
 use Rattle.lists.proofs.Bools.{ft, and-true}
-use Rattle.text.specs.Reading.{digit, pieces, valueOf, goodNumber, goodLine, lineCount, firstBad, wordsIn}
+use Rattle.decimal.specs.Decimal.{valueOf}
+use Rattle.text.specs.Reading.{digit, pieces, goodNumber, goodLine, lineCount, firstBad, wordsIn}
 use Rattle.text.specs.declared.reading.Number.{Number}
 use Rattle.text.specs.declared.reading.Number.the-variants.{Empty}
 use Rattle.text.specs.declared.reading.Line.{Line}

@@ -4,7 +4,10 @@ ghost use mathlib.Core.List.{[], _∷_};
 ghost use Prim.Native.Nat.{_+_, _*_, _≤_};
 ghost use lib.ListN.{length};
 ghost use Rattle.lists.specs.Lists.{each, over};
-ghost use Rattle.text.specs.Writing.{Stored, digits, spaced, lineOf, answerLine, answerLines, writeText, unreadableText};
+ghost use Rattle.decimal.specs.Stored.{Stored};
+ghost use Rattle.decimal.specs.Decimal.{digits};
+ghost use Rattle.text.specs.Writing.{spaced, lineOf, answerLine, answerLines, writeText, unreadableText};
+use decimal::bytes;
 
 fn digits(out: &mut [u8], at: usize, n: u32) -> usize
     requires { ⌜ at + length (digits 10 n) ≤ length (now out) ⌝ }
@@ -25,18 +28,6 @@ fn spaced(out: &mut [u8], at: usize, n: u32) -> usize
 {
     out[at] = 32;
     digits(out, at + 1, n)
-}
-
-fn bytes(out: &mut [u8], at: usize, word: &[u8]) -> usize
-    requires { ⌜ at + length (now word) ≤ length (now out) ⌝ }
-    ensures { λ r. ⌜ Stored (now (word .entry)) at (now (out .entry)) (now (out .exit)) r ⌝ }
-{
-    let mut i = 0;
-    while i < word.len() {
-        out[at + i] = word[i];
-        i += 1;
-    }
-    at + i
 }
 
 // A word and one number.

@@ -1,13 +1,17 @@
 -- Stores one after another.
-use Prim.Native.Nat.{ℕ, _+_, _≤_}
-use mathlib.Core.Path.{_≡_, refl, ap, _∙_, subst}
+use Prim.Native.Nat.{ℕ, _+_, _≤_, _<_}
+use mathlib.Core.Path.{_≡_, refl, sym, ap, _∙_, subst}
 use mathlib.Core.List.{List, [], _∷_, _++_}
 use native.Mathlib.Omega.{arith}
-use lib.ListN.{length, set, length-append}
-use lib.Seq.{sets}
+use native.Mathlib.Numerals.{add-one}
+use lib.ListN.{length, set, getD, drop, length-append}
+use lib.Seq.{sets, drop-cons}
 use Rattle.lists.specs.Lists.{over}
-use Rattle.text.specs.Writing.{Stored}
+use Rattle.decimal.specs.Stored.{Stored}
 use Rattle.lists.proofs.Stores.{sets-append, sets-over}
+
+pub one-drop : (xs : List ℕ) (i : ℕ) → i < length xs → drop i xs ≡ getD xs i 0 ∷ drop (i + 1) xs
+one-drop xs i h = drop-cons xs i 0 h ∙ ap (λ (j : ℕ). getD xs i 0 ∷ drop j xs) (sym (add-one i))
 
 -- what is left to write after xs, as one list of stores
 pub then : (l l′ xs ys zs : List ℕ) (at at′ : ℕ) → l′ ≡ sets l at xs → at′ ≡ at + length xs → xs ++ ys ≡ zs → sets l′ at′ ys ≡ sets l at zs

@@ -1,0 +1,11 @@
+-- What a function that writes a text into a slice says of it.
+use Prim.Native.Nat.{ℕ, _+_}
+use mathlib.Core.Path.{_≡_}
+use mathlib.Core.List.{List}
+use lib.ListN.{length}
+use lib.Seq.{sets}
+
+-- a text was stored at a place of a slice, and the place behind it is told
+pub record Stored (text : List ℕ) (at : ℕ) (out last : List ℕ) (next : ℕ) : Type 0 where
+  pub place : next ≡ at + length text
+  pub stores : last ≡ sets out at text
