@@ -1,4 +1,4 @@
-/* Document 01's Seven through the C header: answers, image and parts are compared with what the document says. */
+/* Document 01's Seven through the C header: answers, image, parts and page are compared with what the document says. */
 #include "../../include/futtockfig.h"
 
 #include <stdio.h>
@@ -93,6 +93,26 @@ int main(void) {
         if (span.len) expect("offset of part", part, span.offset, parts[part][0]);
         expect("length of part, one word short,", part, futtockfig_part(image, r.words - 1, part).len, 0);
     }
-    if (!wrong) printf("seven: %d calls through the C header, as document 01 says\n", CALLS);
+
+    /* The page of the image: each edge in a row, and a byte behind the rows that stays. */
+    static const char rows_of_seven[] =
+        "   1    1    1  0      -\n   2    1    2  0      -\n   3    1    2  0      -\n   4    2    1  0      -\n"
+        "   5    4    1  0      -\n   6    4    2  0      -\n   7    4    4  0      -\n";
+    enum { ROWS = 7 * FUTTOCKFIG_PAGE_ROW };
+    uint8_t page[ROWS + 1];
+    memset(page, '#', sizeof page);
+    struct futtockfig_page_result p = futtockfig_page(image, r.words - 1, page, 0);
+    expect("code of a page, one word short,", 0, p.code, FUTTOCKFIG_BAD_START);
+    p = futtockfig_page(image, r.words, page, ROWS - 1);
+    expect("code of a page, one byte short,", 0, p.code, FUTTOCKFIG_SHORT_PAGE);
+    expect("bytes of a page, one byte short,", 0, p.bytes, 0);
+    for (size_t i = 0; i < sizeof page; i++) expect("page byte", i, page[i], '#');
+    p = futtockfig_page(image, r.words, page, sizeof page);
+    expect("code of a page", 0, p.code, FUTTOCKFIG_OK);
+    expect("bytes of a page", 0, p.bytes, ROWS);
+    for (size_t i = 0; i < ROWS; i++) expect("page byte", i, page[i], (uint8_t)rows_of_seven[i]);
+    expect("page byte beyond", ROWS, page[ROWS], '#');
+
+    if (!wrong) printf("seven: %d calls and a page through the C header, as document 01 says\n", CALLS);
     return wrong;
 }

@@ -1,6 +1,6 @@
 //! Document 01's examples through the safe functions.
 
-use futtockfig::{answers, image_words, kind, part, run, Done, Lent, Part, Refused, EMPTY};
+use futtockfig::{answers, image_words, kind, page, part, run, Done, Lent, Part, Refused, EMPTY, PAGE_ROW};
 
 /// Runs calls with capacities 10, 10, 20 and one type, in lent words that are full of junk.
 fn with<T>(calls: &[u32], start: &[u32], then: impl FnOnce(Result<Done, Refused>) -> T) -> T {
@@ -47,7 +47,7 @@ fn delete_and_undo() {
 fn lists_refused() {
     with(&[0; 6], &EMPTY, |done| assert_eq!(done, Err(Refused::Calls)));
     with(&[], &[0, 0, 6, 6, 6, 7], |done| assert_eq!(done, Err(Refused::Start)));
-    with(&[], &[], |done| assert_eq!(done.unwrap_err().to_string(), "list refused, code 105: the start is not an image within capacities and types"));
+    with(&[], &[], |done| assert_eq!(done.unwrap_err().to_string(), "refused, code 105: the words are not an image within capacities and types"));
     with(&[], &EMPTY, |done| assert_eq!(done, Ok(Done { answers: &[], image: &EMPTY })));
 }
 
@@ -56,4 +56,22 @@ fn empty_slices() {
     let lent = || Lent { vertices: &mut [], edges: &mut [], journal: &mut [], answers: &mut [], image: &mut [] };
     assert_eq!(run(&[], &[], &[], lent()), Err(Refused::Capacity));
     assert_eq!(run(&[], &[], &[1, 1, 0, 0, 0], lent()), Err(Refused::Answers));
+}
+
+#[test]
+fn pages() {
+    let image = seven();
+    let mut bytes = [b'#'; 7 * PAGE_ROW + 2];
+    let rows = page(&image, &mut bytes).unwrap();
+    assert_eq!(rows.len(), 7 * PAGE_ROW);
+    assert!(rows.starts_with(b"   1    1    1  0      -\n   2    1    2  0      -\n"));
+    assert!(rows.ends_with(b"   7    4    4  0      -\n"));
+    assert_eq!(bytes[7 * PAGE_ROW..], *b"##");
+
+    let mut short = [b'#'; 7 * PAGE_ROW - 1];
+    assert_eq!(page(&image, &mut short), Err(Refused::Page));
+    assert_eq!(page(&image[1..], &mut short), Err(Refused::Start));
+    assert_eq!(short, [b'#'; 7 * PAGE_ROW - 1]);
+    assert_eq!(page(&[], &mut []), Err(Refused::Start));
+    assert_eq!(page(&EMPTY, &mut []), Ok([].as_slice()));
 }
