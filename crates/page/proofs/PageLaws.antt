@@ -15,8 +15,8 @@ use Rattle.image.specs.Image.{soundHeader, part, edgeCount, edgePart, edgesFrom
 use Rattle.image.proofs.Loads.{loaded, edge-words}
 use Rattle.image.proofs.RecordWords.{edges-length}
 use Rattle.image.proofs.Room.{few-edges}
-use Rattle.page.specs.Rows.{rowOf, rowBytes, rowsOf, rowsFrom}
-use Rattle.page.specs.Page.{PageResult, pageBounds, pageCode, pageOf}
+use Rattle.page.specs.Rows.{rowOf, rowsOf, rowsFrom}
+use Rattle.page.specs.Page.{PageResult, pageBounds, pageBytes, pageCode, pageOf}
 use Rattle.page.proofs.RowLaws.{rows-length}
 use Rattle.page.proofs.Turns.{from-length}
 
@@ -27,15 +27,15 @@ pub page-unloadable : (ws page : List ℕ) → loadable pageBounds ws ≡ false 
 unfolding pageOf pageCode
 page-unloadable ws page h = rw h
 
-page-under : (ws page : List ℕ) → loadable pageBounds ws ≡ true → length page < rowBytes * length (load ws .eseq) →
+page-under : (ws page : List ℕ) → loadable pageBounds ws ≡ true → length page < pageBytes ws →
     answer 107 0 page ≡ pageOf ws page
 unfolding pageOf pageCode
-page-under ws page h k = rw (h, lt-ltb (length page) (rowBytes * length (load ws .eseq)) k)
+page-under ws page h k = rw (h, lt-ltb (length page) (pageBytes ws) k)
 
-page-full : (ws page : List ℕ) → loadable pageBounds ws ≡ true → rowBytes * length (load ws .eseq) ≤ length page →
+pub page-full : (ws page : List ℕ) → loadable pageBounds ws ≡ true → pageBytes ws ≤ length page →
     answer 0 (length (rowsOf (load ws))) (over (rowsOf (load ws)) page) ≡ pageOf ws page
 unfolding pageOf pageCode
-page-full ws page h k = rw (h, le-ltb (length page) (rowBytes * length (load ws .eseq)) k)
+page-full ws page h k = rw (h, le-ltb (length page) (pageBytes ws) k)
 
 -- ---- the edge part of words that load
 
@@ -64,7 +64,7 @@ module _ (ws rs : List ℕ) (h : loadable pageBounds ws ≡ true) (e : rs ≡ pa
   counted = omega (arith, records-length)
 
   -- what 107 asks for, by the records
-  needed : rowBytes * length (load ws .eseq) ≡ 25 * (length rs / 6)
+  needed : pageBytes ws ≡ 25 * (length rs / 6)
   needed = omega (arith, eseq-count ws, counted)
 
   pub few-records : length rs / 6 ≤ 4000

@@ -3,10 +3,10 @@ use Prim.Native.Nat.{ℕ, zero, suc, _+_, _-_, _*_, _≤_, _<_}
 use mathlib.Core.Path.{_≡_, refl, sym, ap, _∙_}
 use mathlib.Core.List.{List, [], _∷_, _++_}
 use native.Mathlib.Omega.{arith}
-use lib.ListN.{length, getD, take, drop, length-drop}
-use lib.Seq.{sets, take-all, drop-drop}
+use lib.ListN.{length, take, drop}
+use lib.Seq.{sets, drop-drop}
 use Rattle.lists.specs.Lists.{each}
-use Rattle.graph.specs.Graph.{Edge}
+use Rattle.decimal.proofs.Stores.{rest-all}
 use Rattle.image.specs.Image.{edgesFrom}
 use Rattle.page.specs.Rows.{rowOf, edgeRead, rowsFrom}
 
@@ -14,10 +14,6 @@ pub from-length : (k : ℕ) (ws : List ℕ) → length (edgesFrom k ws) ≡ k
 unfolding edgesFrom
 from-length zero ws = refl
 from-length (suc k) ws = ap suc (from-length k (drop 6 ws))
-
--- all that stands from a place on
-pub rest-all : (ws : List ℕ) (from : ℕ) → take (length ws - from) (drop from ws) ≡ drop from ws
-rest-all ws from = take-all (length ws - from) (drop from ws) (omega (arith, length-drop from ws))
 
 module _ (ws : List ℕ) (count i : ℕ) where
   pub rows-turn : (from : ℕ) → i < count →

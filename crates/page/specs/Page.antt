@@ -20,10 +20,13 @@ pub record PageResult : Type 0 where
   pub bytes : ℕ
   pub page : List ℕ
 
--- the code of words that do not load; only then 107, where there is room for fewer bytes than 25 an edge
+-- the bytes of a page: 25 an edge
+abbrev pub pageBytes : List ℕ → ℕ
+pageBytes ws = rowBytes * length (load ws .eseq)
+
+-- the code of words that do not load; only of others 107, where there is room for fewer bytes
 unfoldable pub pageCode : List ℕ → ℕ → ℕ
-pageCode ws room =
-    (loadCode pageBounds ws == 0) ⇒ (ltb room (rowBytes * length (load ws .eseq)) ⇒ 107 else 0) else loadCode pageBounds ws
+pageCode ws room = (loadCode pageBounds ws == 0) ⇒ (ltb room (pageBytes ws) ⇒ 107 else 0) else loadCode pageBounds ws
 
 -- with a code no bytes, and the page as it was; else the rows, and behind them what stood there
 unfoldable pub pageOf : List ℕ → List ℕ → PageResult

@@ -103,7 +103,7 @@ fn rows(words: &[u32], count: usize, out: &mut [u8]) -> usize
     at
 }
 
-// The page of a saved chart: 105 where the words do not load, and only then 107 where the page is short of 25 bytes an edge.
+// The page of a saved chart: 105 where the words do not load; only of words that load 107, under 25 bytes an edge.
 // With a code the page is as it was, and bytes behind the rows are so in any case.
 pub fn print(words: &[u32], page: &mut [u8]) -> Printed
     ensures { λ r. ⌜ printed r (now (page .exit)) ≡ pageOf (now (words .entry)) (now (page .entry)) ⌝ }

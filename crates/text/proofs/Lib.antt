@@ -7,3 +7,6 @@ pub mod Verdicts
 pub mod Texts
 pub mod Accepts
 pub mod Examples
+pub mod Fields
+pub mod ImageLines
+pub mod ImageLineBack

@@ -12,7 +12,7 @@ use Rattle.text.specs.Writing.{spaced, imageWord, unreadableWord, doneWo
 use Rattle.decimal.proofs.Digits.{digits-most}
 use Rattle.decimal.proofs.Stores.{one-drop}
 
-spaced-most : (n : ℕ) → length (spaced n) ≤ 11
+pub spaced-most : (n : ℕ) → length (spaced n) ≤ 11
 unfolding spaced
 spaced-most n = omega (arith, digits-most 10 n)
 

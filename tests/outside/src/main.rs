@@ -6,6 +6,7 @@
 //!             [--chartpage PATH]                and the program chartpage
 //!             [--vectors DIR]                   and the cases kept in DIR
 //!     outside --text                            chartrun on the plain machine: standard input to output
+//!     outside --page                            chartpage likewise
 //!     outside --cases FILE                      what the program vectors must write for the cases in FILE
 
 use outside::cases;
@@ -47,12 +48,8 @@ fn main() {
             "--chartrun" => options.chartrun = Some(value()),
             "--chartpage" => options.chartpage = Some(value()),
             "--vectors" => options.vectors = Some(value()),
-            "--text" => {
-                let mut input = Vec::new();
-                std::io::stdin().read_to_end(&mut input).unwrap();
-                std::io::stdout().write_all(&text::chartrun(&input)).unwrap();
-                return;
-            }
+            "--text" => return filter(text::chartrun),
+            "--page" => return filter(page::chartpage),
             "--cases" => {
                 let file = value();
                 let text = std::fs::read_to_string(&file).unwrap_or_else(|e| fail(format!("{file}: {e}")));
@@ -72,8 +69,15 @@ fn main() {
     }
 }
 
+/// A program on the plain machine: standard input to standard output.
+fn filter(program: impl Fn(&[u8]) -> Vec<u8>) {
+    let mut input = Vec::new();
+    std::io::stdin().read_to_end(&mut input).unwrap();
+    std::io::stdout().write_all(&program(&input)).unwrap();
+}
+
 fn usage() -> ! {
-    eprintln!("usage: outside [--self] [--seeds N] [--from K] [--chartrun PATH] [--chartpage PATH] [--vectors DIR] | outside --text | outside --cases FILE");
+    eprintln!("usage: outside [--self] [--seeds N] [--from K] [--chartrun PATH] [--chartpage PATH] [--vectors DIR] | outside --text | outside --page | outside --cases FILE");
     exit(2)
 }
 
@@ -213,7 +217,7 @@ fn demands(case: &Case, outcome: &Outcome, reached: &mut Reached) -> Result<(), 
 #[cfg(not(feature = "engine"))]
 mod compare {
     pub fn run(_: &super::Options) {
-        eprintln!("outside: built without the feature `engine`; only --self, --text and --cases run");
+        eprintln!("outside: built without the feature `engine`; only --self, --text, --page and --cases run");
         std::process::exit(2)
     }
 }
