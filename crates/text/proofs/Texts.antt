@@ -1,52 +1,18 @@
 -- The texts that are written, part by part, and their lengths.
-use Prim.Native.Nat.{ℕ, zero, suc, _+_, _*_, _/_, _%_, _^_, _≤_, _<_}
+use Prim.Native.Nat.{ℕ, _+_, _*_, _≤_, _<_}
 use mathlib.Core.Path.{_≡_, refl, sym, ap, _∙_}
 use mathlib.Core.Bool.{Bool, true, false}
 use mathlib.Core.List.{List, [], _∷_, _++_, append-nil}
 use native.Mathlib.Omega.{arith}
-use native.Mathlib.Numerals.{unary-clauses}
 use lib.ListN.{length, getD, drop, length-append, drop-of-length-le, length-drop}
-use lib.Dec.{ltb}
-use borrow.Author.Tests.{lt-ltb, le-ltb, eq-eqb, ne-eqb}
+use borrow.Author.Tests.{eq-eqb, ne-eqb}
 use Rattle.lists.specs.Choice.{_⇒_else_, _==_}
 use Rattle.lists.specs.Lists.{each}
-use Rattle.text.specs.Writing.{digits, spaced, imageWord, unreadableWord, doneWord, refusedWord, lineOf, answerLine, answerLines, writeText, unreadableText}
-use Rattle.text.proofs.Walks.{one-drop}
+use Rattle.text.specs.Writing.{spaced, imageWord, unreadableWord, doneWord, refusedWord, lineOf, answerLine, answerLines, writeText, unreadableText}
+use Rattle.decimal.proofs.Digits.{digits-most}
+use Rattle.decimal.proofs.Stores.{one-drop}
 
--- ---- the digits of a number
-
-pub one-digit : (n : ℕ) → n < 10 → digits 10 n ≡ (48 + n) ∷ []
-unfolding digits
-one-digit n h = rw (lt-ltb n 10 h)
-
--- one more than enough changes nothing
-enough : (f n : ℕ) → n < 10 ^ suc f → digits (suc f) n ≡ digits (suc (suc f)) n
-unfolding digits
-enough zero n h = rw (lt-ltb n 10 h)
-enough (suc f) n h = go (enough f (n / 10)) (ltb n 10) refl
-  where
-    go : (n / 10 < 10 ^ suc f → digits (suc f) (n / 10) ≡ digits (suc (suc f)) (n / 10)) → (t : Bool) → ltb n 10 ≡ t →
-        (t ⇒ ((48 + n) ∷ []) else (digits (suc f) (n / 10) ++ ((48 + n % 10) ∷ []))) ≡ (t ⇒ ((48 + n) ∷ []) else (digits (suc (suc f)) (n / 10) ++ ((48 + n % 10) ∷ [])))
-    go ih true e = refl
-    go ih false e = ap (λ (l : List ℕ). l ++ ((48 + n % 10) ∷ [])) (ih (omega (arith, simp unary-clauses at h)))
-
-pub more-digits : (n : ℕ) → 10 ≤ n → n < 2 ^ 32 → digits 10 n ≡ digits 10 (n / 10) ++ ((48 + n % 10) ∷ [])
-unfolding digits
-more-digits n h k = rw (le-ltb n 10 h) (ap (λ (l : List ℕ). l ++ ((48 + n % 10) ∷ [])) (enough 8 (n / 10) (omega arith)))
-
-pub more-length : (n : ℕ) → 10 ≤ n → n < 2 ^ 32 → length (digits 10 n) ≡ length (digits 10 (n / 10)) + 1
-more-length n h k = simp length-append at (ap length (more-digits n h k))
-
-digits-most : (f n : ℕ) → length (digits f n) ≤ f
-unfolding digits
-digits-most zero n = omega arith
-digits-most (suc f) n = go (digits-most f (n / 10)) (ltb n 10)
-  where
-    go : length (digits f (n / 10)) ≤ f → (t : Bool) → length (t ⇒ ((48 + n) ∷ []) else (digits f (n / 10) ++ ((48 + n % 10) ∷ []))) ≤ suc f
-    go ih true = omega arith
-    go ih false = omega (arith, length-append (digits f (n / 10)) ((48 + n % 10) ∷ []))
-
-spaced-most : (n : ℕ) → length (spaced n) ≤ 11
+pub spaced-most : (n : ℕ) → length (spaced n) ≤ 11
 unfolding spaced
 spaced-most n = omega (arith, digits-most 10 n)
 

@@ -1,10 +1,12 @@
 // From words to bytes. Each function writes a text at a place of out and returns the place behind it.
-ghost use mathlib.Core.Path.{_≡_};
 ghost use mathlib.Core.List.{[], _∷_};
 ghost use Prim.Native.Nat.{_+_, _*_, _≤_};
 ghost use lib.ListN.{length};
-ghost use Rattle.lists.specs.Lists.{each, over};
-ghost use Rattle.text.specs.Writing.{Stored, digits, spaced, lineOf, answerLine, answerLines, writeText, unreadableText};
+ghost use Rattle.lists.specs.Lists.{each};
+ghost use Rattle.decimal.specs.Stored.{Stored, Written};
+ghost use Rattle.decimal.specs.Decimal.{digits};
+ghost use Rattle.text.specs.Writing.{spaced, lineOf, answerLine, answerLines, writeText, unreadableText};
+use decimal::bytes;
 
 fn digits(out: &mut [u8], at: usize, n: u32) -> usize
     requires { ⌜ at + length (digits 10 n) ≤ length (now out) ⌝ }
@@ -27,20 +29,8 @@ fn spaced(out: &mut [u8], at: usize, n: u32) -> usize
     digits(out, at + 1, n)
 }
 
-fn bytes(out: &mut [u8], at: usize, word: &[u8]) -> usize
-    requires { ⌜ at + length (now word) ≤ length (now out) ⌝ }
-    ensures { λ r. ⌜ Stored (now (word .entry)) at (now (out .entry)) (now (out .exit)) r ⌝ }
-{
-    let mut i = 0;
-    while i < word.len() {
-        out[at + i] = word[i];
-        i += 1;
-    }
-    at + i
-}
-
 // A word and one number.
-fn line(out: &mut [u8], at: usize, word: &[u8], n: u32) -> usize
+pub fn line(out: &mut [u8], at: usize, word: &[u8], n: u32) -> usize
     requires { ⌜ at + length (lineOf (now word) (n ∷ [])) ≤ length (now out) ⌝ }
     ensures { λ r. ⌜ Stored (lineOf (now (word .entry)) (n ∷ [])) at (now (out .entry)) (now (out .exit)) r ⌝ }
 {
@@ -86,11 +76,11 @@ fn numbers(out: &mut [u8], at: usize, words: &[u32]) -> usize
     p
 }
 
-// The lines of the answers, code and number in turn, and the line of the image. The result is their number of bytes; what stood behind them stays.
+// The lines of the answers, code and number in turn, and the line of the image.
 // A line of an answer has at most 19 bytes, and a number of the image with its space 11.
 pub fn write(codes: &[u32], image: &[u32], out: &mut [u8]) -> usize
     requires { ⌜ 10 * length (now codes) + 11 * length (now image) + 6 ≤ length (now out) ⌝ }
-    ensures { λ r. ⌜ (r ≡ length (writeText (now (codes .entry)) (now (image .entry)))) × (now (out .exit) ≡ over (writeText (now (codes .entry)) (now (image .entry))) (now (out .entry))) ⌝ }
+    ensures { λ r. ⌜ Written (writeText (now (codes .entry)) (now (image .entry))) r (now (out .entry)) (now (out .exit)) ⌝ }
 {
     let p = answers(out, codes);
     let q = bytes(out, p, b"image");
@@ -102,7 +92,7 @@ pub fn write(codes: &[u32], image: &[u32], out: &mut [u8]) -> usize
 // The line of unreadable input.
 pub fn write_unreadable(n: u32, out: &mut [u8]) -> usize
     requires { ⌜ 22 ≤ length (now out) ⌝ }
-    ensures { λ r. ⌜ (r ≡ length (unreadableText n)) × (now (out .exit) ≡ over (unreadableText n) (now (out .entry))) ⌝ }
+    ensures { λ r. ⌜ Written (unreadableText n) r (now (out .entry)) (now (out .exit)) ⌝ }
 {
     line(out, 0, b"unreadable", n)
 }

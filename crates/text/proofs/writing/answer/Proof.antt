@@ -1,7 +1,7 @@
 use mathlib.Core.Path.{sym, ap}
 use native.Mathlib.Omega.{arith}
 use lib.ListN.{length}
-use Rattle.text.proofs.Stores.{stored-as}
+use Rattle.decimal.proofs.Stores.{stored-as}
 use Rattle.text.proofs.Texts.{answer-done, answer-refused}
 use borrow.Author.Needs.{needs}
 use Rattle.text.proofs.writing.answer.Statement.{statement}

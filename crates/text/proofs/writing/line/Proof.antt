@@ -2,7 +2,7 @@ use mathlib.Core.Path.{refl, _∙_}
 use native.Mathlib.Omega.{arith}
 use lib.ListN.{length-set}
 use Prim.Native.Nat.{_+_}
-use Rattle.text.proofs.Stores.{stored-byte, stored-then, stored-as}
+use Rattle.decimal.proofs.Stores.{stored-byte, stored-then, stored-as}
 use Rattle.text.proofs.Texts.{line-parts, line-length}
 use Rattle.text.proofs.writing.line.Statement.{statement}
 use Rattle.text.proofs.writing.line.Tie as tie

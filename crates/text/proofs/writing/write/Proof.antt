@@ -2,7 +2,7 @@ use mathlib.Core.Path.{refl, _∙_}
 use native.Mathlib.Omega.{arith}
 use lib.ListN.{length-set}
 use Prim.Native.Nat.{_+_}
-use Rattle.text.proofs.Stores.{stored-byte, stored-then, stored-as, stored-over}
+use Rattle.decimal.proofs.Stores.{stored-byte, stored-then, stored-as, stored-over}
 use Rattle.text.proofs.Texts.{answers-most, numbers-most, write-most, write-parts}
 use borrow.Author.Needs.{needs}
 use Rattle.text.proofs.writing.write.Statement.{statement}

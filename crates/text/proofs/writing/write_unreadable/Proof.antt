@@ -1,6 +1,6 @@
 use native.Mathlib.Omega.{arith}
 use Rattle.text.specs.Writing.{unreadableText}
-use Rattle.text.proofs.Stores.{stored-over}
+use Rattle.decimal.proofs.Stores.{stored-over}
 use Rattle.text.proofs.Texts.{unreadable-most}
 use borrow.Author.Needs.{needs}
 use Rattle.text.proofs.writing.write_unreadable.Statement.{statement}
