@@ -1,17 +1,20 @@
--- The three answers: 105, 107, or the rows.
+-- The three answers: the code of words that do not load, 107, or the rows.
 use Prim.Native.Nat.{ℕ, _+_, _*_, _/_, _≤_, _<_}
 use mathlib.Core.Path.{_≡_, refl, sym, ap, _∙_}
-use mathlib.Core.Bool.{Bool, true, false}
+use mathlib.Core.Bool.{true}
 use mathlib.Core.List.{List}
 use native.Mathlib.Omega.{arith}
 use lib.ListN.{length}
-use borrow.Author.Tests.{lt-ltb, le-ltb}
+use borrow.Author.Tests.{lt-ltb, le-ltb, ne-eqb}
 use Rattle.lists.specs.Choice.{_⇒_else_, _==_}
 use Rattle.lists.specs.Lists.{each, over}
 use Rattle.decimal.specs.Stored.{Stored}
 use Rattle.decimal.proofs.Stores.{stored-over}
 use Rattle.graph.specs.Graph.{Graph}
 use Rattle.image.specs.Image.{soundHeader, part, edgeCount, edgePart, edgesFrom, load, save, loadable}
+use Rattle.image.specs.Checks.{loadCode, loadOffset, verdict}
+use Rattle.image.proofs.Verdicts.{zero-sound}
+use Rattle.image.proofs.LoadCodes.{code-loads}
 use Rattle.image.proofs.Loads.{loaded, edge-words}
 use Rattle.image.proofs.RecordWords.{edges-length}
 use Rattle.image.proofs.Room.{few-edges}
@@ -23,19 +26,23 @@ use Rattle.page.proofs.Turns.{from-length}
 abbrev pub answer : ℕ → ℕ → List ℕ → PageResult
 answer code bytes page = record { code = code; bytes = bytes; page = page }
 
-pub page-unloadable : (ws page : List ℕ) → loadable pageBounds ws ≡ false → answer 105 0 page ≡ pageOf ws page
+pub page-refused : (ws page : List ℕ) (code offset : ℕ) → code ≡ loadCode pageBounds ws →
+    offset ≡ loadOffset pageBounds ws → (code ≡ 0 → ⊥) → answer code offset page ≡ pageOf ws page
 unfolding pageOf pageCode
-page-unloadable ws page h = rw h
+page-refused ws page code offset e f n =
+    simp (ne-eqb (loadCode pageBounds ws) 0 (λ z. n (e ∙ z))) (rw (e, f))
 
-page-under : (ws page : List ℕ) → loadable pageBounds ws ≡ true → length page < pageBytes ws →
+pub page-under : (ws page : List ℕ) → loadCode pageBounds ws ≡ 0 → length page < pageBytes ws →
     answer 107 0 page ≡ pageOf ws page
 unfolding pageOf pageCode
-page-under ws page h k = rw (h, lt-ltb (length page) (pageBytes ws) k)
+page-under ws page z k =
+    rw (zero-sound (verdict pageBounds ws) z, lt-ltb (length page) (pageBytes ws) k)
 
-pub page-full : (ws page : List ℕ) → loadable pageBounds ws ≡ true → pageBytes ws ≤ length page →
+pub page-full : (ws page : List ℕ) → loadCode pageBounds ws ≡ 0 → pageBytes ws ≤ length page →
     answer 0 (length (rowsOf (load ws))) (over (rowsOf (load ws)) page) ≡ pageOf ws page
 unfolding pageOf pageCode
-page-full ws page h k = rw (h, le-ltb (length page) (pageBytes ws) k)
+page-full ws page z k =
+    rw (zero-sound (verdict pageBounds ws) z, le-ltb (length page) (pageBytes ws) k)
 
 -- ---- the edge part of words that load
 
@@ -51,7 +58,10 @@ load-rows : (ws : List ℕ) → rowsOf (load ws) ≡ rowsFrom (edgeCount ws) (ed
 unfolding rowsOf load
 load-rows ws = refl
 
-module _ (ws rs : List ℕ) (h : loadable pageBounds ws ≡ true) (e : rs ≡ part 2 ws) where
+module _ (ws rs : List ℕ) (z : loadCode pageBounds ws ≡ 0) (e : rs ≡ part 2 ws) where
+  h : loadable pageBounds ws ≡ true
+  h = code-loads pageBounds ws .0 z
+
   records : rs ≡ edgePart ws
   records = e ∙ part-two ws (loaded pageBounds ws h .header)
 
@@ -71,7 +81,7 @@ module _ (ws rs : List ℕ) (h : loadable pageBounds ws ≡ true) (e : rs ≡ pa
   few-records = omega (arith, few-edges pageBounds (load ws) (loaded pageBounds ws h .formed), eseq-count ws, counted)
 
   pub page-short : (page : List ℕ) → length page < 25 * (length rs / 6) → answer 107 0 page ≡ pageOf ws page
-  page-short page k = page-under ws page h (omega (arith, needed))
+  page-short page k = page-under ws page z (omega (arith, needed))
 
   pub page-done : (page last : List ℕ) (r : ℕ) → 25 * (length rs / 6) ≤ length page →
       Stored (rowsFrom (length rs / 6) rs) 0 page last r → answer 0 r last ≡ pageOf ws page
@@ -86,4 +96,4 @@ module _ (ws rs : List ℕ) (h : loadable pageBounds ws ≡ true) (e : rs ≡ pa
       finish t =
           ap (λ (n : ℕ). answer 0 n last) (t .0 ∙ ap length rows-same)
           ∙ ap (answer 0 (length (rowsOf (load ws)))) (t .1 ∙ ap (λ (l : List ℕ). over l page) rows-same)
-          ∙ page-full ws page h (omega (arith, needed))
+          ∙ page-full ws page z (omega (arith, needed))

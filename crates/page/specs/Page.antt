@@ -7,7 +7,7 @@ use Rattle.lists.specs.Choice.{_⇒_else_, _==_}
 use Rattle.lists.specs.Lists.{over}
 use Rattle.graph.specs.WellFormed.{Bounds}
 use Rattle.image.specs.Image.{load}
-use Rattle.image.specs.Checks.{bounds, loadCode}
+use Rattle.image.specs.Checks.{bounds, loadCode, loadOffset}
 use Rattle.page.specs.Rows.{rowBytes, rowsOf}
 use Rattle.page.specs.declared.Printed.{Printed}
 
@@ -28,13 +28,14 @@ pageBytes ws = rowBytes * length (load ws .eseq)
 unfoldable pub pageCode : List ℕ → ℕ → ℕ
 pageCode ws room = (loadCode pageBounds ws == 0) ⇒ (ltb room (pageBytes ws) ⇒ 107 else 0) else loadCode pageBounds ws
 
--- with a code no bytes, and the page as it was; else the rows, and behind them what stood there
+-- with a code the page as it was, and for bytes the offset of the first bad word (proofs/BadWords: 0 with 105 and 107);
+-- else the rows, and behind them what stood there
 unfoldable pub pageOf : List ℕ → List ℕ → PageResult
 unfolding pageCode
 pageOf ws page =
     (pageCode ws (length page) == 0)
     ⇒ record { code = 0; bytes = length (rowsOf (load ws)); page = over (rowsOf (load ws)) page }
-    else record { code = pageCode ws (length page); bytes = 0; page = page }
+    else record { code = pageCode ws (length page); bytes = loadOffset pageBounds ws; page = page }
 
 -- what the code gives, with the page that it leaves
 abbrev pub printed : Printed → List ℕ → PageResult

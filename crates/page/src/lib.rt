@@ -8,11 +8,12 @@ ghost use Rattle.graph.specs.Graph.{readingOf};
 ghost use Rattle.page.specs.Rows.{column, cell, readingColumn, rowOf, edgeRead, rowsFrom};
 ghost use Rattle.page.specs.Page.{pageOf, printed};
 use decimal::bytes;
-use image::Verdict;
 use image::check;
+use image::code_of;
+use image::offset_of;
 use image::part;
 
-// A code, and how many bytes were written: none with a code.
+// A code, and how many bytes were written; with a code none, and bytes is the offset of the first bad word, else 0.
 #[repr(C)]
 pub struct Printed {
     pub code: u32,
@@ -103,17 +104,19 @@ fn rows(words: &[u32], count: usize, out: &mut [u8]) -> usize
     at
 }
 
-// The page of a saved chart: 105 where the words do not load; only of words that load 107, under 25 bytes an edge.
-// With a code the page is as it was, and bytes behind the rows are so in any case.
+// The page of a saved chart: 105, 108 or 109 where the words do not load; only of words that load 107, under 25 bytes
+// an edge. With a code the page is as it was, and bytes behind the rows are so in any case.
 pub fn print(words: &[u32], page: &mut [u8]) -> Printed
     ensures { λ r. ⌜ printed r (now (page .exit)) ≡ pageOf (now (words .entry)) (now (page .entry)) ⌝ }
 {
-    let Verdict::Sound = check(words, 1000, 4000, 64) else {
+    let found = check(words, 1000, 4000, 64);
+    let code = code_of(found);
+    if code != 0 {
         return Printed {
-            code: 105,
-            bytes: 0,
+            code,
+            bytes: offset_of(found) as usize,
         };
-    };
+    }
     let records = part(words, 2);
     let count = records.len() / 6;
     if page.len() < 25 * count {
