@@ -16,18 +16,26 @@ pub spaced-most : (n : ℕ) → length (spaced n) ≤ 11
 unfolding spaced
 spaced-most n = omega (arith, digits-most 10 n)
 
+pub numbers-most : (ws : List ℕ) → length (each spaced ws) ≤ 11 * length ws
+numbers-most [] = omega arith
+numbers-most (w ∷ ws) = omega (arith, length-append (spaced w) (each spaced ws), spaced-most w, numbers-most ws)
+
 -- ---- lines
 
-pub line-parts : (word : List ℕ) (n : ℕ) → word ++ (spaced n ++ (10 ∷ [])) ≡ lineOf word (n ∷ [])
+pub line-parts : (word ns : List ℕ) → word ++ (each spaced ns ++ (10 ∷ [])) ≡ lineOf word ns
 unfolding lineOf
-line-parts word n = ap (λ (l : List ℕ). word ++ (l ++ (10 ∷ []))) (sym (append-nil (spaced n)))
+line-parts word ns = refl
 
-pub line-length : (word : List ℕ) (n : ℕ) → length (lineOf word (n ∷ [])) ≡ length word + length (spaced n) + 1
-line-length word n = ap length (sym (line-parts word n)) ∙ simp length-append (omega arith)
+pub line-length : (word ns : List ℕ) → length (lineOf word ns) ≡ length word + length (each spaced ns) + 1
+unfolding lineOf
+line-length word ns = simp length-append (omega arith)
+
+pub line-most : (word ns : List ℕ) → length (lineOf word ns) ≤ length word + 11 * length ns + 1
+line-most word ns = omega (arith, line-length word ns, numbers-most ns)
 
 pub unreadable-most : (n : ℕ) → length (unreadableText n) ≤ 22
 unfolding unreadableText
-unreadable-most n = omega (arith, line-length unreadableWord n, spaced-most n)
+unreadable-most n = omega (arith, line-most unreadableWord (n ∷ []))
 
 pub answer-done : (code number : ℕ) → code ≡ 0 → answerLine code number ≡ lineOf doneWord (number ∷ [])
 unfolding answerLine
@@ -42,8 +50,8 @@ unfolding answerLine
 answer-most code number = go (code == 0)
   where
     go : (t : Bool) → length (t ⇒ lineOf doneWord (number ∷ []) else lineOf refusedWord (code ∷ [])) ≤ 19
-    go true = omega (arith, line-length doneWord number, spaced-most number)
-    go false = omega (arith, line-length refusedWord code, spaced-most code)
+    go true = omega (arith, line-most doneWord (number ∷ []))
+    go false = omega (arith, line-most refusedWord (code ∷ []))
 
 pub answers-most : (ws : List ℕ) → length (answerLines ws) ≤ 10 * length ws
 unfolding answerLines
@@ -51,19 +59,13 @@ answers-most [] = omega arith
 answers-most (code ∷ []) = omega arith
 answers-most (code ∷ number ∷ ws) = omega (arith, length-append (answerLine code number) (answerLines ws), answer-most code number, answers-most ws)
 
-pub numbers-most : (ws : List ℕ) → length (each spaced ws) ≤ 11 * length ws
-numbers-most [] = omega arith
-numbers-most (w ∷ ws) = omega (arith, length-append (spaced w) (each spaced ws), spaced-most w, numbers-most ws)
-
-pub write-length : (answers image : List ℕ) → length (writeText answers image) ≡ length (answerLines answers) + 5 + length (each spaced image) + 1
-unfolding writeText lineOf
-write-length answers image = simp length-append (omega arith)
-
 pub write-most : (answers image : List ℕ) → length (writeText answers image) ≤ 10 * length answers + 11 * length image + 6
-write-most answers image = omega (arith, write-length answers image, answers-most answers, numbers-most image)
+unfolding writeText
+write-most answers image =
+    omega (arith, length-append (answerLines answers) (lineOf imageWord image), answers-most answers, line-most imageWord image)
 
-pub write-parts : (answers image : List ℕ) → answerLines answers ++ (imageWord ++ (each spaced image ++ (10 ∷ []))) ≡ writeText answers image
-unfolding writeText lineOf
+pub write-parts : (answers image : List ℕ) → answerLines answers ++ lineOf imageWord image ≡ writeText answers image
+unfolding writeText
 write-parts answers image = refl
 
 -- ---- turns of the loops

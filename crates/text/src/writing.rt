@@ -1,5 +1,4 @@
 // From words to bytes. Each function writes a text at a place of out and returns the place behind it.
-ghost use mathlib.Core.List.{[], _∷_};
 ghost use Prim.Native.Nat.{_+_, _*_, _≤_};
 ghost use lib.ListN.{length};
 ghost use Rattle.lists.specs.Lists.{each};
@@ -29,13 +28,26 @@ fn spaced(out: &mut [u8], at: usize, n: u32) -> usize
     digits(out, at + 1, n)
 }
 
-// A word and one number.
-pub fn line(out: &mut [u8], at: usize, word: &[u8], n: u32) -> usize
-    requires { ⌜ at + length (lineOf (now word) (n ∷ [])) ≤ length (now out) ⌝ }
-    ensures { λ r. ⌜ Stored (lineOf (now (word .entry)) (n ∷ [])) at (now (out .entry)) (now (out .exit)) r ⌝ }
+fn numbers(out: &mut [u8], at: usize, words: &[u32]) -> usize
+    requires { ⌜ at + length (each spaced (now words)) ≤ length (now out) ⌝ }
+    ensures { λ r. ⌜ Stored (each spaced (now (words .entry))) at (now (out .entry)) (now (out .exit)) r ⌝ }
+{
+    let mut p = at;
+    let mut k = 0;
+    while k < words.len() {
+        p = spaced(out, p, words[k]);
+        k += 1;
+    }
+    p
+}
+
+// A word and its numbers.
+pub fn line(out: &mut [u8], at: usize, word: &[u8], ns: &[u32]) -> usize
+    requires { ⌜ at + length (lineOf (now word) (now ns)) ≤ length (now out) ⌝ }
+    ensures { λ r. ⌜ Stored (lineOf (now (word .entry)) (now (ns .entry))) at (now (out .entry)) (now (out .exit)) r ⌝ }
 {
     let p = bytes(out, at, word);
-    let q = spaced(out, p, n);
+    let q = numbers(out, p, ns);
     out[q] = 10;
     q + 1
 }
@@ -45,9 +57,9 @@ fn answer(out: &mut [u8], at: usize, code: u32, number: u32) -> usize
     ensures { λ r. ⌜ Stored (answerLine code number) at (now (out .entry)) (now (out .exit)) r ⌝ }
 {
     if code == 0 {
-        return line(out, at, b"done", number);
+        return line(out, at, b"done", &[number]);
     }
-    line(out, at, b"refused", code)
+    line(out, at, b"refused", &[code])
 }
 
 fn answers(out: &mut [u8], words: &[u32]) -> usize
@@ -63,19 +75,6 @@ fn answers(out: &mut [u8], words: &[u32]) -> usize
     at
 }
 
-fn numbers(out: &mut [u8], at: usize, words: &[u32]) -> usize
-    requires { ⌜ at + length (each spaced (now words)) ≤ length (now out) ⌝ }
-    ensures { λ r. ⌜ Stored (each spaced (now (words .entry))) at (now (out .entry)) (now (out .exit)) r ⌝ }
-{
-    let mut p = at;
-    let mut k = 0;
-    while k < words.len() {
-        p = spaced(out, p, words[k]);
-        k += 1;
-    }
-    p
-}
-
 // The lines of the answers, code and number in turn, and the line of the image.
 // A line of an answer has at most 19 bytes, and a number of the image with its space 11.
 pub fn write(codes: &[u32], image: &[u32], out: &mut [u8]) -> usize
@@ -83,10 +82,7 @@ pub fn write(codes: &[u32], image: &[u32], out: &mut [u8]) -> usize
     ensures { λ r. ⌜ Written (writeText (now (codes .entry)) (now (image .entry))) r (now (out .entry)) (now (out .exit)) ⌝ }
 {
     let p = answers(out, codes);
-    let q = bytes(out, p, b"image");
-    let r = numbers(out, q, image);
-    out[r] = 10;
-    r + 1
+    line(out, p, b"image", image)
 }
 
 // The line of unreadable input.
@@ -94,5 +90,5 @@ pub fn write_unreadable(n: u32, out: &mut [u8]) -> usize
     requires { ⌜ 22 ≤ length (now out) ⌝ }
     ensures { λ r. ⌜ Written (unreadableText n) r (now (out .entry)) (now (out .exit)) ⌝ }
 {
-    line(out, 0, b"unreadable", n)
+    line(out, 0, b"unreadable", &[n])
 }
