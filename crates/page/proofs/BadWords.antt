@@ -1,5 +1,5 @@
 -- What stands beside the code of a page that is refused: with 108 and 109 the offset of the first bad word, else 0.
-use Prim.Native.Nat.{ℕ, _*_, _≤_, _<_}
+use Prim.Native.Nat.{ℕ, _≤_, _<_}
 use mathlib.Core.Path.{_≡_, refl, sym, ap, _∙_}
 use mathlib.Core.Logic.{_⊎_, inl, inr, ⊎-elim}
 use mathlib.Core.Bool.{Bool, true, false}
@@ -10,11 +10,23 @@ use lib.ListN.{length}
 use borrow.Author.Tests.{ltb-true, ltb-false, eqb-true, eqb-false}
 use Rattle.lists.specs.Choice.{_==_}
 use Rattle.image.specs.Image.{vertexOffset, incidenceOffset, vertexCount, edgeCount}
-use Rattle.image.specs.Checks.{loadCode, loadOffset}
+use Rattle.image.specs.Checks.{codeOf, offsetOf, loadCode, loadOffset, verdict}
 use Rattle.image.specs.FirstBad.{FirstBad}
+use Rattle.image.specs.declared.Verdict.{Verdict}
+use Rattle.image.specs.declared.Verdict.the-variants.{Sound, BadHeader, BadRecord, BadIncidence}
 use Rattle.image.proofs.LoadCodes.{no-offset, bad-record, bad-incidence}
 use Rattle.page.specs.Page.{PageResult, pageBounds, pageBytes, pageOf}
 use Rattle.page.proofs.PageLaws.{page-refused, page-under, page-full}
+
+-- the offset is at most the number of words
+pub offset-inside : (ws : List ℕ) → loadOffset pageBounds ws ≤ length ws
+offset-inside ws = go (verdict pageBounds ws) refl
+  where
+    go : (v : Verdict) → verdict pageBounds ws ≡ v → loadOffset pageBounds ws ≤ length ws
+    go Sound e = omega (arith, ap offsetOf e)
+    go BadHeader e = omega (arith, ap offsetOf e)
+    go (BadRecord at) e = omega (arith, bad-record pageBounds ws (ap codeOf e) .2 (omega arith) .inside)
+    go (BadIncidence at) e = omega (arith, bad-incidence pageBounds ws (ap codeOf e) .1 .inside)
 
 module _ (ws page : List ℕ) where
   -- the words' own code and offset, or 107 and 0, or 0

@@ -7,6 +7,7 @@ use lib.ListN.{length}
 use Rattle.graph.specs.Graph.{Graph}
 use Rattle.graph.specs.WellFormed.{wellFormed}
 use Rattle.image.specs.Image.{load, save}
+use Rattle.image.proofs.LoadCodes.{code-loads}
 use Rattle.image.proofs.Loads.{saved-same, saved-loads}
 use Rattle.image.proofs.Room.{image-fits}
 use Rattle.image.proofs.WordSize.{image-small}
@@ -25,7 +26,7 @@ module _ (g : Graph) (h : wellFormed pageBounds g ≡ true) where
 
   saved-rows : rowsOrCode (save g) ≡ rowsOf g
   unfolding rowsOrCode
-  saved-rows = rw (saved-loads pageBounds g h) (ap rowsOf (saved-same pageBounds g h))
+  saved-rows = rw (code-loads pageBounds (save g) .1 (saved-loads pageBounds g h)) (ap rowsOf (saved-same pageBounds g h))
 
   pub saved-printed : printout (lineOf imageWord (save g)) ≡ rowsOf g
   unfolding printout printed

@@ -32,7 +32,10 @@ slice-aggregate-print-words : tie.Need-slice-aggregate-print-words
 slice-aggregate-print-words c = sym (length-take-le _ _ (got (c .before .before) .fit))
 
 print-words-requires : tie.Need-print-words-requires
-print-words-requires c κs = search needs
+print-words-requires c κs =
+    let g = got (c .before .before .before) .fit in
+    let r = c .before .before .before .before .before .before .read-image in
+    (omega (arith, length-take-le _ (r .last .1 .0) g, g, r .kept .1 .0), search needs)
 
 enum-told : tie.Need-enum-told
 enum-told c = search needs
