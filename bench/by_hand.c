@@ -706,8 +706,10 @@ static void row(uint8_t *out, const u32 *e) {
 
 struct futtockfig_page_result BY_HAND_PAGE(const u32 *words, size_t words_len, uint8_t *page, size_t page_len) {
     struct futtockfig_page_result r = {0, 0};
-    if (!loadable(words, words_len, FUTTOCKFIG_MOST_VERTICES, FUTTOCKFIG_MOST_EDGES, FUTTOCKFIG_MOST_TYPES)) {
-        r.code = FUTTOCKFIG_BAD_START;
+    struct bad bad = check(words, words_len, FUTTOCKFIG_MOST_VERTICES, FUTTOCKFIG_MOST_EDGES, FUTTOCKFIG_MOST_TYPES);
+    if (bad.code) {
+        r.code = bad.code;
+        r.bytes = bad.at;
         return r;
     }
     size_t bytes = FUTTOCKFIG_PAGE_ROW * (size_t)words[1];

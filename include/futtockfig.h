@@ -34,7 +34,7 @@ extern "C" {
 #endif
 
 /* What a caller sees; raised with every change to it (docs/CHANGES.md). */
-#define FUTTOCKFIG_VERSION 7
+#define FUTTOCKFIG_VERSION 8
 
 /* Words a row in each table, and the most rows that a table may have. The fewest is 1. */
 #define FUTTOCKFIG_VERTEX_WORDS 8
@@ -237,13 +237,15 @@ struct futtockfig_span futtockfig_part(const uint32_t *words, size_t words_len, 
  *   or the decimetres. Two images that give the same page have the same edges, in the same order.
  */
 struct futtockfig_page_result {
-    uint32_t code; /* 0, FUTTOCKFIG_BAD_START or FUTTOCKFIG_SHORT_PAGE */
-    size_t bytes;  /* bytes of page that are the rows; 0 with a code */
+    uint32_t code; /* 0, 105, 107, 108 or 109 */
+    size_t bytes;  /* bytes of page that are the rows; with 108 and 109 an offset in words, with any other code 0 */
 };
 
 /*
  * Writes the page of an image. The words may be an image with up to 1,000 vertices, 4,000 edges and 64 types; all others
- * get FUTTOCKFIG_BAD_START, whatever the page. Then a page that is too short for the rows gets FUTTOCKFIG_SHORT_PAGE.
+ * get 105, 108 or 109, whatever the page: as a start does in a run with such capacities and types, and with 108 and 109
+ * bytes is the offset of the first bad word. The same words may be bad at another place in a run, or not at all. Then a
+ * page that is too short for the rows gets FUTTOCKFIG_SHORT_PAGE.
  * With a code no byte of the page is written; else bytes behind the rows stay as they were. Nothing is added behind the
  * last newline, so a page is no C string. No edges are no bytes, and code 0, also where page_len is 0.
  *

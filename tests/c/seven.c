@@ -136,6 +136,18 @@ int main(void) {
     memset(page, '#', sizeof page);
     struct futtockfig_page_result p = futtockfig_page(image, r.words - 1, page, 0);
     expect("code of a page, one word short,", 0, p.code, FUTTOCKFIG_BAD_START);
+    uint32_t number = image[9];
+    image[9] = image[6];
+    p = futtockfig_page(image, r.words, page, 0);
+    expect("code of a page, a vertex twice,", 0, p.code, FUTTOCKFIG_BAD_RECORD);
+    expect("bytes of a page, a vertex twice,", 0, p.bytes, 9);
+    image[9] = number;
+    number = image[73];
+    image[73] = image[72];
+    p = futtockfig_page(image, r.words, page, 0);
+    expect("code of a page, an incidence twice,", 0, p.code, FUTTOCKFIG_BAD_INCIDENCE);
+    expect("bytes of a page, an incidence twice,", 0, p.bytes, 73);
+    image[73] = number;
     p = futtockfig_page(image, r.words, page, ROWS - 1);
     expect("code of a page, one byte short,", 0, p.code, FUTTOCKFIG_SHORT_PAGE);
     expect("bytes of a page, one byte short,", 0, p.bytes, 0);

@@ -36,7 +36,7 @@ use core::ops::Range;
 use raw::{futtockfig_page, futtockfig_part, futtockfig_run};
 
 /// The version of what a caller sees, that of `include/futtockfig.h`.
-pub const VERSION: u32 = 7;
+pub const VERSION: u32 = 8;
 
 /// Kind, a, b, c, d.
 pub type Call = [u32; 5];
@@ -177,7 +177,7 @@ impl Refused {
         }
     }
 
-    /// The offset in the start of its first bad word, where the code names one.
+    /// The offset of the first bad word in the start, or in what is to be a page, where the code names one.
     pub fn offset(self) -> Option<usize> {
         match self {
             Refused::Record(at) | Refused::Incidence(at) => Some(at),
@@ -290,8 +290,9 @@ pub fn part(words: &[u32], which: Part) -> &[u32] {
 /// The edges of an image on paper: one row of [`PAGE_ROW`] bytes each, in Eseq order, at the front of `page`.
 ///
 /// The words may be an image with up to 1,000 vertices, 4,000 edges and 64 types; all others are refused with
-/// [`Refused::Start`], [`Refused::Record`] or [`Refused::Incidence`] before the length of `page` is looked at. The result is the rows; bytes behind them stay. Each ends
-/// with a newline and nothing is added behind the last: a page is no C string.
+/// [`Refused::Start`], [`Refused::Record`] or [`Refused::Incidence`] before the length of `page` is looked at, as a start
+/// is in a run with such capacities and types. The result is the rows; bytes behind them stay. Each ends with a newline
+/// and nothing is added behind the last: a page is no C string.
 ///
 /// ```
 /// let words = [2, 1, 6, 12, 18, 20, 1, 0, 7, 2, 0, 9, 1, 1, 2, 0, 2, 450, 2, 3];

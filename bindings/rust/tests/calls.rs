@@ -104,5 +104,8 @@ fn pages() {
     let mut damaged = seven();
     damaged[9] = 1;
     assert_eq!(page(&damaged, &mut []), Err(Refused::Record(9)));
+    damaged[9] = image[9];
+    damaged[73] = damaged[72];
+    assert_eq!(page(&damaged, &mut []), Err(Refused::Incidence(73)));
     assert_eq!(page(&EMPTY, &mut []), Ok([].as_slice()));
 }

@@ -30,11 +30,16 @@ fn front(page: &[u8], n: usize) -> &[u8] {
     &page[0..0]
 }
 
-// Code and bytes, the rows, and whether the bytes behind them are as they were.
+fn rows_in(r: Printed) -> usize {
+    if r.code == 0 { r.bytes } else { 0 }
+}
+
+// Code and number, the rows, and whether the bytes behind them are as they were.
 pub fn show_page(words: &[u32], room: usize) {
     let mut page = [35u8; 2000];
     let r = print_on(words, &mut page, room);
     writing::page(r.code, r.bytes);
-    writing::text(front(&page, r.bytes));
-    writing::kept(bytes_kept(&page, r.bytes));
+    let rows = rows_in(r);
+    writing::text(front(&page, rows));
+    writing::kept(bytes_kept(&page, rows));
 }

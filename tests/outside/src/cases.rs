@@ -43,7 +43,7 @@ fn take(line: &str, case: &mut Case, last: &mut Vec<u32>, out: &mut String) -> O
         "page" => {
             let [room]: [usize; 1] = numbers(rest)?.try_into().ok()?;
             match page::page(&case.start, room) {
-                Err(code) => show(out, "page", &[code, 0]),
+                Err((code, number)) => show(out, "page", &[code as usize, number]),
                 Ok(rows) => {
                     show(out, "page", &[0, rows.len()]);
                     out.push_str(&String::from_utf8(rows).unwrap());

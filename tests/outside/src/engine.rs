@@ -151,12 +151,12 @@ pub fn compare_page(words: &[u32], room: usize, junk: u64) -> Result<u32, String
     if words != before {
         return Err("a word lent for reading changed".into());
     }
-    let (code, rows) = match page::page(words, room) {
-        Ok(rows) => (0, rows),
-        Err(code) => (code, vec![]),
+    let (code, bytes, rows) = match page::page(words, room) {
+        Ok(rows) => (0, rows.len(), rows),
+        Err((code, number)) => (code, number, vec![]),
     };
-    if (raw.code, raw.bytes) != (code, rows.len()) {
-        return Err(format!("result is {:?}, should be {:?}", (raw.code, raw.bytes), (code, rows.len())));
+    if (raw.code, raw.bytes) != (code, bytes) {
+        return Err(format!("result is {:?}, should be {:?}", (raw.code, raw.bytes), (code, bytes)));
     }
     if !lent.guards_kept() {
         return Err("a byte outside the page changed".into());

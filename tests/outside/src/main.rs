@@ -127,7 +127,7 @@ impl Reached {
         let kinds = (0..100).filter(|k| is_kind(*k) && !self.kinds.contains_key(k)).map(|k| format!("kind {k}"));
         let codes = (1..=17).chain(101..=106).chain(108..=109).filter(|c| !self.codes.contains_key(c)).map(|c| format!("code {c}"));
         let idle = (5..=16).filter(|k| !self.idle.contains_key(k)).map(|k| format!("kind {k} that alters nothing"));
-        let pages = [0, 105, 107].into_iter().filter(|c| !self.pages.contains_key(c)).map(|c| format!("page with code {c}"));
+        let pages = [0, 105, 107, 108, 109].into_iter().filter(|c| !self.pages.contains_key(c)).map(|c| format!("page with code {c}"));
         kinds.chain(codes).chain(idle).chain(pages).collect()
     }
 
@@ -161,7 +161,7 @@ fn run_alone(options: &Options) {
             }
         }
         let (words, room) = gen::page(seed);
-        reached.page(page::page(&words, room).err().unwrap_or(0));
+        reached.page(page::page(&words, room).err().map_or(0, |refused| refused.0));
         if seed % 10 == 0 {
             text::chartrun(&gen::text(seed));
             page::chartpage(&gen::image_text(seed));
