@@ -18,7 +18,8 @@ refusedLine code offset = lineOf refusedWord ((code == 105) ⇒ (code ∷ []) el
 unfoldable pub rowsOrCode : List ℕ → List ℕ
 unfolding rowsOf refusedLine
 rowsOrCode ws =
-    (loadCode pageBounds ws == 0) ⇒ rowsOf (load ws) else refusedLine (loadCode pageBounds ws) (loadOffset pageBounds ws)
+    (loadCode pageBounds ws == 0) ⇒ rowsOf (load ws)
+    else refusedLine (loadCode pageBounds ws) (loadOffset pageBounds ws)
 
 -- any other text than the line of an image: a line of one word
 unfoldable pub printed : ImageLine → List ℕ
