@@ -231,10 +231,11 @@ struct futtockfig_span futtockfig_part(const uint32_t *words, size_t words_len, 
 
 /*
  * A PAGE
- *   The edges of an image on paper, one row of 25 bytes each, in Eseq order: number, alpha and omega in 4 columns each,
- *   type in 2, reading in 6. A column is filled from the right, with spaces before the text and no leading zeros; one
- *   space stands between columns and one newline at the row's end. A reading is a hyphen for untested, the word silent,
- *   or the decimetres. Two images that give the same page have the same edges, in the same order.
+ *   An image's edges for reading on paper: for every edge, in Eseq order, a row of 25 bytes. Its number, alpha and omega
+ *   have 4 columns each, its type has 2, its reading 6. A column is filled from the right, with spaces before the text
+ *   and no leading zeros; one space stands between columns and one newline at the row's end. A reading is a hyphen for
+ *   untested, the word silent, or the decimetres. Two images that give the same page have the same edges, in the same
+ *   order.
  */
 struct futtockfig_page_result {
     uint32_t code; /* 0, 105, 107, 108 or 109 */
