@@ -9,6 +9,7 @@
 #ifndef BY_HAND_RUN
 #define BY_HAND_RUN by_hand_run
 #define BY_HAND_PART by_hand_part
+#define BY_HAND_PAGE by_hand_page
 #endif
 
 typedef uint32_t u32;
@@ -679,4 +680,44 @@ struct futtockfig_span BY_HAND_PART(const u32 *words, size_t words_len, u32 part
         span.len = words[2 + part] - span.offset;
     }
     return span;
+}
+
+/* A number in the columns before end, with spaces before it. */
+static void column(uint8_t *end, int width, u32 n) {
+    do {
+        *--end = (uint8_t)('0' + n % 10);
+        n /= 10;
+        width--;
+    } while (n);
+    memset(end - width, ' ', (size_t)width);
+}
+
+static void row(uint8_t *out, const u32 *e) {
+    static const char *const words[] = {"     -", "silent"};
+    memset(out, ' ', FUTTOCKFIG_PAGE_ROW - 1);
+    column(out + 4, 4, e[0]);
+    column(out + 9, 4, e[1]);
+    column(out + 14, 4, e[2]);
+    column(out + 17, 2, e[3]);
+    if (e[4] < 2) memcpy(out + 18, words[e[4]], 6);
+    else column(out + 24, 6, e[5]);
+    out[24] = '\n';
+}
+
+struct futtockfig_page_result BY_HAND_PAGE(const u32 *words, size_t words_len, uint8_t *page, size_t page_len) {
+    struct futtockfig_page_result r = {0, 0};
+    struct bad bad = check(words, words_len, FUTTOCKFIG_MOST_VERTICES, FUTTOCKFIG_MOST_EDGES, FUTTOCKFIG_MOST_TYPES);
+    if (bad.code) {
+        r.code = bad.code;
+        r.bytes = bad.at;
+        return r;
+    }
+    size_t bytes = FUTTOCKFIG_PAGE_ROW * (size_t)words[1];
+    if (page_len < bytes) {
+        r.code = FUTTOCKFIG_SHORT_PAGE;
+        return r;
+    }
+    const u32 *e = words + words[3];
+    for (; r.bytes < bytes; r.bytes += FUTTOCKFIG_PAGE_ROW, e += 6) row(page + r.bytes, e);
+    return r;
 }

@@ -34,7 +34,7 @@ extern "C" {
 #endif
 
 /* What a caller sees; raised with every change to it (docs/CHANGES.md). */
-#define FUTTOCKFIG_VERSION 7
+#define FUTTOCKFIG_VERSION 8
 
 /* Words a row in each table, and the most rows that a table may have. The fewest is 1. */
 #define FUTTOCKFIG_VERTEX_WORDS 8
@@ -48,6 +48,9 @@ extern "C" {
 /* Words a call and words an answer. */
 #define FUTTOCKFIG_CALL_WORDS 5
 #define FUTTOCKFIG_ANSWER_WORDS 2
+
+/* Bytes a row of a page. */
+#define FUTTOCKFIG_PAGE_ROW 25
 
 /* Words of the image of a graph with this many vertices and edges; with the capacities, what `image` must have. */
 #define FUTTOCKFIG_IMAGE_WORDS(vertices, edges) ((size_t)6 + (size_t)3 * (vertices) + (size_t)8 * (edges))
@@ -148,7 +151,9 @@ enum futtockfig_code {
                                           counts; a count above its capacity; edges and no vertex */
     FUTTOCKFIG_SHORT_IMAGE = 106,      /* image_len is under 6 + 3 * vertex capacity + 8 * edge capacity */
     FUTTOCKFIG_BAD_RECORD = 108,       /* start: a vertex or edge record is bad; done is where */
-    FUTTOCKFIG_BAD_INCIDENCE = 109     /* start: all records are good, a list is bad; done is where */
+    FUTTOCKFIG_BAD_INCIDENCE = 109,    /* start: all records are good, a list is bad; done is where */
+    /* Of a page, beside 105, 108 and 109 of its words. */
+    FUTTOCKFIG_SHORT_PAGE = 107        /* page_len is under 25 an edge */
 };
 
 /*
@@ -223,6 +228,32 @@ struct futtockfig_span {
  * The pointer must not be NULL, also where words_len is 0.
  */
 struct futtockfig_span futtockfig_part(const uint32_t *words, size_t words_len, uint32_t part);
+
+/*
+ * A PAGE
+ *   An image's edges for reading on paper: for every edge, in Eseq order, a row of 25 bytes. Its number, alpha and omega
+ *   have 4 columns each, its type has 2, its reading 6. A column is filled from the right, with spaces before the text
+ *   and no leading zeros; one space stands between columns and one newline at the row's end. A reading is a hyphen for
+ *   untested, the word silent, or the decimetres. Two images that give the same page have the same edges, in the same
+ *   order.
+ */
+struct futtockfig_page_result {
+    uint32_t code; /* 0, 105, 107, 108 or 109 */
+    size_t bytes;  /* bytes of page that are the rows; with 108 and 109 an offset in words, with any other code 0 */
+};
+
+/*
+ * Writes the page of an image. The words may be an image with up to 1,000 vertices, 4,000 edges and 64 types; all others
+ * get 105, 108 or 109, whatever the page: as a start does in a run with such capacities and types, and with 108 and 109
+ * bytes is the offset of the first bad word. The same words may be bad at another place in a run, or not at all. Then a
+ * page that is too short for the rows gets FUTTOCKFIG_SHORT_PAGE.
+ * With a code no byte of the page is written; else bytes behind the rows stay as they were. Nothing is added behind the
+ * last newline, so a page is no C string. No edges are no bytes, and code 0, also where page_len is 0.
+ *
+ * The pointers must not be NULL, also where a length is 0; words is aligned for its type, page does not overlap it, and
+ * no other thread touches either during the call. The stack has some 64 KB left.
+ */
+struct futtockfig_page_result futtockfig_page(const uint32_t *words, size_t words_len, uint8_t *page, size_t page_len);
 
 #ifdef __cplusplus
 }

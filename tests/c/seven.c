@@ -1,4 +1,4 @@
-/* Seven (REFERENCE 15.1) through the C header: answers, image and parts are compared with worked ones. */
+/* Seven (REFERENCE 15.1) through the C header: answers, image, parts and page are compared with worked ones. */
 #include "../../include/futtockfig.h"
 
 #include <stdio.h>
@@ -126,6 +126,38 @@ int main(void) {
         expect("length of part of one vertex", part, span.len, lone_parts[part][1]);
         expect("offset of part of one vertex", part, span.offset, lone_parts[part][0]);
     }
-    if (!wrong) printf("seven: %d calls through the C header, as worked out\n", CALLS);
+
+    /* The page of the image: each edge in a row, and a byte behind the rows that stays. */
+    static const char rows_of_seven[] =
+        "   1    1    1  0      -\n   2    1    2  0      -\n   3    1    2  0      -\n   4    2    1  0      -\n"
+        "   5    4    1  0      -\n   6    4    2  0      -\n   7    4    4  0      -\n";
+    enum { ROWS = 7 * FUTTOCKFIG_PAGE_ROW };
+    uint8_t page[ROWS + 1];
+    memset(page, '#', sizeof page);
+    struct futtockfig_page_result p = futtockfig_page(image, r.words - 1, page, 0);
+    expect("code of a page, one word short,", 0, p.code, FUTTOCKFIG_BAD_START);
+    uint32_t number = image[9];
+    image[9] = image[6];
+    p = futtockfig_page(image, r.words, page, 0);
+    expect("code of a page, a vertex twice,", 0, p.code, FUTTOCKFIG_BAD_RECORD);
+    expect("bytes of a page, a vertex twice,", 0, p.bytes, 9);
+    image[9] = number;
+    number = image[73];
+    image[73] = image[72];
+    p = futtockfig_page(image, r.words, page, 0);
+    expect("code of a page, an incidence twice,", 0, p.code, FUTTOCKFIG_BAD_INCIDENCE);
+    expect("bytes of a page, an incidence twice,", 0, p.bytes, 73);
+    image[73] = number;
+    p = futtockfig_page(image, r.words, page, ROWS - 1);
+    expect("code of a page, one byte short,", 0, p.code, FUTTOCKFIG_SHORT_PAGE);
+    expect("bytes of a page, one byte short,", 0, p.bytes, 0);
+    for (size_t i = 0; i < sizeof page; i++) expect("page byte", i, page[i], '#');
+    p = futtockfig_page(image, r.words, page, sizeof page);
+    expect("code of a page", 0, p.code, FUTTOCKFIG_OK);
+    expect("bytes of a page", 0, p.bytes, ROWS);
+    for (size_t i = 0; i < ROWS; i++) expect("page byte", i, page[i], (uint8_t)rows_of_seven[i]);
+    expect("page byte beyond", ROWS, page[ROWS], '#');
+
+    if (!wrong) printf("seven: %d calls and a page through the C header, as worked out\n", CALLS);
     return wrong;
 }

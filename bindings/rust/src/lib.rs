@@ -1,8 +1,9 @@
 //! Futtockfig: an ordered graph with history and marks, kept in tables that the caller lends.
 //!
 //! A list of calls is run by [`run`]; each call is five words and is answered by two, a code and a number. The graph
-//! goes in and out as an image, whose parts [`part`] and [`span`] find. `include/futtockfig.h` describes the graph, every kind of
-//! call ([`kind`] has their numbers), every code and the words of an image.
+//! goes in and out as an image, whose parts [`part`] and [`span`] find and whose edges [`page`] puts on paper.
+//! `include/futtockfig.h` describes the graph, every kind of call ([`kind`] has their numbers), every code, the words of an
+//! image and a page.
 //!
 //! The crate links `libfuttockfig.a`, from the folder that the environment variable `FUTTOCKFIG_LIB_DIR` names when it
 //! is built, else from `target/staticlib` of the repository. It allocates nothing and needs no standard library.
@@ -32,10 +33,10 @@ pub mod raw;
 
 use core::fmt;
 use core::ops::Range;
-use raw::{futtockfig_part, futtockfig_run};
+use raw::{futtockfig_page, futtockfig_part, futtockfig_run};
 
 /// The version of what a caller sees, that of `include/futtockfig.h`.
-pub const VERSION: u32 = 7;
+pub const VERSION: u32 = 8;
 
 /// Kind, a, b, c, d.
 pub type Call = [u32; 5];
@@ -49,6 +50,9 @@ pub const VERTEX_WORDS: usize = 8;
 pub const EDGE_WORDS: usize = 12;
 /// Words of a row of the journal.
 pub const CHANGE_WORDS: usize = 12;
+
+/// Bytes of a row of a page.
+pub const PAGE_ROW: usize = 25;
 
 /// Words of an image with this many vertices and edges. With the capacities: what [`Lent::image`] needs.
 pub const fn image_words(vertices: usize, edges: usize) -> usize {
@@ -130,7 +134,7 @@ pub struct Done<'a> {
     pub image: &'a [u32],
 }
 
-/// Why a whole list was refused. Nothing was written.
+/// Why a whole list or a page was refused. Nothing was written.
 #[derive(Clone, Copy, Debug, PartialEq, Eq)]
 pub enum Refused {
     /// 101: the words of the calls are no multiple of five.
@@ -141,13 +145,16 @@ pub enum Refused {
     Capacity,
     /// 104: no type row, over 64, or a bit set that names no type.
     Rows,
-    /// 105: the header of the start is not sound, a count is above its capacity, or there are edges and no vertex.
+    /// 105: the header of the start, or of what is to be a page, is not sound, a count is above its capacity, or there are
+    /// edges and no vertex.
     Start,
     /// 106: too few words for the image.
     Image,
-    /// 108: a vertex or edge record of the start is bad; the offset of the first bad word, from 0.
+    /// 107: too few bytes for the page.
+    Page,
+    /// 108: a vertex or edge record of the start, or of what is to be a page, is bad; the offset of the first bad word, from 0.
     Record(usize),
-    /// 109: the records of the start are good and a list is bad; the offset of the first bad word, from 0.
+    /// 109: the records are good and a list is bad; the offset of the first bad word, from 0.
     Incidence(usize),
     /// A code that the header does not name.
     Other(u32),
@@ -163,13 +170,14 @@ impl Refused {
             Refused::Rows => 104,
             Refused::Start => 105,
             Refused::Image => 106,
+            Refused::Page => 107,
             Refused::Record(_) => 108,
             Refused::Incidence(_) => 109,
             Refused::Other(code) => code,
         }
     }
 
-    /// The offset in the start of its first bad word, where the code names one.
+    /// The offset of the first bad word in the start, or in what is to be a page, where the code names one.
     pub fn offset(self) -> Option<usize> {
         match self {
             Refused::Record(at) | Refused::Incidence(at) => Some(at),
@@ -185,6 +193,7 @@ impl Refused {
             104 => Refused::Rows,
             105 => Refused::Start,
             106 => Refused::Image,
+            107 => Refused::Page,
             108 => Refused::Record(number),
             109 => Refused::Incidence(number),
             _ => Refused::Other(code),
@@ -199,13 +208,14 @@ impl fmt::Display for Refused {
             Refused::Answers => "answers have under two words a call",
             Refused::Capacity => "a capacity is out of range",
             Refused::Rows => "the type rows are not 1 to 64 rows of bits below their number",
-            Refused::Start => "the start has no sound header within the capacities",
+            Refused::Start => "the words have no sound header within the capacities",
             Refused::Image => "the image has too few words for the capacities",
-            Refused::Record(_) => "a record of the start is bad",
-            Refused::Incidence(_) => "a list of the start is bad",
+            Refused::Page => "the page has under 25 bytes an edge",
+            Refused::Record(_) => "a record is bad",
+            Refused::Incidence(_) => "a list is bad",
             Refused::Other(_) => "unknown code",
         };
-        write!(f, "list refused, code {}: {why}", self.code())?;
+        write!(f, "refused, code {}: {why}", self.code())?;
         self.offset().map_or(Ok(()), |at| write!(f, " at word {at}"))
     }
 }
@@ -275,4 +285,25 @@ pub fn span(words: &[u32], which: Part) -> Option<Range<usize>> {
 /// That part of the caller's own words; empty where the header is not sound.
 pub fn part(words: &[u32], which: Part) -> &[u32] {
     &words[span(words, which).unwrap_or(0..0)]
+}
+
+/// The edges of an image on paper: one row of [`PAGE_ROW`] bytes each, in Eseq order, at the front of `page`.
+///
+/// The words may be an image with up to 1,000 vertices, 4,000 edges and 64 types; all others are refused with
+/// [`Refused::Start`], [`Refused::Record`] or [`Refused::Incidence`] before the length of `page` is looked at, as a start
+/// is in a run with such capacities and types. The result is the rows; bytes behind them stay. Each ends with a newline
+/// and nothing is added behind the last: a page is no C string.
+///
+/// ```
+/// let words = [2, 1, 6, 12, 18, 20, 1, 0, 7, 2, 0, 9, 1, 1, 2, 0, 2, 450, 2, 3];
+/// assert_eq!(futtockfig::page(&words, &mut [0; 25]), Ok(b"   1    1    2  0    450\n".as_slice()));
+/// ```
+pub fn page<'a>(words: &[u32], page: &'a mut [u8]) -> Result<&'a [u8], Refused> {
+    // SAFETY: each pointer and length is that of a slice, and the page is borrowed mutably, so it overlaps no word.
+    // The function keeps no pointer.
+    let result = unsafe { futtockfig_page(words.as_ptr(), words.len(), page.as_mut_ptr(), page.len()) };
+    match result.code {
+        0 => Ok(&page[..result.bytes]),
+        code => Err(Refused::of(code, result.bytes)),
+    }
 }

@@ -14,6 +14,12 @@ pub struct Span {
     pub len: usize,
 }
 
+#[repr(C)]
+pub struct PageResult {
+    pub code: u32,
+    pub bytes: usize,
+}
+
 extern "C" {
     pub fn futtockfig_run(
         start: *const u32,
@@ -34,4 +40,5 @@ extern "C" {
         image_len: usize,
     ) -> RunResult;
     pub fn futtockfig_part(words: *const u32, words_len: usize, part: u32) -> Span;
+    pub fn futtockfig_page(words: *const u32, words_len: usize, page: *mut u8, page_len: usize) -> PageResult;
 }

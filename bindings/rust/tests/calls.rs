@@ -1,6 +1,6 @@
 //! Examples of docs/REFERENCE.md through the safe functions.
 
-use futtockfig::{answers, image_words, kind, part, run, span, Done, Lent, Part, Refused, EMPTY};
+use futtockfig::{answers, image_words, kind, page, part, run, span, Done, Lent, Part, Refused, EMPTY, PAGE_ROW};
 
 /// Runs calls with capacities 10, 10, 20 and one type, in lent words that are full of junk.
 fn with<T>(calls: &[u32], start: &[u32], then: impl FnOnce(Result<Done, Refused>) -> T) -> T {
@@ -58,7 +58,7 @@ fn grades_by_both_price_lists() {
 fn lists_refused() {
     with(&[0; 6], &EMPTY, |done| assert_eq!(done, Err(Refused::Calls)));
     with(&[], &[0, 0, 6, 6, 6, 7], |done| assert_eq!(done, Err(Refused::Start)));
-    with(&[], &[], |done| assert_eq!(done.unwrap_err().to_string(), "list refused, code 105: the start has no sound header within the capacities"));
+    with(&[], &[], |done| assert_eq!(done.unwrap_err().to_string(), "refused, code 105: the words have no sound header within the capacities"));
     let damaged = |at: usize, word: u32| {
         let mut start = seven();
         start[at] = word;
@@ -68,7 +68,7 @@ fn lists_refused() {
     assert_eq!(damaged(9, 1), Refused::Record(9));
     assert_eq!(damaged(20, 5), Refused::Record(20));
     assert_eq!(damaged(61, 2), Refused::Incidence(61));
-    assert_eq!(damaged(61, 2).to_string(), "list refused, code 109: a list of the start is bad at word 61");
+    assert_eq!(damaged(61, 2).to_string(), "refused, code 109: a list is bad at word 61");
     assert_eq!((damaged(9, 1).code(), damaged(9, 1).offset(), damaged(0, 9).offset()), (108, Some(9), None));
     with(&[], &EMPTY, |done| assert_eq!(done, Ok(Done { answers: &[], image: &EMPTY })));
 }
@@ -84,4 +84,28 @@ fn empty_slices() {
 fn version_of_the_header() {
     let header = include_str!("../../../include/futtockfig.h");
     assert!(header.contains(&format!("#define FUTTOCKFIG_VERSION {}\n", futtockfig::VERSION)));
+}
+
+#[test]
+fn pages() {
+    let image = seven();
+    let mut bytes = [b'#'; 7 * PAGE_ROW + 2];
+    let rows = page(&image, &mut bytes).unwrap();
+    assert_eq!(rows.len(), 7 * PAGE_ROW);
+    assert!(rows.starts_with(b"   1    1    1  0      -\n   2    1    2  0      -\n"));
+    assert!(rows.ends_with(b"   7    4    4  0      -\n"));
+    assert_eq!(bytes[7 * PAGE_ROW..], *b"##");
+
+    let mut short = [b'#'; 7 * PAGE_ROW - 1];
+    assert_eq!(page(&image, &mut short), Err(Refused::Page));
+    assert_eq!(page(&image[1..], &mut short), Err(Refused::Start));
+    assert_eq!(short, [b'#'; 7 * PAGE_ROW - 1]);
+    assert_eq!(page(&[], &mut []), Err(Refused::Start));
+    let mut damaged = seven();
+    damaged[9] = 1;
+    assert_eq!(page(&damaged, &mut []), Err(Refused::Record(9)));
+    damaged[9] = image[9];
+    damaged[73] = damaged[72];
+    assert_eq!(page(&damaged, &mut []), Err(Refused::Incidence(73)));
+    assert_eq!(page(&EMPTY, &mut []), Ok([].as_slice()));
 }

@@ -1,12 +1,15 @@
-// The run and the parts of an image for programs in C and Rust: include/futtockfig.h says the same in C.
+// The run, the parts of an image and the page for programs in C and Rust: include/futtockfig.h says the same in C.
 use engine::run::Outcome;
 use engine::run::run;
+use page::Printed;
+use page::print;
 ghost use mathlib.Core.Path.{_≡_};
 ghost use lib.ListN.{length};
 ghost use Rattle.machine.specs.Run.{run as runOf};
 ghost use Rattle.image.specs.Image.{part as partOf};
 ghost use Rattle.image.specs.Parts.{partStart};
 ghost use Rattle.engine.specs.Outcomes.{given, left, Untouched, MeetsDemand3};
+ghost use Rattle.page.specs.Page.{pageOf, printed};
 
 // A slice is a pointer and a length.
 #[no_mangle]
@@ -45,4 +48,12 @@ pub extern "C" fn futtockfig_part(words: &[u32], part: u32) -> Span
         offset,
         len: image::part(words, part).len(),
     }
+}
+
+// The page of an image.
+#[no_mangle]
+pub extern "C" fn futtockfig_page(words: &[u32], page: &mut [u8]) -> Printed
+    ensures { λ r. ⌜ printed r (now (page .exit)) ≡ pageOf (now (words .entry)) (now (page .entry)) ⌝ }
+{
+    print(words, page)
 }

@@ -77,7 +77,8 @@ module _ (b : Bounds) (u : InRange b) (g : Graph) (h : wellFormed b g ≡ true) 
       all-counted (v .incidences)
       (λ n c. counted-all (words-of (v .number) (g .eseq) (formed b g h .edges-sound)) n (omega (arith, vertex-facts b g v s .words n)))
 
-  vertex-known : (n : ℕ) → hasVertex g n ≡ true → n ≤ 1000
+  -- an end of an edge is a vertex, and so at most 1,000
+  pub vertex-known : (n : ℕ) → hasVertex g n ≡ true → n ≤ 1000
   vertex-known n e = go (g .vseq) (formed b g h .vertices-sound) e
     where
       go : (vs : List Vertex) → all (soundVertex b g) vs ≡ true → any (isVertex n) vs ≡ true → n ≤ 1000

@@ -64,7 +64,15 @@ pub fn create_edge(
 }
 
 // Kind 4.
-pub fn delete_edge(h: Head, vt: &mut [u32], et: &mut [u32], t: &mut [u32], i: u32, free: u32, n: u32) -> Made
+pub fn delete_edge(
+    h: Head,
+    vt: &mut [u32],
+    et: &mut [u32],
+    t: &mut [u32],
+    i: u32,
+    free: u32,
+    n: u32,
+) -> Made
     requires { ⌜ Ready (Change.DeleteEdge n) (st h (now vt) (now et)) × ((free ≡ 0 → ⊥) → 12 * i + 12 ≤ length (now t)) ⌝ }
     ensures { λ r. ⌜ Tries (planS (Change.DeleteEdge n) (st h (now (vt .entry)) (now (et .entry)))) i free (st h (now (vt .entry)) (now (et .entry))) (now (t .entry)) (r .code) (r .cost) (st (r .head) (now (vt .exit)) (now (et .exit))) (now (t .exit)) ⌝ }
 {

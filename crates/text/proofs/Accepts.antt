@@ -39,7 +39,7 @@ module _ (s : ℕ) where
   joined-pieces p f done = pieces-rest s f
   joined-pieces p f (more {x = q} {xs = qs} g h) = pieces-cut s f (joined s (q ∷ qs)) ∙ ap (λ (ls : List (List ℕ)). p ∷ ls) (joined-pieces q g h)
 
-no-space : (p : List ℕ) → goodNumber p ≡ true → Free 32 p
+pub no-space : (p : List ℕ) → goodNumber p ≡ true → Free 32 p
 no-space p e = all-bool digit (λ x f. ne-eqb x 32 (λ z. omega (arith, leb-true 48 x (and-true _ _ f .0)))) p (good-digits p e)
 
 pub line-numbers : (l : List ℕ) → goodLine l ≡ true → Five l (pieces 32 l)

@@ -2,8 +2,10 @@
 use mathlib.Core.Path.{_≡_, refl}
 use mathlib.Core.List.{List, [], _∷_, _++_}
 use Prim.Native.Nat.{ℕ}
-use Rattle.text.specs.Reading.{calls, unreadable, pieces, onFirst, valueOf, goodNumber, goodLine, lineCount, firstBad, wordsIn, readText}
-use Rattle.text.specs.Writing.{digits, spaced, lineOf, answerLine, answerLines, writeText, unreadableText}
+use Rattle.decimal.specs.Decimal.{valueOf}
+use Rattle.text.specs.Reading.{calls, unreadable, pieces, onFirst, goodNumber, goodLine, lineCount, firstBad, wordsIn, readText}
+use Rattle.decimal.specs.Decimal.{digits}
+use Rattle.text.specs.Writing.{spaced, lineOf, answerLine, answerLines, writeText, unreadableText}
 
 -- "8 1 2 450 0"
 abbrev pub lineBytes : List ℕ

@@ -1,4 +1,3 @@
-pub mod Stores
 pub mod Walks
 pub mod Pieces
 pub mod Numbers
@@ -8,3 +7,6 @@ pub mod Verdicts
 pub mod Texts
 pub mod Accepts
 pub mod Examples
+pub mod Fields
+pub mod ImageLines
+pub mod ImageLineBack

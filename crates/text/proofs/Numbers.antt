@@ -10,7 +10,8 @@ use borrow.Author.Tests.{lt-ltb, le-ltb, ltb-true, ltb-false, leb-true, eqb-true
 use Rattle.lists.specs.Choice.{_⇒_else_, _==_}
 use Rattle.lists.specs.Lists.{all}
 use Rattle.lists.proofs.Bools.{and-true, ft, and-false}
-use Rattle.text.specs.Reading.{digit, valueOf, goodNumber}
+use Rattle.decimal.specs.Decimal.{valueOf}
+use Rattle.text.specs.Reading.{digit, goodNumber}
 use Rattle.text.specs.declared.reading.Number.{Number}
 use Rattle.text.specs.declared.reading.Number.the-variants.{Empty, Value, Bad}
 use Rattle.text.specs.Scan.{run, moreDigit, addDigit, digitIn, isValue}

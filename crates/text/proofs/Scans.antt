@@ -9,7 +9,8 @@ use borrow.Author.Tests.{leb-true, eqb-true, ne-eqb}
 use Rattle.lists.specs.Choice.{_⇒_else_, _==_}
 use Rattle.lists.specs.Lists.{all, done, more}
 use Rattle.lists.proofs.Bools.{ft, and-true}
-use Rattle.text.specs.Reading.{digit, pieces, valueOf, goodNumber, goodLine, lineCount, firstBad, wordsIn}
+use Rattle.decimal.specs.Decimal.{valueOf}
+use Rattle.text.specs.Reading.{digit, pieces, goodNumber, goodLine, lineCount, firstBad, wordsIn}
 use Rattle.text.specs.declared.reading.Number.{Number}
 use Rattle.text.specs.declared.reading.Number.the-variants.{Empty}
 use Rattle.text.specs.declared.reading.Line.{Line}
@@ -114,7 +115,7 @@ number-words : (p : List ℕ) (s : ℕ) → ends s ≡ true → goodNumber p ≡
 unfolding wordsFrom wordAt numberAfter
 number-words p s h e xs = digits-words p (good-digits p e) Empty (s ∷ xs) ∙ ap (λ (n : Number). wordsFrom n (s ∷ xs)) (number-value p e) ∙ rw h
 
-line-words : {l : List ℕ} → Parts 32 l → all goodNumber (pieces 32 l) ≡ true → (xs : List ℕ) → wordsFrom Empty (l ++ 10 ∷ xs) ≡ map (valueOf 0) (pieces 32 l) ++ wordsFrom Empty xs
+pub line-words : {l : List ℕ} → Parts 32 l → all goodNumber (pieces 32 l) ≡ true → (xs : List ℕ) → wordsFrom Empty (l ++ 10 ∷ xs) ≡ map (valueOf 0) (pieces 32 l) ++ wordsFrom Empty xs
 line-words (rest {p = p} f) e xs =
     let g = and-true (goodNumber p) true (ap (all goodNumber) (sym (pieces-rest 32 f)) ∙ e) in
     rw (pieces-rest 32 f) (number-words p 10 refl (g .0) xs)

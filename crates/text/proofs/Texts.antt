@@ -1,67 +1,41 @@
 -- The texts that are written, part by part, and their lengths.
-use Prim.Native.Nat.{ℕ, zero, suc, _+_, _*_, _/_, _%_, _^_, _≤_, _<_}
+use Prim.Native.Nat.{ℕ, _+_, _*_, _≤_, _<_}
 use mathlib.Core.Path.{_≡_, refl, sym, ap, _∙_}
 use mathlib.Core.Bool.{Bool, true, false}
 use mathlib.Core.List.{List, [], _∷_, _++_, append-nil}
 use native.Mathlib.Omega.{arith}
-use native.Mathlib.Numerals.{unary-clauses}
 use lib.ListN.{length, getD, drop, length-append, drop-of-length-le, length-drop}
-use lib.Dec.{ltb}
-use borrow.Author.Tests.{lt-ltb, le-ltb, eq-eqb, ne-eqb}
+use borrow.Author.Tests.{eq-eqb, ne-eqb}
 use Rattle.lists.specs.Choice.{_⇒_else_, _==_}
 use Rattle.lists.specs.Lists.{each}
-use Rattle.text.specs.Writing.{digits, spaced, imageWord, unreadableWord, doneWord, refusedWord, lineOf, answerLine, answerLines, writeText, unreadableText}
-use Rattle.text.proofs.Walks.{one-drop}
+use Rattle.text.specs.Writing.{spaced, imageWord, unreadableWord, doneWord, refusedWord, lineOf, answerLine, answerLines, writeText, unreadableText}
+use Rattle.decimal.proofs.Digits.{digits-most}
+use Rattle.decimal.proofs.Stores.{one-drop}
 
--- ---- the digits of a number
-
-pub one-digit : (n : ℕ) → n < 10 → digits 10 n ≡ (48 + n) ∷ []
-unfolding digits
-one-digit n h = rw (lt-ltb n 10 h)
-
--- one more than enough changes nothing
-enough : (f n : ℕ) → n < 10 ^ suc f → digits (suc f) n ≡ digits (suc (suc f)) n
-unfolding digits
-enough zero n h = rw (lt-ltb n 10 h)
-enough (suc f) n h = go (enough f (n / 10)) (ltb n 10) refl
-  where
-    go : (n / 10 < 10 ^ suc f → digits (suc f) (n / 10) ≡ digits (suc (suc f)) (n / 10)) → (t : Bool) → ltb n 10 ≡ t →
-        (t ⇒ ((48 + n) ∷ []) else (digits (suc f) (n / 10) ++ ((48 + n % 10) ∷ []))) ≡ (t ⇒ ((48 + n) ∷ []) else (digits (suc (suc f)) (n / 10) ++ ((48 + n % 10) ∷ [])))
-    go ih true e = refl
-    go ih false e = ap (λ (l : List ℕ). l ++ ((48 + n % 10) ∷ [])) (ih (omega (arith, simp unary-clauses at h)))
-
-pub more-digits : (n : ℕ) → 10 ≤ n → n < 2 ^ 32 → digits 10 n ≡ digits 10 (n / 10) ++ ((48 + n % 10) ∷ [])
-unfolding digits
-more-digits n h k = rw (le-ltb n 10 h) (ap (λ (l : List ℕ). l ++ ((48 + n % 10) ∷ [])) (enough 8 (n / 10) (omega arith)))
-
-pub more-length : (n : ℕ) → 10 ≤ n → n < 2 ^ 32 → length (digits 10 n) ≡ length (digits 10 (n / 10)) + 1
-more-length n h k = simp length-append at (ap length (more-digits n h k))
-
-digits-most : (f n : ℕ) → length (digits f n) ≤ f
-unfolding digits
-digits-most zero n = omega arith
-digits-most (suc f) n = go (digits-most f (n / 10)) (ltb n 10)
-  where
-    go : length (digits f (n / 10)) ≤ f → (t : Bool) → length (t ⇒ ((48 + n) ∷ []) else (digits f (n / 10) ++ ((48 + n % 10) ∷ []))) ≤ suc f
-    go ih true = omega arith
-    go ih false = omega (arith, length-append (digits f (n / 10)) ((48 + n % 10) ∷ []))
-
-spaced-most : (n : ℕ) → length (spaced n) ≤ 11
+pub spaced-most : (n : ℕ) → length (spaced n) ≤ 11
 unfolding spaced
 spaced-most n = omega (arith, digits-most 10 n)
 
+pub numbers-most : (ws : List ℕ) → length (each spaced ws) ≤ 11 * length ws
+numbers-most [] = omega arith
+numbers-most (w ∷ ws) = omega (arith, length-append (spaced w) (each spaced ws), spaced-most w, numbers-most ws)
+
 -- ---- lines
 
-pub line-parts : (word : List ℕ) (n : ℕ) → word ++ (spaced n ++ (10 ∷ [])) ≡ lineOf word (n ∷ [])
+pub line-parts : (word ns : List ℕ) → word ++ (each spaced ns ++ (10 ∷ [])) ≡ lineOf word ns
 unfolding lineOf
-line-parts word n = ap (λ (l : List ℕ). word ++ (l ++ (10 ∷ []))) (sym (append-nil (spaced n)))
+line-parts word ns = refl
 
-pub line-length : (word : List ℕ) (n : ℕ) → length (lineOf word (n ∷ [])) ≡ length word + length (spaced n) + 1
-line-length word n = ap length (sym (line-parts word n)) ∙ simp length-append (omega arith)
+pub line-length : (word ns : List ℕ) → length (lineOf word ns) ≡ length word + length (each spaced ns) + 1
+unfolding lineOf
+line-length word ns = simp length-append (omega arith)
+
+pub line-most : (word ns : List ℕ) → length (lineOf word ns) ≤ length word + 11 * length ns + 1
+line-most word ns = omega (arith, line-length word ns, numbers-most ns)
 
 pub unreadable-most : (n : ℕ) → length (unreadableText n) ≤ 22
 unfolding unreadableText
-unreadable-most n = omega (arith, line-length unreadableWord n, spaced-most n)
+unreadable-most n = omega (arith, line-most unreadableWord (n ∷ []))
 
 pub answer-done : (code number : ℕ) → code ≡ 0 → answerLine code number ≡ lineOf doneWord (number ∷ [])
 unfolding answerLine
@@ -76,8 +50,8 @@ unfolding answerLine
 answer-most code number = go (code == 0)
   where
     go : (t : Bool) → length (t ⇒ lineOf doneWord (number ∷ []) else lineOf refusedWord (code ∷ [])) ≤ 19
-    go true = omega (arith, line-length doneWord number, spaced-most number)
-    go false = omega (arith, line-length refusedWord code, spaced-most code)
+    go true = omega (arith, line-most doneWord (number ∷ []))
+    go false = omega (arith, line-most refusedWord (code ∷ []))
 
 pub answers-most : (ws : List ℕ) → length (answerLines ws) ≤ 10 * length ws
 unfolding answerLines
@@ -85,19 +59,13 @@ answers-most [] = omega arith
 answers-most (code ∷ []) = omega arith
 answers-most (code ∷ number ∷ ws) = omega (arith, length-append (answerLine code number) (answerLines ws), answer-most code number, answers-most ws)
 
-pub numbers-most : (ws : List ℕ) → length (each spaced ws) ≤ 11 * length ws
-numbers-most [] = omega arith
-numbers-most (w ∷ ws) = omega (arith, length-append (spaced w) (each spaced ws), spaced-most w, numbers-most ws)
-
-pub write-length : (answers image : List ℕ) → length (writeText answers image) ≡ length (answerLines answers) + 5 + length (each spaced image) + 1
-unfolding writeText lineOf
-write-length answers image = simp length-append (omega arith)
-
 pub write-most : (answers image : List ℕ) → length (writeText answers image) ≤ 10 * length answers + 11 * length image + 6
-write-most answers image = omega (arith, write-length answers image, answers-most answers, numbers-most image)
+unfolding writeText
+write-most answers image =
+    omega (arith, length-append (answerLines answers) (lineOf imageWord image), answers-most answers, line-most imageWord image)
 
-pub write-parts : (answers image : List ℕ) → answerLines answers ++ (imageWord ++ (each spaced image ++ (10 ∷ []))) ≡ writeText answers image
-unfolding writeText lineOf
+pub write-parts : (answers image : List ℕ) → answerLines answers ++ lineOf imageWord image ≡ writeText answers image
+unfolding writeText
 write-parts answers image = refl
 
 -- ---- turns of the loops

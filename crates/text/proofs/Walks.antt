@@ -1,20 +1,16 @@
 -- A walk over the bytes: one turn, and the end.
 use Prim.Native.Nat.{ℕ, _+_, _≤_, _<_}
-use mathlib.Core.Path.{_≡_, sym, ap, _∙_}
+use mathlib.Core.Path.{_≡_, ap, _∙_}
 use mathlib.Core.Bool.{Bool, true, false}
 use mathlib.Core.List.{List, [], _∷_, _++_}
 use native.Mathlib.Omega.{arith}
-use native.Mathlib.Numerals.{add-one}
 use lib.ListN.{length, getD, drop, length-append, drop-of-length-le}
-use lib.Seq.{drop-cons, sets}
+use lib.Seq.{sets}
 use Rattle.lists.specs.Choice.{_⇒_else_, _==_}
-use Rattle.text.proofs.Stores.{then}
+use Rattle.decimal.proofs.Stores.{then, one-drop}
 use Rattle.text.specs.declared.reading.Number.{Number}
 use Rattle.text.specs.declared.reading.Lines.{Lines}
 use Rattle.text.specs.Scan.{run, lineIn, byteIn, newlineIn, numberAfter, wordAt, wordsFrom}
-
-pub one-drop : (xs : List ℕ) (i : ℕ) → i < length xs → drop i xs ≡ getD xs i 0 ∷ drop (i + 1) xs
-one-drop xs i h = drop-cons xs i 0 h ∙ ap (λ (j : ℕ). getD xs i 0 ∷ drop j xs) (sym (add-one i))
 
 module _ {S : Type 0} (f : S → ℕ → S) (xs : List ℕ) (i : ℕ) where
   pub run-turn : (s t : S) → i < length xs → t ≡ f s (getD xs i 0) → run f t (drop (i + 1) xs) ≡ run f s (drop i xs)

@@ -1,12 +1,13 @@
 -- chartrun's input: REFERENCE 11.2 and 11.3.
 -- Bytes are numbers: the newline is 10, the space 32, the digits 48 to 57.
-use Prim.Native.Nat.{ℕ, _+_, _-_, _*_, _^_}
+use Prim.Native.Nat.{ℕ, _+_, _^_}
 use mathlib.Core.Bool.{Bool, false, not, _&&_, _||_}
 use mathlib.Core.List.{List, [], _∷_, _++_, map}
 use lib.ListN.{length}
 use lib.Dec.{ltb}
 use Rattle.lists.specs.Choice.{_⇒_else_, _==_, within}
 use Rattle.lists.specs.Lists.{all}
+use Rattle.decimal.specs.Decimal.{valueOf}
 use Rattle.text.specs.declared.reading.ReadVerdict.{ReadVerdict}
 use Rattle.text.specs.declared.reading.ReadVerdict.the-variants.{Calls, Unreadable}
 
@@ -24,11 +25,6 @@ unfoldable pub pieces : ℕ → List ℕ → List (List ℕ)
 unfolding onFirst
 pieces s [] = [] ∷ []
 pieces s (x ∷ xs) = (x == s) ⇒ ([] ∷ pieces s xs) else onFirst x (pieces s xs)
-
--- the number that digits stand for, where n stands before them
-unfoldable pub valueOf : ℕ → List ℕ → ℕ
-valueOf n [] = n
-valueOf n (x ∷ xs) = valueOf (10 * n + (x - 48)) xs
 
 abbrev pub digit : ℕ → Bool
 digit x = within 48 57 x

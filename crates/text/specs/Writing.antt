@@ -1,17 +1,9 @@
 -- chartrun's output: REFERENCE 11.3 and 11.4.
-use Prim.Native.Nat.{ℕ, zero, suc, _+_, _/_, _%_}
-use mathlib.Core.Path.{_≡_}
+use Prim.Native.Nat.{ℕ}
 use mathlib.Core.List.{List, [], _∷_, _++_}
-use lib.ListN.{length}
-use lib.Seq.{sets}
-use lib.Dec.{ltb}
 use Rattle.lists.specs.Choice.{_⇒_else_, _==_}
 use Rattle.lists.specs.Lists.{each}
-
--- the digits of n, which has at most so many
-unfoldable pub digits : ℕ → ℕ → List ℕ
-digits zero n = []
-digits (suc f) n = ltb n 10 ⇒ ((48 + n) ∷ []) else (digits f (n / 10) ++ ((48 + n % 10) ∷ []))
+use Rattle.decimal.specs.Decimal.{digits}
 
 -- a number with the space before it; a word has at most ten digits
 unfoldable pub spaced : ℕ → List ℕ
@@ -57,8 +49,3 @@ writeText answers image = answerLines answers ++ lineOf imageWord image
 unfoldable pub unreadableText : ℕ → List ℕ
 unfolding lineOf
 unreadableText n = lineOf unreadableWord (n ∷ [])
-
--- a text was stored at a place of a slice, and the place behind it is told
-pub record Stored (text : List ℕ) (at : ℕ) (out last : List ℕ) (next : ℕ) : Type 0 where
-  pub place : next ≡ at + length text
-  pub stores : last ≡ sets out at text

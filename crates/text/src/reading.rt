@@ -59,7 +59,7 @@ fn add_digit(n: Number, d: u32) -> Number
     }
 }
 
-fn digit_in(n: Number, b: u8) -> Number
+pub fn digit_in(n: Number, b: u8) -> Number
     ensures { λ r. ⌜ r ≡ digitIn n b ⌝ }
 {
     if b < 48 {
@@ -71,7 +71,7 @@ fn digit_in(n: Number, b: u8) -> Number
     add_digit(n, (b - 48) as u32)
 }
 
-fn is_value(n: Number) -> bool
+pub fn is_value(n: Number) -> bool
     ensures { λ r. ⌜ r ≡ isValue n ⌝ }
 {
     match n {
@@ -268,7 +268,7 @@ fn word_at(calls: &mut [u32], k: usize, n: Number, b: u8) -> usize
 }
 
 // The words of readable bytes.
-fn words(bytes: &[u8], calls: &mut [u32]) -> usize
+pub fn words(bytes: &[u8], calls: &mut [u32]) -> usize
     requires { ⌜ length (wordsFrom Number.Empty (now bytes)) ≤ length (now calls) ⌝ }
     ensures { λ r. ⌜ (r ≡ length (wordsFrom Number.Empty (now (bytes .entry)))) × (now (calls .exit) ≡ over (wordsFrom Number.Empty (now (bytes .entry))) (now (calls .entry))) ⌝ }
 {

@@ -1,10 +1,11 @@
 // From words to bytes. Each function writes a text at a place of out and returns the place behind it.
-ghost use mathlib.Core.Path.{_≡_};
-ghost use mathlib.Core.List.{[], _∷_};
 ghost use Prim.Native.Nat.{_+_, _*_, _≤_};
 ghost use lib.ListN.{length};
-ghost use Rattle.lists.specs.Lists.{each, over};
-ghost use Rattle.text.specs.Writing.{Stored, digits, spaced, lineOf, answerLine, answerLines, writeText, unreadableText};
+ghost use Rattle.lists.specs.Lists.{each};
+ghost use Rattle.decimal.specs.Stored.{Stored, Written};
+ghost use Rattle.decimal.specs.Decimal.{digits};
+ghost use Rattle.text.specs.Writing.{spaced, lineOf, answerLine, answerLines, writeText, unreadableText};
+use decimal::bytes;
 
 fn digits(out: &mut [u8], at: usize, n: u32) -> usize
     requires { ⌜ at + length (digits 10 n) ≤ length (now out) ⌝ }
@@ -27,25 +28,26 @@ fn spaced(out: &mut [u8], at: usize, n: u32) -> usize
     digits(out, at + 1, n)
 }
 
-fn bytes(out: &mut [u8], at: usize, word: &[u8]) -> usize
-    requires { ⌜ at + length (now word) ≤ length (now out) ⌝ }
-    ensures { λ r. ⌜ Stored (now (word .entry)) at (now (out .entry)) (now (out .exit)) r ⌝ }
+fn numbers(out: &mut [u8], at: usize, words: &[u32]) -> usize
+    requires { ⌜ at + length (each spaced (now words)) ≤ length (now out) ⌝ }
+    ensures { λ r. ⌜ Stored (each spaced (now (words .entry))) at (now (out .entry)) (now (out .exit)) r ⌝ }
 {
-    let mut i = 0;
-    while i < word.len() {
-        out[at + i] = word[i];
-        i += 1;
+    let mut p = at;
+    let mut k = 0;
+    while k < words.len() {
+        p = spaced(out, p, words[k]);
+        k += 1;
     }
-    at + i
+    p
 }
 
-// A word and one number.
-fn line(out: &mut [u8], at: usize, word: &[u8], n: u32) -> usize
-    requires { ⌜ at + length (lineOf (now word) (n ∷ [])) ≤ length (now out) ⌝ }
-    ensures { λ r. ⌜ Stored (lineOf (now (word .entry)) (n ∷ [])) at (now (out .entry)) (now (out .exit)) r ⌝ }
+// A word and its numbers.
+pub fn line(out: &mut [u8], at: usize, word: &[u8], ns: &[u32]) -> usize
+    requires { ⌜ at + length (lineOf (now word) (now ns)) ≤ length (now out) ⌝ }
+    ensures { λ r. ⌜ Stored (lineOf (now (word .entry)) (now (ns .entry))) at (now (out .entry)) (now (out .exit)) r ⌝ }
 {
     let p = bytes(out, at, word);
-    let q = spaced(out, p, n);
+    let q = numbers(out, p, ns);
     out[q] = 10;
     q + 1
 }
@@ -55,9 +57,9 @@ fn answer(out: &mut [u8], at: usize, code: u32, number: u32) -> usize
     ensures { λ r. ⌜ Stored (answerLine code number) at (now (out .entry)) (now (out .exit)) r ⌝ }
 {
     if code == 0 {
-        return line(out, at, b"done", number);
+        return line(out, at, b"done", &[number]);
     }
-    line(out, at, b"refused", code)
+    line(out, at, b"refused", &[code])
 }
 
 fn answers(out: &mut [u8], words: &[u32]) -> usize
@@ -73,36 +75,20 @@ fn answers(out: &mut [u8], words: &[u32]) -> usize
     at
 }
 
-fn numbers(out: &mut [u8], at: usize, words: &[u32]) -> usize
-    requires { ⌜ at + length (each spaced (now words)) ≤ length (now out) ⌝ }
-    ensures { λ r. ⌜ Stored (each spaced (now (words .entry))) at (now (out .entry)) (now (out .exit)) r ⌝ }
-{
-    let mut p = at;
-    let mut k = 0;
-    while k < words.len() {
-        p = spaced(out, p, words[k]);
-        k += 1;
-    }
-    p
-}
-
-// The lines of the answers, code and number in turn, and the line of the image. The result is their number of bytes; what stood behind them stays.
+// The lines of the answers, code and number in turn, and the line of the image.
 // A line of an answer has at most 19 bytes, and a number of the image with its space 11.
 pub fn write(codes: &[u32], image: &[u32], out: &mut [u8]) -> usize
     requires { ⌜ 10 * length (now codes) + 11 * length (now image) + 6 ≤ length (now out) ⌝ }
-    ensures { λ r. ⌜ (r ≡ length (writeText (now (codes .entry)) (now (image .entry)))) × (now (out .exit) ≡ over (writeText (now (codes .entry)) (now (image .entry))) (now (out .entry))) ⌝ }
+    ensures { λ r. ⌜ Written (writeText (now (codes .entry)) (now (image .entry))) r (now (out .entry)) (now (out .exit)) ⌝ }
 {
     let p = answers(out, codes);
-    let q = bytes(out, p, b"image");
-    let r = numbers(out, q, image);
-    out[r] = 10;
-    r + 1
+    line(out, p, b"image", image)
 }
 
 // The line of unreadable input.
 pub fn write_unreadable(n: u32, out: &mut [u8]) -> usize
     requires { ⌜ 22 ≤ length (now out) ⌝ }
-    ensures { λ r. ⌜ (r ≡ length (unreadableText n)) × (now (out .exit) ≡ over (unreadableText n) (now (out .entry))) ⌝ }
+    ensures { λ r. ⌜ Written (unreadableText n) r (now (out .entry)) (now (out .exit)) ⌝ }
 {
-    line(out, 0, b"unreadable", n)
+    line(out, 0, b"unreadable", &[n])
 }

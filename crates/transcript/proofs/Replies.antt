@@ -1,10 +1,9 @@
 -- The list that chartrun runs is never refused, and what the run leaves is what the reply shows.
 use Prim.Native.Nat.{ℕ, _*_, _/_, _%_, _≤_}
-use mathlib.Core.Path.{_≡_, sym, ap, subst, _∙_}
+use mathlib.Core.Path.{_≡_, sym, ap, _∙_}
 use mathlib.Core.List.{List, [], _∷_}
 use native.Mathlib.Omega.{arith}
-use lib.ListN.{length, length-append, take, drop}
-use store.Seg.{take-pre}
+use lib.ListN.{length, take}
 use borrow.Author.Tests.{le-ltb}
 use Rattle.lists.specs.Lists.{over}
 use Rattle.image.specs.Image.{load, save}
@@ -13,6 +12,7 @@ use Rattle.commands.specs.Calls.{callsOf}
 use Rattle.machine.specs.Machine.{answers, last}
 use Rattle.machine.specs.Run.{Lent, RunResult, listRefusal, run, answerWords}
 use Rattle.machine.proofs.Whole.{demand-3, answers-length}
+use Rattle.decimal.proofs.Stores.{over-front, over-fits}
 use Rattle.text.specs.declared.reading.ReadVerdict.{ReadVerdict}
 use Rattle.text.specs.declared.reading.ReadVerdict.the-variants.{Calls, Unreadable}
 use Rattle.text.specs.Reading.{readText, wordsOf, answered}
@@ -21,7 +21,7 @@ use Rattle.text.proofs.Verdicts.{told-calls, told-unreadable}
 use Rattle.text.proofs.Accepts.{five-a-line, words-most}
 use Rattle.engine.specs.declared.run.Outcome.{Outcome}
 use Rattle.engine.specs.Outcomes.{runResult}
-use Rattle.transcript.specs.Transcript.{parameters, begin, reply, replyTo, transcript, Written}
+use Rattle.transcript.specs.Transcript.{parameters, begin, reply, replyTo, transcript}
 
 -- what chartrun lends beside the calls
 abbrev pub lends : List ℕ → List ℕ → List ℕ → Lent
@@ -35,16 +35,6 @@ lends calls answers end = record {
   answers = answers;
   end = end;
 }
-
--- words written over a slice are its front
-front : (A slice slice′ : List ℕ) (n : ℕ) → n ≡ length A → slice′ ≡ over A slice → take n slice′ ≡ A
-front A slice slice′ n e f = rw (e, f) (take-pre A (drop (length A) slice))
-
-fits : (A slice slice′ : List ℕ) (n k : ℕ) → n ≡ length A → slice′ ≡ over A slice → length slice′ ≡ k → n ≤ k
-fits A slice slice′ n k e f h = omega (arith, e, h, ap length f, length-append A (drop (length A) slice))
-
-pub written-as : (text text′ : List ℕ) (n : ℕ) (out out′ : List ℕ) → text ≡ text′ → Written text n out out′ → Written text′ n out out′
-written-as text text′ n out out′ e h = subst (λ (t : List ℕ). Written t n out out′) e h
 
 -- of the calls ws: how many were done, the words of the image, and the two slices that the run wrote
 pub record Shows (ws : List ℕ) (done words : ℕ) (slice end : List ℕ) : Type 0 where
@@ -73,9 +63,9 @@ module _ (ws slice end : List ℕ) (whole : length ws % 5 ≡ 0) (few : length w
       let answered : slice′ ≡ over A slice = ap (λ (x : RunResult). x .answers) e ∙ d .answered in
       let saved : end′ ≡ over G end = ap (λ (x : RunResult). x .end) e ∙ d .saved in
       record {
-        calls-fit = fits A slice slice′ (2 * r .done) 2000 done answered p;
-        words-fit = fits G end end′ (r .words) 7006 words saved q;
-        text = λ i. writeText (front A slice slice′ (2 * r .done) done answered i) (front G end end′ (r .words) words saved i);
+        calls-fit = over-fits A slice slice′ (2 * r .done) 2000 done answered p;
+        words-fit = over-fits G end end′ (r .words) 7006 words saved q;
+        text = λ i. writeText (over-front A slice slice′ (2 * r .done) done answered i) (over-front G end end′ (r .words) words saved i);
       }
 
 -- the calls read stand at the front of calls, n words of them
@@ -91,9 +81,9 @@ module _ (bytes : List ℕ) (n : ℕ) (v : ReadVerdict) (read : v ≡ answered (
   calls-read slice slice′ e f k =
       let t = told-calls (readText bytes) n (sym e ∙ read) in
       let ws = wordsOf (readText bytes) in
-      let p : take n slice′ ≡ ws = front ws slice slice′ n (t .1) f in
+      let p : take n slice′ ≡ ws = over-front ws slice slice′ n (t .1) f in
       record {
-        fit = omega (arith, k, fits ws slice slice′ n 5000 (t .1) f k);
+        fit = omega (arith, k, over-fits ws slice slice′ n 5000 (t .1) f k);
         whole = omega (arith, ap length p, five-a-line bytes ws (t .0));
         few = omega (arith, ap length p, words-most bytes ws (t .0));
         text = ap reply p ∙ sym (ap replyTo (t .0));

@@ -1,9 +1,6 @@
 -- The program chartrun, from the bytes that it reads to the bytes that it writes.
 use Prim.Native.Nat.{ℕ}
-use mathlib.Core.Path.{_≡_}
 use mathlib.Core.List.{List, [], _∷_}
-use lib.ListN.{length}
-use Rattle.lists.specs.Lists.{over}
 use Rattle.graph.specs.Graph.{empty}
 use Rattle.image.specs.Image.{save}
 use Rattle.history.specs.Machine.{Machine, fresh, present}
@@ -35,7 +32,3 @@ replyTo (unreadable n) = unreadableText n
 unfoldable pub transcript : List ℕ → List ℕ
 unfolding readText replyTo
 transcript bytes = replyTo (readText bytes)
-
--- the text is at the front of the slice, the bytes behind it stay, and its length is told
-abbrev pub Written : List ℕ → ℕ → List ℕ → List ℕ → Type 0
-Written text n out out′ = (n ≡ length text) × (out′ ≡ over text out)

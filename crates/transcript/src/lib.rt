@@ -4,8 +4,9 @@ use text::ReadVerdict;
 ghost use mathlib.Core.Path.{_≡_};
 ghost use Prim.Native.Nat.{_+_, _*_, _%_, _≤_};
 ghost use lib.ListN.{length, take};
+ghost use Rattle.decimal.specs.Stored.{Written};
 ghost use Rattle.text.specs.Writing.{writeText};
-ghost use Rattle.transcript.specs.Transcript.{reply, transcript, Written};
+ghost use Rattle.transcript.specs.Transcript.{reply, transcript};
 
 // The text of what a run wrote: the answers of the calls done, and so many words of the image.
 fn shown(answers: &[u32], image: &[u32], done: usize, words: usize, out: &mut [u8]) -> usize

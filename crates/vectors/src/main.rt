@@ -3,6 +3,7 @@ mod words; // words.rt: words of slices, junk
 mod reading; // reading.rt: a line's first word and its numbers
 mod writing; // writing.rt: what is written
 mod running; // running.rt: a run, and what it left
+mod pages; // pages.rt: a page, and what it left
 mod setting; // setting.rt: the lines that say what the next run has
 
 use libc::STDIN_FILENO;

@@ -46,14 +46,6 @@ fn run_on(
     )
 }
 
-fn kept(good: bool) {
-    if good {
-        writing::line(b"kept");
-    } else {
-        writing::line(b"CHANGED");
-    }
-}
-
 // Whether an accepted run kept the words behind what it wrote.
 fn behind(r: Outcome, answers: &[u32], image: &[u32], junk: u32) -> bool {
     if untouched(answers, wrapping_add_usize(r.done, r.done), junk) {
@@ -98,12 +90,12 @@ fn report(
 ) {
     writing::result(r.code, r.done, r.words);
     if r.code != 0 {
-        kept(all_kept(vertices, edges, journal, answers, image, junk));
+        writing::kept(all_kept(vertices, edges, journal, answers, image, junk));
         return;
     }
     writing::answers(calls, answers, r.done);
     writing::named(b"image", front(image, r.words));
-    kept(behind(r, answers, image, junk));
+    writing::kept(behind(r, answers, image, junk));
 }
 
 fn fill_all(

@@ -1,4 +1,5 @@
 // The lines that say what the next run has.
+use crate::pages::show_page;
 use crate::reading::first;
 use crate::reading::fives;
 use crate::reading::leads;
@@ -108,6 +109,12 @@ fn show_part(s: Setting, which: u32, start: &[u32]) -> Setting {
     s
 }
 
+// The page of the start words.
+fn page_of(s: Setting, room: u32, start: &[u32]) -> Setting {
+    show_page(front(start, s.start), room as usize);
+    s
+}
+
 // A line that is none of these is written as it is.
 pub fn set_line(
     s: Setting,
@@ -134,6 +141,9 @@ pub fn set_line(
     }
     if leads(line, b"part") {
         return show_part(s, first(line), start);
+    }
+    if leads(line, b"page") {
+        return page_of(s, first(line), start);
     }
     if leads(line, b"tables") {
         return tables(s, line);

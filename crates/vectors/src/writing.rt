@@ -49,6 +49,23 @@ pub fn result(code: u32, done: usize, count: usize) {
     text(b"\n");
 }
 
+// The code and the bytes of a page.
+pub fn page(code: u32, bytes: usize) {
+    text(b"page");
+    spaced(code as u64);
+    spaced(bytes as u64);
+    text(b"\n");
+}
+
+// Whether what nothing was to be written to is as it was.
+pub fn kept(good: bool) {
+    if good {
+        line(b"kept");
+    } else {
+        line(b"CHANGED");
+    }
+}
+
 // A call's five words and the two of its answer.
 fn answer(call: &[u32], answer: &[u32]) {
     text(b"call");

@@ -2,6 +2,7 @@
 //! tests/README.md describes the text.
 
 use crate::image;
+use crate::page;
 use crate::run::{Case, Outcome};
 use std::fmt::{Display, Write};
 
@@ -38,6 +39,17 @@ fn take(line: &str, case: &mut Case, last: &mut Vec<u32>, out: &mut String) -> O
             let [which]: [u32; 1] = numbers(rest)?.try_into().ok()?;
             let (from, len) = image::part(&case.start, which).unwrap_or((0, 0));
             show(out, &format!("part {which}:"), &case.start[from..from + len]);
+        }
+        "page" => {
+            let [room]: [usize; 1] = numbers(rest)?.try_into().ok()?;
+            match page::page(&case.start, room) {
+                Err((code, number)) => show(out, "page", &[code as usize, number]),
+                Ok(rows) => {
+                    show(out, "page", &[0, rows.len()]);
+                    out.push_str(&String::from_utf8(rows).unwrap());
+                }
+            }
+            out.push_str("kept\n");
         }
         "run" => {
             case.calls.extend(calls(rest)?);

@@ -2,25 +2,36 @@
 
 use crate::gen::Random;
 use crate::image;
+use crate::page;
 use crate::run::{Case, Outcome};
-use futtockfig::raw::{futtockfig_part, futtockfig_run};
+use futtockfig::raw::{futtockfig_page, futtockfig_part, futtockfig_run};
+use std::fmt::Display;
 
 /// Words before and after each lent slice, which no run may touch.
 const GUARD: usize = 64;
 
 /// A lent slice of junk between guards.
-struct Lent {
-    words: Vec<u32>,
-    before: Vec<u32>,
+struct Lent<T> {
+    words: Vec<T>,
+    before: Vec<T>,
 }
 
-impl Lent {
-    fn new(r: &mut Random, len: usize) -> Lent {
+impl Lent<u32> {
+    fn new(r: &mut Random, len: usize) -> Lent<u32> {
         let words = r.junk(len + 2 * GUARD);
         Lent { before: words.clone(), words }
     }
+}
 
-    fn slice(&mut self) -> &mut [u32] {
+impl Lent<u8> {
+    fn bytes(r: &mut Random, len: usize) -> Lent<u8> {
+        let words: Vec<u8> = r.junk(len + 2 * GUARD).iter().map(|w| *w as u8).collect();
+        Lent { before: words.clone(), words }
+    }
+}
+
+impl<T: PartialEq + Display> Lent<T> {
+    fn slice(&mut self) -> &mut [T] {
         let end = self.words.len() - GUARD;
         &mut self.words[GUARD..end]
     }
@@ -35,7 +46,7 @@ impl Lent {
     }
 
     /// Whether the slice begins with these words and is else as it was.
-    fn begins_with(&self, wanted: &[u32]) -> Result<(), String> {
+    fn begins_with(&self, wanted: &[T]) -> Result<(), String> {
         let end = GUARD + wanted.len();
         for (i, word) in wanted.iter().enumerate() {
             if self.words[GUARD + i] != *word {
@@ -126,4 +137,29 @@ pub fn compare_parts(words: &[u32]) -> Result<(), String> {
         }
     }
     Ok(())
+}
+
+/// Compares the page of some words in a page of so many bytes. The code is returned.
+pub fn compare_page(words: &[u32], room: usize, junk: u64) -> Result<u32, String> {
+    let mut lent = Lent::bytes(&mut Random::new(junk), room);
+    let before = words.to_vec();
+    let raw = {
+        let slice = lent.slice();
+        // SAFETY: each pointer is to its own slice of the given length, and the two do not overlap.
+        unsafe { futtockfig_page(words.as_ptr(), words.len(), slice.as_mut_ptr(), slice.len()) }
+    };
+    if words != before {
+        return Err("a word lent for reading changed".into());
+    }
+    let (code, bytes, rows) = match page::page(words, room) {
+        Ok(rows) => (0, rows.len(), rows),
+        Err((code, number)) => (code, number, vec![]),
+    };
+    if (raw.code, raw.bytes) != (code, bytes) {
+        return Err(format!("result is {:?}, should be {:?}", (raw.code, raw.bytes), (code, bytes)));
+    }
+    if !lent.guards_kept() {
+        return Err("a byte outside the page changed".into());
+    }
+    lent.begins_with(&rows).map(|_| code)
 }

@@ -1,4 +1,7 @@
-//! Random cases from a seed: lists of calls, start images sound and damaged, lent lengths, texts.
+//! Random cases from a seed: lists of calls, start images sound and damaged, lent lengths, texts, pages.
+
+mod pages;
+pub use pages::{image_text, page};
 
 use crate::image;
 use crate::machine::{is_change, Call, Capacities, Edge, Graph, Machine, Reading, Types, Vertex};

@@ -7,6 +7,7 @@ pub mod examples;
 pub mod gen;
 pub mod image;
 pub mod machine;
+pub mod page;
 pub mod run;
 pub mod text;
 pub mod vector;

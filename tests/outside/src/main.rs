@@ -3,14 +3,17 @@
 //!     outside --self [--seeds N] [--from K]     the generator and the plain machine alone
 //!     outside [--seeds N] [--from K]            the engine (built with the feature `engine`)
 //!             [--chartrun PATH]                 and the program chartrun
+//!             [--chartpage PATH]                and the program chartpage
 //!             [--vectors DIR]                   and the cases kept in DIR
 //!     outside --text                            chartrun on the plain machine: standard input to output
+//!     outside --page                            chartpage likewise
 //!     outside --cases FILE                      what the program vectors must write for the cases in FILE
 
 use outside::cases;
 use outside::gen;
 use outside::image;
 use outside::machine::{is_change, is_kind, Call, Graph};
+use outside::page;
 use outside::run::{Case, Outcome};
 use outside::text;
 use std::collections::BTreeMap;
@@ -18,11 +21,15 @@ use std::io::{Read, Write};
 use std::process::exit;
 use std::time::Instant;
 
+#[cfg(feature = "engine")]
+mod programs;
+
 struct Options {
     alone: bool,
     seeds: u64,
     from: u64,
     chartrun: Option<String>,
+    chartpage: Option<String>,
     vectors: Option<String>,
 }
 
@@ -30,7 +37,7 @@ struct Options {
 const SEEDS: u64 = 10_000;
 
 fn main() {
-    let mut options = Options { alone: false, seeds: SEEDS, from: 0, chartrun: None, vectors: None };
+    let mut options = Options { alone: false, seeds: SEEDS, from: 0, chartrun: None, chartpage: None, vectors: None };
     let mut args = std::env::args().skip(1);
     while let Some(arg) = args.next() {
         let mut value = || args.next().unwrap_or_else(|| usage());
@@ -39,13 +46,10 @@ fn main() {
             "--seeds" => options.seeds = value().parse().unwrap_or_else(|_| usage()),
             "--from" => options.from = value().parse().unwrap_or_else(|_| usage()),
             "--chartrun" => options.chartrun = Some(value()),
+            "--chartpage" => options.chartpage = Some(value()),
             "--vectors" => options.vectors = Some(value()),
-            "--text" => {
-                let mut input = Vec::new();
-                std::io::stdin().read_to_end(&mut input).unwrap();
-                std::io::stdout().write_all(&text::chartrun(&input)).unwrap();
-                return;
-            }
+            "--text" => return filter(text::chartrun),
+            "--page" => return filter(page::chartpage),
             "--cases" => {
                 let file = value();
                 let text = std::fs::read_to_string(&file).unwrap_or_else(|e| fail(format!("{file}: {e}")));
@@ -65,8 +69,15 @@ fn main() {
     }
 }
 
+/// A program on the plain machine: standard input to standard output.
+fn filter(program: impl Fn(&[u8]) -> Vec<u8>) {
+    let mut input = Vec::new();
+    std::io::stdin().read_to_end(&mut input).unwrap();
+    std::io::stdout().write_all(&program(&input)).unwrap();
+}
+
 fn usage() -> ! {
-    eprintln!("usage: outside [--self] [--seeds N] [--from K] [--chartrun PATH] [--vectors DIR] | outside --text | outside --cases FILE");
+    eprintln!("usage: outside [--self] [--seeds N] [--from K] [--chartrun PATH] [--chartpage PATH] [--vectors DIR] | outside --text | outside --page | outside --cases FILE");
     exit(2)
 }
 
@@ -81,6 +92,8 @@ struct Reached {
     codes: BTreeMap<u32, u64>,
     /// Accepted changes that altered nothing, by kind.
     idle: BTreeMap<u32, u64>,
+    /// Codes of pages, 0 among them.
+    pages: BTreeMap<u32, u64>,
 }
 
 impl Reached {
@@ -105,17 +118,23 @@ impl Reached {
         }
     }
 
+    fn page(&mut self, code: u32) {
+        *self.pages.entry(code).or_default() += 1;
+    }
+
     /// Kinds never accepted, changes that never altered nothing, and codes never given.
     fn missing(&self) -> Vec<String> {
         let kinds = (0..100).filter(|k| is_kind(*k) && !self.kinds.contains_key(k)).map(|k| format!("kind {k}"));
         let codes = (1..=17).chain(101..=106).chain(108..=109).filter(|c| !self.codes.contains_key(c)).map(|c| format!("code {c}"));
         let idle = (5..=16).filter(|k| !self.idle.contains_key(k)).map(|k| format!("kind {k} that alters nothing"));
-        kinds.chain(codes).chain(idle).collect()
+        let pages = [0, 105, 107, 108, 109].into_iter().filter(|c| !self.pages.contains_key(c)).map(|c| format!("page with code {c}"));
+        kinds.chain(codes).chain(idle).chain(pages).collect()
     }
 
     fn summary(&self) -> String {
         let refused: u64 = self.codes.range(101..).map(|c| c.1).sum();
-        format!("{} lists ({refused} refused), {} calls ({} accepted)", self.lists, self.calls, self.accepted)
+        let pages: u64 = self.pages.values().sum();
+        format!("{} lists ({refused} refused), {} calls ({} accepted), {pages} pages", self.lists, self.calls, self.accepted)
     }
 }
 
@@ -141,8 +160,11 @@ fn run_alone(options: &Options) {
                 assert!(from + len <= words.len());
             }
         }
+        let (words, room) = gen::page(seed);
+        reached.page(page::page(&words, room).err().map_or(0, |refused| refused.0));
         if seed % 10 == 0 {
             text::chartrun(&gen::text(seed));
+            page::chartpage(&gen::image_text(seed));
         }
     }
     if options.seeds >= SEEDS && !reached.missing().is_empty() {
@@ -210,7 +232,7 @@ fn demands(case: &Case, outcome: &Outcome, reached: &mut Reached) -> Result<(), 
 #[cfg(not(feature = "engine"))]
 mod compare {
     pub fn run(_: &super::Options) {
-        eprintln!("outside: built without the feature `engine`; only --self, --text and --cases run");
+        eprintln!("outside: built without the feature `engine`; only --self, --text, --page and --cases run");
         std::process::exit(2)
     }
 }
@@ -220,7 +242,6 @@ mod compare {
     use super::*;
     use outside::gen::Size;
     use outside::{engine, examples, vector};
-    use std::process::{Command, Stdio};
     use std::sync::atomic::{AtomicU64, Ordering};
     use std::time::Duration;
 
@@ -277,12 +298,19 @@ mod compare {
             if let Err(message) = engine::compare_parts(&gen::words(seed)) {
                 fail(format!("seed {seed}: {message}\nwords {:?}", gen::words(seed)));
             }
+            let (words, room) = gen::page(seed);
+            match engine::compare_page(&words, room, seed) {
+                Err(message) => fail(format!("seed {seed}: page of {room} bytes: {message}\nwords {words:?}")),
+                Ok(code) => reached.page(code),
+            }
             reached.add(&case, &outcome);
         }
         if options.seeds >= SEEDS && !reached.missing().is_empty() {
             fail(format!("never reached: {}", reached.missing().join(", ")));
         }
-        let texts = options.chartrun.as_deref().map_or(0, |program| run_texts(program, options));
+        let seeds = options.from..options.from + (options.seeds / 20).max(50);
+        let mut texts = options.chartrun.as_deref().map_or(0, |program| programs::run_chartrun(program, seeds.clone()));
+        texts += options.chartpage.as_deref().map_or(0, |program| programs::run_chartpage(program, seeds));
         println!("outside: no difference in {}, {kept} vectors, {texts} texts, {} s", reached.summary(), begun.elapsed().as_secs());
     }
 
@@ -348,81 +376,5 @@ mod compare {
         }
         let shown = engine::compare(&small, &small.run(), seed).err();
         fail(format!("seed {seed}: {message}\nshrunk to {} calls: {}\n{}", small.calls.len() / 5, shown.unwrap_or_default(), vector::write(&small)))
-    }
-
-    fn run_texts(program: &str, options: &Options) -> u64 {
-        let mut count = 0;
-        let mut check = |name: String, input: Vec<u8>, slow: bool| {
-            count += 1;
-            let wanted = text::chartrun(&input);
-            let found = piped(program, input.clone(), slow);
-            if found != wanted {
-                let head = |bytes: &[u8]| String::from_utf8_lossy(&bytes[..bytes.len().min(400)]).into_owned();
-                fail(format!("chartrun, {name}:\nwrote  {:?}\nshould {:?}\ninput  {:?}", head(&found), head(&wanted), head(&input)));
-            }
-        };
-        check("the example of REFERENCE 11.5".into(), examples::TEXT.into(), false);
-        for (name, input) in limits() {
-            check(name.into(), input, false);
-        }
-        check("in pieces".into(), examples::TEXT.into(), true);
-        check("1,000 lines in pieces".into(), b"50 0 0 0 0\n".repeat(1_000), true);
-        for seed in options.from..options.from + (options.seeds / 20).max(50) {
-            check(format!("seed {seed}"), gen::text(seed), false);
-        }
-        count
-    }
-
-    /// Texts at the limits of bytes and lines.
-    fn limits() -> Vec<(&'static str, Vec<u8>)> {
-        let line = b"50 0 0 0 0\n";
-        let wide = b"4294967295 4294967295 4294967295 4294967295 4294967295\n";
-        let filled = |len: usize, byte: u8| vec![byte; len];
-        let mut ends_bare = line.repeat(1_000);
-        ends_bare.extend(b"50 0 0 0 0");
-        let mut bare_at_limit = line.repeat(999);
-        bare_at_limit.extend(b"50 0 0 0 0");
-        let mut bad_and_many = b"x\n".to_vec();
-        bad_and_many.extend(line.repeat(1_000));
-        let mut bad_and_long = b"x\n".to_vec();
-        bad_and_long.resize(60_001, b'0');
-        vec![
-            ("nothing", vec![]),
-            ("one newline", b"\n".to_vec()),
-            ("1,000 lines", line.repeat(1_000)),
-            ("1,000 wide lines", wide.repeat(1_000)),
-            ("1,001 lines", line.repeat(1_001)),
-            ("1,000 lines and a rest", ends_bare),
-            ("999 lines and a rest", bare_at_limit),
-            ("a bad line and too many lines", bad_and_many),
-            ("a bad line and too many bytes", bad_and_long),
-            ("60,000 digits", filled(60_000, b'1')),
-            ("60,001 digits", filled(60_001, b'1')),
-            ("60,000 newlines", filled(60_000, b'\n')),
-            ("60,001 newlines", filled(60_001, b'\n')),
-            ("200,000 zero bytes", filled(200_000, 0)),
-        ]
-    }
-
-    fn piped(program: &str, input: Vec<u8>, slow: bool) -> Vec<u8> {
-        let started = Command::new(program).stdin(Stdio::piped()).stdout(Stdio::piped()).spawn();
-        let mut child = started.unwrap_or_else(|e| fail(format!("{program}: {e}")));
-        let mut pipe = child.stdin.take().unwrap();
-        let writer = std::thread::spawn(move || {
-            // The program may stop reading when there are too many bytes.
-            if !slow {
-                return pipe.write_all(&input).is_ok();
-            }
-            input.chunks(input.len() / 20 + 1).all(|piece| {
-                std::thread::sleep(Duration::from_millis(2));
-                pipe.write_all(piece).is_ok()
-            })
-        });
-        let output = child.wait_with_output().unwrap();
-        writer.join().unwrap();
-        if !output.status.success() {
-            fail(format!("{program} ended with {}", output.status));
-        }
-        output.stdout
     }
 }

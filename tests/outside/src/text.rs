@@ -60,7 +60,7 @@ fn call(line: &[u8]) -> Option<Call> {
 }
 
 /// Digits without leading zeros, at most 32 bits.
-fn number(digits: &[u8]) -> Option<u32> {
+pub fn number(digits: &[u8]) -> Option<u32> {
     if digits.is_empty() || !digits.iter().all(u8::is_ascii_digit) || (digits[0] == b'0' && digits.len() > 1) {
         return None;
     }

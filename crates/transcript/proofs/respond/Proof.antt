@@ -1,7 +1,8 @@
 -- `respond` meets its contract.
 use mathlib.Core.Path.{refl}
 use native.Mathlib.Omega.{arith}
-use Rattle.transcript.proofs.Replies.{Shows, shows, written-as}
+use Rattle.transcript.proofs.Replies.{Shows, shows}
+use Rattle.decimal.proofs.Stores.{written-as}
 use borrow.Author.Needs.{needs}
 use Rattle.transcript.proofs.respond.Statement.{statement}
 use Rattle.transcript.proofs.respond.Tie as tie

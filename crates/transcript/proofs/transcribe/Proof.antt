@@ -1,7 +1,8 @@
 -- `transcribe` meets its contract.
 use mathlib.Core.Path.{sym}
 use lib.Seq.{length-take-le}
-use Rattle.transcript.proofs.Replies.{CallsRead, calls-read, unreadable-read, written-as}
+use Rattle.transcript.proofs.Replies.{CallsRead, calls-read, unreadable-read}
+use Rattle.decimal.proofs.Stores.{written-as}
 use borrow.Author.Needs.{needs}
 use Rattle.transcript.proofs.transcribe.Statement.{statement}
 use Rattle.transcript.proofs.transcribe.Tie as tie

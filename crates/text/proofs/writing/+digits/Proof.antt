@@ -2,8 +2,8 @@ use mathlib.Core.Path.{refl, sym, ap, _∙_}
 use native.Mathlib.Omega.{arith}
 use borrow.Author.Needs.{needs}
 use lib.ListN.{length, length-set}
-use Rattle.text.proofs.Stores.{stored-byte, stored-then, stored-as}
-use Rattle.text.proofs.Texts.{one-digit, more-digits, more-length}
+use Rattle.decimal.proofs.Stores.{stored-byte, stored-then, stored-as}
+use Rattle.decimal.proofs.Digits.{one-digit, more-digits, more-length}
 use Prim.Native.Nat.{ℕ, _+_, _%_, _<_}
 use borrow.Fn.Kinds.{In}
 use borrow.Fn.PlainCycle.{Measures, is, falls, and}

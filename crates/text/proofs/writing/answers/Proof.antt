@@ -5,7 +5,7 @@ use lib.ListN.{length, drop}
 use lib.Seq.{sets}
 use Prim.Native.Nat.{_+_, _-_, _≤_, _<_}
 use Rattle.text.specs.Writing.{answerLines}
-use Rattle.text.proofs.Stores.{stored-left}
+use Rattle.decimal.proofs.Stores.{stored-left}
 use Rattle.text.proofs.Texts.{answers-length, answers-turn, answers-end}
 use Rattle.text.proofs.writing.answers.Statement.{statement}
 use Rattle.text.proofs.writing.answers.Tie as tie

@@ -6,7 +6,7 @@ use lib.Seq.{sets}
 use Prim.Native.Nat.{_+_, _-_, _≤_, _<_}
 use Rattle.lists.specs.Lists.{each}
 use Rattle.text.specs.Writing.{spaced}
-use Rattle.text.proofs.Stores.{stored-left}
+use Rattle.decimal.proofs.Stores.{stored-left}
 use Rattle.text.proofs.Texts.{numbers-length, numbers-turn, numbers-end}
 use Rattle.text.proofs.writing.numbers.Statement.{statement}
 use Rattle.text.proofs.writing.numbers.Tie as tie

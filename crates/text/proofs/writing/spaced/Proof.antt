@@ -3,7 +3,7 @@ use native.Mathlib.Omega.{arith}
 use lib.ListN.{length-set}
 use Prim.Native.Nat.{_+_}
 use Rattle.text.specs.Writing.{spaced}
-use Rattle.text.proofs.Stores.{stored-byte, stored-then}
+use Rattle.decimal.proofs.Stores.{stored-byte, stored-then}
 use borrow.Author.Needs.{needs}
 use Rattle.text.proofs.writing.spaced.Statement.{statement}
 use Rattle.text.proofs.writing.spaced.Tie as tie

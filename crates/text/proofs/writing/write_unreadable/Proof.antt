@@ -1,6 +1,6 @@
 use native.Mathlib.Omega.{arith}
 use Rattle.text.specs.Writing.{unreadableText}
-use Rattle.text.proofs.Stores.{stored-over}
+use Rattle.decimal.proofs.Stores.{stored-over}
 use Rattle.text.proofs.Texts.{unreadable-most}
 use borrow.Author.Needs.{needs}
 use Rattle.text.proofs.writing.write_unreadable.Statement.{statement}
@@ -9,16 +9,23 @@ use Rattle.text.proofs.writing.write_unreadable.Tie as tie
 slice-aggregate-line : tie.Need-slice-aggregate-line
 slice-aggregate-line c = search needs
 
+slice-aggregate-line-2 : tie.Need-slice-aggregate-line-2
+slice-aggregate-line-2 c = search needs
+
 line-requires : tie.Need-line-requires
 unfolding unreadableText
-line-requires c κs = let a = c .before .before .before in omega (arith, unreadable-most (a .args .n), a .pre)
+line-requires c κs = let a = c .before .before .before .before in omega (arith, unreadable-most (a .args .n), a .pre)
 
 same-length : tie.Need-same-length
 same-length c = search needs
 
 returns : tie.Need-returns
 unfolding unreadableText
-returns c = let a = c .before .before .before .before .before .before in stored-over (omega (arith, unreadable-most (a .args .n), a .pre)) (c .before .before .line .ensures)
+returns c =
+    let a = c .before .before .before .before .before .before .before in
+    stored-over (omega (arith, unreadable-most (a .args .n), a .pre)) (c .before .before .line .ensures)
 
 pub write-unreadable-spec : {M : Type 1} → statement M
-write-unreadable-spec = tie.close (tie.spec slice-aggregate-line line-requires same-length returns)
+write-unreadable-spec =
+    tie.close
+    (tie.spec slice-aggregate-line slice-aggregate-line-2 line-requires same-length returns)

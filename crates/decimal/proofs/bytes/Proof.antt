@@ -5,10 +5,9 @@ use lib.ListN.{length, getD, drop, length-set, drop-of-length-le}
 use lib.Seq.{sets}
 use mathlib.Core.List.{[]}
 use Prim.Native.Nat.{_+_, _-_, _≤_}
-use Rattle.text.proofs.Stores.{stored-byte, stored-left}
-use Rattle.text.proofs.Walks.{one-drop}
-use Rattle.text.proofs.writing.bytes.Statement.{statement}
-use Rattle.text.proofs.writing.bytes.Tie as tie
+use Rattle.decimal.proofs.Stores.{one-drop, stored-byte, stored-left}
+use Rattle.decimal.proofs.bytes.Statement.{statement}
+use Rattle.decimal.proofs.bytes.Tie as tie
 
 abbrev Inv-loop : tie.InvT-loop
 Inv-loop out₀ at word i₀ out i = (i ≤ length word) × (length out ≡ length out₀) × (sets out (at + i) (drop i word) ≡ sets out₀ at word)

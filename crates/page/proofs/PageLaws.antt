@@ -1,0 +1,99 @@
+-- The three answers: the code of words that do not load, 107, or the rows.
+use Prim.Native.Nat.{ℕ, _+_, _*_, _/_, _≤_, _<_}
+use mathlib.Core.Path.{_≡_, refl, sym, ap, _∙_}
+use mathlib.Core.Bool.{true}
+use mathlib.Core.List.{List}
+use native.Mathlib.Omega.{arith}
+use lib.ListN.{length}
+use borrow.Author.Tests.{lt-ltb, le-ltb, ne-eqb}
+use Rattle.lists.specs.Choice.{_⇒_else_, _==_}
+use Rattle.lists.specs.Lists.{each, over}
+use Rattle.decimal.specs.Stored.{Stored}
+use Rattle.decimal.proofs.Stores.{stored-over}
+use Rattle.graph.specs.Graph.{Graph}
+use Rattle.image.specs.Image.{soundHeader, part, edgeCount, edgePart, edgesFrom, load, save, loadable}
+use Rattle.image.specs.Checks.{loadCode, loadOffset, verdict}
+use Rattle.image.proofs.Verdicts.{zero-sound}
+use Rattle.image.proofs.LoadCodes.{code-loads}
+use Rattle.image.proofs.Loads.{loaded, edge-words}
+use Rattle.image.proofs.RecordWords.{edges-length}
+use Rattle.image.proofs.Room.{few-edges}
+use Rattle.page.specs.Rows.{rowOf, rowsOf, rowsFrom}
+use Rattle.page.specs.Page.{PageResult, pageBounds, pageBytes, pageCode, pageOf}
+use Rattle.page.proofs.RowLaws.{rows-length}
+use Rattle.page.proofs.Turns.{from-length}
+
+abbrev pub answer : ℕ → ℕ → List ℕ → PageResult
+answer code bytes page = record { code = code; bytes = bytes; page = page }
+
+pub page-refused : (ws page : List ℕ) (code offset : ℕ) → code ≡ loadCode pageBounds ws →
+    offset ≡ loadOffset pageBounds ws → (code ≡ 0 → ⊥) → answer code offset page ≡ pageOf ws page
+unfolding pageOf pageCode
+page-refused ws page code offset e f n =
+    simp (ne-eqb (loadCode pageBounds ws) 0 (λ z. n (e ∙ z))) (rw (e, f))
+
+pub page-under : (ws page : List ℕ) → loadCode pageBounds ws ≡ 0 → length page < pageBytes ws →
+    answer 107 0 page ≡ pageOf ws page
+unfolding pageOf pageCode
+page-under ws page z k =
+    rw (zero-sound (verdict pageBounds ws) z, lt-ltb (length page) (pageBytes ws) k)
+
+pub page-full : (ws page : List ℕ) → loadCode pageBounds ws ≡ 0 → pageBytes ws ≤ length page →
+    answer 0 (length (rowsOf (load ws))) (over (rowsOf (load ws)) page) ≡ pageOf ws page
+unfolding pageOf pageCode
+page-full ws page z k =
+    rw (zero-sound (verdict pageBounds ws) z, le-ltb (length page) (pageBytes ws) k)
+
+-- ---- the edge part of words that load
+
+part-two : (ws : List ℕ) → soundHeader ws ≡ true → part 2 ws ≡ edgePart ws
+unfolding part
+part-two ws h = rw h
+
+eseq-count : (ws : List ℕ) → length (load ws .eseq) ≡ edgeCount ws
+unfolding load
+eseq-count ws = from-length (edgeCount ws) (edgePart ws)
+
+load-rows : (ws : List ℕ) → rowsOf (load ws) ≡ rowsFrom (edgeCount ws) (edgePart ws)
+unfolding rowsOf load
+load-rows ws = refl
+
+module _ (ws rs : List ℕ) (z : loadCode pageBounds ws ≡ 0) (e : rs ≡ part 2 ws) where
+  h : loadable pageBounds ws ≡ true
+  h = code-loads pageBounds ws .0 z
+
+  records : rs ≡ edgePart ws
+  records = e ∙ part-two ws (loaded pageBounds ws h .header)
+
+  records-length : length rs ≡ 6 * edgeCount ws
+  records-length =
+      let a : edgePart ws ≡ edgePart (save (load ws)) = ap edgePart (sym (loaded pageBounds ws h .again)) in
+      omega (arith, ap length (records ∙ a ∙ edge-words (load ws)), edges-length (load ws .eseq), eseq-count ws)
+
+  counted : length rs / 6 ≡ edgeCount ws
+  counted = omega (arith, records-length)
+
+  -- what 107 asks for, by the records
+  needed : pageBytes ws ≡ 25 * (length rs / 6)
+  needed = omega (arith, eseq-count ws, counted)
+
+  pub few-records : length rs / 6 ≤ 4000
+  few-records = omega (arith, few-edges pageBounds (load ws) (loaded pageBounds ws h .formed), eseq-count ws, counted)
+
+  pub page-short : (page : List ℕ) → length page < 25 * (length rs / 6) → answer 107 0 page ≡ pageOf ws page
+  page-short page k = page-under ws page z (omega (arith, needed))
+
+  pub page-done : (page last : List ℕ) (r : ℕ) → 25 * (length rs / 6) ≤ length page →
+      Stored (rowsFrom (length rs / 6) rs) 0 page last r → answer 0 r last ≡ pageOf ws page
+  page-done page last r k s = finish (stored-over (omega (arith, ap length rows-same, rows-length (load ws), needed)) s)
+    where
+      rows-same : rowsFrom (length rs / 6) rs ≡ rowsOf (load ws)
+      rows-same =
+          ap (λ (n : ℕ). rowsFrom n rs) counted ∙ ap (rowsFrom (edgeCount ws)) records ∙ sym (load-rows ws)
+
+      finish : (r ≡ length (rowsFrom (length rs / 6) rs)) × (last ≡ over (rowsFrom (length rs / 6) rs) page) →
+          answer 0 r last ≡ pageOf ws page
+      finish t =
+          ap (λ (n : ℕ). answer 0 n last) (t .0 ∙ ap length rows-same)
+          ∙ ap (answer 0 (length (rowsOf (load ws)))) (t .1 ∙ ap (λ (l : List ℕ). over l page) rows-same)
+          ∙ page-full ws page z (omega (arith, needed))
