@@ -12,7 +12,7 @@
 use outside::cases;
 use outside::gen;
 use outside::image;
-use outside::machine::{is_change, is_kind, Call, Graph};
+use outside::machine::{is_change, is_kind, Call, Capacities, Graph};
 use outside::page;
 use outside::run::{Case, Outcome};
 use outside::text;
@@ -155,6 +155,10 @@ fn run_alone(options: &Options) {
         }
         reached.add(&case, &outcome);
         let words = gen::words(seed);
+        let capacities = Capacities { vertices: 6, edges: 8, changes: 1 };
+        if image::load(&words, capacities, 3).is_some() != image::bad(&words, capacities, 3).is_none() {
+            fail(format!("seed {seed}: words load and have a bad one, or neither: {words:?}"));
+        }
         for which in 0..5 {
             if let Some((from, len)) = image::part(&words, which) {
                 assert!(from + len <= words.len());
