@@ -1,4 +1,4 @@
-//! Times the engine, the same data structure by hand in C, and the plain machine on four loads.
+//! Times the engine, the same data structure by hand in C, and the plain machine on some loads.
 //! Answers and images are compared before anything is timed.
 
 mod loads;
