@@ -510,7 +510,9 @@ static inline void step(struct store *s, const u32 *call, u32 *answer) {
         u32 there = one_way(s, a, b), back = one_way(s, b, a);
         if (!there || !back) REFUSE(16);
         u32 range = (there < back ? there : back) - 1;
-        ANSWER(call[0] == 53 ? range : range / 250);
+        if (call[0] == 53) ANSWER(range);
+        if (c > 2) REFUSE(17);
+        ANSWER(c == 2 ? range / 200 : range / 250);
     }
     default: REFUSE(1);
     }
@@ -522,22 +524,35 @@ static int sound_header(const u32 *words, size_t len) {
     return words[2] == 6 && words[3] == 6 + 3 * v && words[4] == 6 + 3 * v + 6 * e && words[5] == 6 + 3 * v + 8 * e && words[5] == len;
 }
 
-/* Whether the words are an image within the capacities. Writes only to its own arrays. */
-static int loadable(const u32 *words, size_t len, u32 vertices, u32 edges, u32 types) {
+/* What is bad in words that should be an image within the capacities: a code, 0 where they are one, and with 108 and 109
+   the offset of the first bad word. Writes only to its own arrays. */
+struct bad {
+    u32 code;
+    size_t at;
+};
+
+#define BAD(code, word) return (struct bad){code, (size_t)((word) - words)}
+
+static struct bad check(const u32 *words, size_t len, u32 vertices, u32 edges, u32 types) {
     u32 degree[FUTTOCKFIG_MOST_VERTICES + 1]; /* 1 + degree, 0 where the vertex is missing */
     u32 this_of[2 * FUTTOCKFIG_MOST_EDGES + 2]; /* 0 where missing or used */
-    if (!sound_header(words, len) || words[0] > vertices || words[1] > edges) return 0;
+    if (!sound_header(words, len) || words[0] > vertices || words[1] > edges || (!words[0] && words[1])) BAD(105, words);
     memset(degree, 0, 4 * ((size_t)vertices + 1));
     memset(this_of, 0, 8 * ((size_t)edges + 1));
     const u32 *end = words + words[3];
     for (const u32 *r = words + 6; r < end; r += 3) {
-        if (r[0] - 1 >= vertices || degree[r[0]] || r[1] >= types) return 0;
+        if (r[0] - 1 >= vertices || degree[r[0]]) BAD(108, r);
+        if (r[1] >= types) BAD(108, r + 1);
         degree[r[0]] = 1;
     }
     end = words + words[4];
     for (const u32 *r = words + words[3]; r < end; r += 6) {
-        if (r[0] - 1 >= edges || this_of[2 * r[0]] || r[1] > vertices || r[2] > vertices || !degree[r[1]] || !degree[r[2]] || r[3] >= types) return 0;
-        if (!(r[4] <= 1 ? r[5] == 0 : r[4] == 2 && r[5] <= 9999)) return 0;
+        if (r[0] - 1 >= edges || this_of[2 * r[0]]) BAD(108, r);
+        if (r[1] > vertices || !degree[r[1]]) BAD(108, r + 1);
+        if (r[2] > vertices || !degree[r[2]]) BAD(108, r + 2);
+        if (r[3] >= types) BAD(108, r + 3);
+        if (r[4] > 2) BAD(108, r + 4);
+        if (r[5] > (r[4] == 2 ? 9999 : 0)) BAD(108, r + 5);
         this_of[2 * r[0]] = r[1];
         this_of[2 * r[0] + 1] = r[2];
         degree[r[1]]++;
@@ -546,11 +561,11 @@ static int loadable(const u32 *words, size_t len, u32 vertices, u32 edges, u32 t
     const u32 *w = words + words[4];
     for (const u32 *r = words + 6; r < words + words[3]; r += 3) {
         for (u32 n = degree[r[0]]; n > 1; n--, w++) {
-            if (*w > 2 * edges + 1 || this_of[*w] != r[0]) return 0;
+            if (*w > 2 * edges + 1 || this_of[*w] != r[0]) BAD(109, w);
             this_of[*w] = 0;
         }
     }
-    return 1;
+    return (struct bad){0, 0};
 }
 
 static void load(struct store *s, const u32 *words) {
@@ -643,7 +658,8 @@ struct futtockfig_result BY_HAND_RUN(
     s.edge_capacity = (u32)es;
     s.change_capacity = (u32)cs;
     s.types = (u32)rows_len;
-    if (!loadable(start, start_len, s.vertex_capacity, s.edge_capacity, s.types)) { r.code = 105; return r; }
+    struct bad bad = check(start, start_len, s.vertex_capacity, s.edge_capacity, s.types);
+    if (bad.code) { r.code = bad.code; r.done = bad.at; return r; }
     if (image_len < FUTTOCKFIG_IMAGE_WORDS(vs, es)) { r.code = 106; return r; }
     for (size_t i = 0; i < rows_len; i++) s.below[i] = rows[i] | (u64)1 << i | 1;
     for (size_t k = 0; k < rows_len; k++)

@@ -22,7 +22,8 @@ class Picture:
         ]
 
     def text(self, x, y, words, anchor="middle", colour=INK, size=14):
-        self.parts.append(f'<text x="{x}" y="{y}" text-anchor="{anchor}" fill="{colour}" font-size="{size}">{words}</text>')
+        look = f'text-anchor="{anchor}" fill="{colour}" font-size="{size}"'
+        self.parts.append(f'<text x="{x}" y="{y}" {look}>{words}</text>')
 
     def circle(self, x, y, r, colour=INK, fill="#fff"):
         self.parts.append(f'<circle cx="{x}" cy="{y}" r="{r}" fill="{fill}" stroke="{colour}" stroke-width="1.5"/>')
@@ -32,7 +33,8 @@ class Picture:
         self.parts.append(f'<path d="{d}" fill="none" stroke="{colour}" stroke-width="1.5"{end}/>')
 
     def box(self, x, y, words, colour=INK):
-        self.parts.append(f'<rect x="{x}" y="{y}" width="34" height="26" fill="#fff" stroke="{colour}" stroke-width="1.5"/>')
+        look = f'fill="#fff" stroke="{colour}" stroke-width="1.5"'
+        self.parts.append(f'<rect x="{x}" y="{y}" width="34" height="26" {look}/>')
         self.text(x + 17, y + 18, words, colour=colour)
 
     def chain(self, x, y, label, items):
@@ -82,8 +84,8 @@ def graph():
     p.chain(390, 80, "Eseq", [(str(e), INK) for e in edges])
     for i, v in enumerate(vseq):
         p.chain(390, 150 + 45 * i, f"list of {v}", [(str(w), IN if w % 2 else OUT) for w in lists[v]])
-    p.text(390, 300, "out word 2e, seen from alpha", "start", OUT, 13)
-    p.text(580, 300, "in word 2e + 1, seen from omega", "start", IN, 13)
+    p.text(390, 292, "out word 2e, seen from alpha", "start", OUT, 13)
+    p.text(390, 312, "in word 2e + 1, seen from omega", "start", IN, 13)
     return p.whole()
 
 

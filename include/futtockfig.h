@@ -34,7 +34,7 @@ extern "C" {
 #endif
 
 /* What a caller sees; raised with every change to it (docs/CHANGES.md). */
-#define FUTTOCKFIG_VERSION 5
+#define FUTTOCKFIG_VERSION 7
 
 /* Words a row in each table, and the most rows that a table may have. The fewest is 1. */
 #define FUTTOCKFIG_VERTEX_WORDS 8
@@ -109,11 +109,16 @@ enum futtockfig_kind {
     FUTTOCKFIG_RANGE = 53,             /* a, b vertices; the smaller of both ways. The way from a to b is what is heard on the
                                           last edge that is tested (kind 1 or 2) and goes out to b, in the order of
                                           a's list; a may equal b */
-    FUTTOCKFIG_GRADE = 54              /* a, b vertices; that range's grade, 0 to 39: the last of the limits 0, 250, 500, ..
-                                          9,750 that is not above the range, counted from 0 */
+    FUTTOCKFIG_GRADE = 54              /* a, b vertices, c price list: 0 and 1 the old, 2 the new; the grade of that range.
+                                          Limits of the old list: 0, 250, 500, .. 9,750 (grades 0 to 39); of the new:
+                                          0, 200, 400, .. 9,800 (0 to 49). The grade is the last of them that is not
+                                          above the range, counted from 0 */
 };
 
-/* Codes. Where several apply, the lowest is given. */
+/*
+ * Codes. Where several apply to a call, the lowest is given. Of a list the first in turn is given: 101, 102, 103, 104,
+ * then one of 105, 108 and 109, then 106.
+ */
 enum futtockfig_code {
     FUTTOCKFIG_OK = 0,
     /* Of one call. The call changes nothing, its number is 0, and the list goes on. */
@@ -133,18 +138,29 @@ enum futtockfig_code {
     FUTTOCKFIG_NO_STEP = 14,           /* nothing to undo or redo */
     FUTTOCKFIG_BAD_SIDE = 15,          /* kind 45: c above 2 */
     FUTTOCKFIG_NOTHING_HEARD = 16,     /* kinds 53, 54: a way's last tested edge is silent, or it has none */
+    FUTTOCKFIG_BAD_PRICE_LIST = 17,    /* kind 54: c above 2 */
     /* Of the whole list. Nothing is run and nothing is written, tables included. */
     FUTTOCKFIG_BAD_CALLS = 101,        /* calls_len is not a multiple of 5 */
     FUTTOCKFIG_SHORT_ANSWERS = 102,    /* answers_len is under 2 a call */
     FUTTOCKFIG_BAD_CAPACITY = 103,     /* a capacity is 0 or above its limit */
     FUTTOCKFIG_BAD_ROWS = 104,         /* no type row, over 64, or a bit n or above is set */
-    FUTTOCKFIG_BAD_START = 105,        /* start is not the image of a graph within the capacities and types */
-    FUTTOCKFIG_SHORT_IMAGE = 106       /* image_len is under 6 + 3 * vertex capacity + 8 * edge capacity */
+    FUTTOCKFIG_BAD_START = 105,        /* start: under six words; a length, offset or total that does not fit the
+                                          counts; a count above its capacity; edges and no vertex */
+    FUTTOCKFIG_SHORT_IMAGE = 106,      /* image_len is under 6 + 3 * vertex capacity + 8 * edge capacity */
+    FUTTOCKFIG_BAD_RECORD = 108,       /* start: a vertex or edge record is bad; done is where */
+    FUTTOCKFIG_BAD_INCIDENCE = 109     /* start: all records are good, a list is bad; done is where */
 };
 
+/*
+ * With 108 and 109 done is the offset of the first bad word of start, counted from 0 (the first vertex's number is word
+ * 6): the first word that cannot come after those before it. In a record that is a number 0, above its capacity or used
+ * by an earlier record of the same part; a type with no row; an end that is no vertex of start; a reading kind above 2;
+ * decimetres that do not go with the kind. Values are never bad. A list is as long as the edges have ends at its
+ * vertex; bad is a word that does not belong there, or does and came earlier.
+ */
 struct futtockfig_result {
-    uint32_t code; /* 0, or 101 to 106 */
-    size_t done;   /* calls done, refused ones counted; 0 with a code */
+    uint32_t code; /* 0, or a code of the whole list */
+    size_t done;   /* calls done, refused ones counted; with 108 and 109 an offset in start, with any other code 0 */
     size_t words;  /* words of image that are the graph at the end; 0 with a code */
 };
 

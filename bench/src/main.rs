@@ -105,7 +105,7 @@ impl Buffers {
         let (result, _) = self.run(program, case);
         match result.code {
             0 => Outcome::Done { answers: self.answers[..2 * result.done].to_vec(), image: self.image[..result.words].to_vec() },
-            code => Outcome::Refused(code),
+            code => Outcome::Refused(code, result.done),
         }
     }
 }
@@ -194,7 +194,7 @@ fn main() {
 fn check_alone(all: &[loads::Load], time: Duration) {
     let mut case = all.last().expect("a load").case.clone();
     case.image -= 1;
-    check("one word too few is not 106", Buffers::new(&case).outcome(futtockfig_run, &case) == Outcome::Refused(106));
+    check("one word too few is not 106", Buffers::new(&case).outcome(futtockfig_run, &case) == Outcome::Refused(106, 0));
     let times = best(&case, &[by_hand_run, futtockfig_run], time);
     println!();
     println!("The check of a full image alone (a run refused with 106): C by hand {:.1} µs, engine {:.1} µs.", micros(times[0]), micros(times[1]));

@@ -27,6 +27,8 @@ static const struct {
     {{FUTTOCKFIG_SET_READING, 4, 2, 700}, 0, 1},
     {{FUTTOCKFIG_RANGE, 1, 2}, 0, 450},
     {{FUTTOCKFIG_GRADE, 1, 2}, 0, 1},
+    {{FUTTOCKFIG_GRADE, 1, 2, 2}, 0, 2},
+    {{FUTTOCKFIG_GRADE, 1, 2, 3}, FUTTOCKFIG_BAD_PRICE_LIST, 0},
     {{FUTTOCKFIG_DELETE_VERTEX, 1}, 0, 6},
     {{FUTTOCKFIG_FIRST_WORD, 4}, 0, 12},
     {{FUTTOCKFIG_NEXT_WORD, 12}, 0, 14},
@@ -68,6 +70,27 @@ int main(void) {
     expect("code of six words, result", 0, r.code, FUTTOCKFIG_BAD_CALLS);
     expect("calls done, result", 0, r.done, 0);
     expect("words, result", 0, r.words, 0);
+    /* Seven with one word changed: the second of two equal numbers, an end that is no vertex, a word of another list. */
+    static const struct {
+        size_t at;
+        uint32_t word, code;
+        size_t done;
+    } damage[] = {
+        {5, 75, FUTTOCKFIG_BAD_START, 0},
+        {9, 1, FUTTOCKFIG_BAD_RECORD, 9},
+        {20, 5, FUTTOCKFIG_BAD_RECORD, 20},
+        {73, 5, FUTTOCKFIG_BAD_INCIDENCE, 73},
+    };
+    for (size_t i = 0; i < sizeof damage / sizeof damage[0]; i++) {
+        uint32_t start[sizeof seven / 4];
+        memcpy(start, seven, sizeof seven);
+        start[damage[i].at] = damage[i].word;
+        r = futtockfig_run(
+            start, seven_len, rows, 1, calls, 5, vertices, 8 * VERTICES, edges, 12 * EDGES, journal, 12 * CHANGES, answers, answers_len, image, 0);
+        expect("code of damage", i, r.code, damage[i].code);
+        expect("offset of damage", i, r.done, damage[i].done);
+        expect("words of damage", i, r.words, 0);
+    }
     for (size_t i = 0; i < 8 * VERTICES; i++) expect("vertex word", i, vertices[i], 0xa5a5a5a5);
     for (size_t i = 0; i < answers_len; i++) expect("answer word", i, answers[i], 0xffffffff);
     for (size_t i = 0; i < image_len; i++) expect("image word", i, image[i], 0xffffffff);

@@ -35,7 +35,7 @@ use core::ops::Range;
 use raw::{futtockfig_part, futtockfig_run};
 
 /// The version of what a caller sees, that of `include/futtockfig.h`.
-pub const VERSION: u32 = 5;
+pub const VERSION: u32 = 7;
 
 /// Kind, a, b, c, d.
 pub type Call = [u32; 5];
@@ -141,10 +141,14 @@ pub enum Refused {
     Capacity,
     /// 104: no type row, over 64, or a bit set that names no type.
     Rows,
-    /// 105: the start is not the image of a graph within the capacities and types.
+    /// 105: the header of the start is not sound, a count is above its capacity, or there are edges and no vertex.
     Start,
     /// 106: too few words for the image.
     Image,
+    /// 108: a vertex or edge record of the start is bad; the offset of the first bad word, from 0.
+    Record(usize),
+    /// 109: the records of the start are good and a list is bad; the offset of the first bad word, from 0.
+    Incidence(usize),
     /// A code that the header does not name.
     Other(u32),
 }
@@ -159,11 +163,21 @@ impl Refused {
             Refused::Rows => 104,
             Refused::Start => 105,
             Refused::Image => 106,
+            Refused::Record(_) => 108,
+            Refused::Incidence(_) => 109,
             Refused::Other(code) => code,
         }
     }
 
-    fn of(code: u32) -> Refused {
+    /// The offset in the start of its first bad word, where the code names one.
+    pub fn offset(self) -> Option<usize> {
+        match self {
+            Refused::Record(at) | Refused::Incidence(at) => Some(at),
+            _ => None,
+        }
+    }
+
+    fn of(code: u32, number: usize) -> Refused {
         match code {
             101 => Refused::Calls,
             102 => Refused::Answers,
@@ -171,6 +185,8 @@ impl Refused {
             104 => Refused::Rows,
             105 => Refused::Start,
             106 => Refused::Image,
+            108 => Refused::Record(number),
+            109 => Refused::Incidence(number),
             _ => Refused::Other(code),
         }
     }
@@ -183,11 +199,14 @@ impl fmt::Display for Refused {
             Refused::Answers => "answers have under two words a call",
             Refused::Capacity => "a capacity is out of range",
             Refused::Rows => "the type rows are not 1 to 64 rows of bits below their number",
-            Refused::Start => "the start is not an image within capacities and types",
+            Refused::Start => "the start has no sound header within the capacities",
             Refused::Image => "the image has too few words for the capacities",
+            Refused::Record(_) => "a record of the start is bad",
+            Refused::Incidence(_) => "a list of the start is bad",
             Refused::Other(_) => "unknown code",
         };
-        write!(f, "list refused, code {}: {why}", self.code())
+        write!(f, "list refused, code {}: {why}", self.code())?;
+        self.offset().map_or(Ok(()), |at| write!(f, " at word {at}"))
     }
 }
 
@@ -221,7 +240,7 @@ pub fn run<'a>(start: &[u32], rows: &[u64], calls: &[u32], lent: Lent<'a>) -> Re
     };
     match result.code {
         0 => Ok(Done { answers: &answers[..2 * result.done], image: &image[..result.words] }),
-        code => Err(Refused::of(code)),
+        code => Err(Refused::of(code, result.done)),
     }
 }
 

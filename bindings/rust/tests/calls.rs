@@ -48,10 +48,28 @@ fn delete_and_undo() {
 }
 
 #[test]
+fn grades_by_both_price_lists() {
+    let grade = |list| [kind::GRADE, 1, 1, list, 0];
+    let calls = [[kind::SET_READING, 1, 2, 400, 0], grade(0), grade(1), grade(2), grade(3)].concat();
+    with(&calls, &seven(), |done| assert!(answers(done.unwrap().answers).eq([Ok(1), Ok(1), Ok(1), Ok(2), Err(17)])));
+}
+
+#[test]
 fn lists_refused() {
     with(&[0; 6], &EMPTY, |done| assert_eq!(done, Err(Refused::Calls)));
     with(&[], &[0, 0, 6, 6, 6, 7], |done| assert_eq!(done, Err(Refused::Start)));
-    with(&[], &[], |done| assert_eq!(done.unwrap_err().to_string(), "list refused, code 105: the start is not an image within capacities and types"));
+    with(&[], &[], |done| assert_eq!(done.unwrap_err().to_string(), "list refused, code 105: the start has no sound header within the capacities"));
+    let damaged = |at: usize, word: u32| {
+        let mut start = seven();
+        start[at] = word;
+        with(&[], &start, |done| done.unwrap_err())
+    };
+    // The second of two equal numbers; an end that is no vertex; a word twice in a list.
+    assert_eq!(damaged(9, 1), Refused::Record(9));
+    assert_eq!(damaged(20, 5), Refused::Record(20));
+    assert_eq!(damaged(61, 2), Refused::Incidence(61));
+    assert_eq!(damaged(61, 2).to_string(), "list refused, code 109: a list of the start is bad at word 61");
+    assert_eq!((damaged(9, 1).code(), damaged(9, 1).offset(), damaged(0, 9).offset()), (108, Some(9), None));
     with(&[], &EMPTY, |done| assert_eq!(done, Ok(Done { answers: &[], image: &EMPTY })));
 }
 

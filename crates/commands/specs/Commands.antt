@@ -133,7 +133,7 @@ commandOf x =
     leb k 51 ⇒ Recall (historyOf k (x .a) (x .b)) else
     (k == 52) ⇒ Ask (questionOf k (x .a) (x .b) (x .c)) else
     (k == 53) ⇒ Quote (Range (x .a) (x .b)) else
-    (k == 54) ⇒ Quote (Grade (x .a) (x .b)) else
+    (k == 54) ⇒ Quote (Grade (x .a) (x .b) (x .c)) else
     Unknown
   where
     k : ℕ
@@ -194,7 +194,7 @@ questionCall (Below s t) = five 52 s t 0 0
 
 abbrev pub priceCall : PriceCall → Call
 priceCall (Range a b) = five 53 a b 0 0
-priceCall (Grade a b) = five 54 a b 0 0
+priceCall (Grade a b c) = five 54 a b c 0
 
 -- kind 0 is not named
 abbrev pub callOf : Command → Call

@@ -1,4 +1,4 @@
--- A table of codes: when each applies, and the lowest that does.
+-- A table of codes: when each applies, and the first that does.
 use Prim.Native.Nat.{ℕ}
 use mathlib.Core.Path.{_≡_}
 use mathlib.Core.Bool.{Bool, true, false, _||_}
@@ -10,10 +10,14 @@ pub record Row : Type 0 where
   pub code : ℕ
   pub applies : Bool
 
--- REFERENCE 7.0: the first row that applies, of rows whose codes rise; 0 where none does
+-- the code of the first row that applies, in the order of the rows; 0 where none does
+abbrev pub inTurn : List Row → ℕ
+inTurn [] = 0
+inTurn (r ∷ rs) = r .applies ⇒ r .code else inTurn rs
+
+-- the lowest code that applies (REFERENCE 7.0): of rows whose codes rise, the first
 abbrev pub lowest : List Row → ℕ
-lowest [] = 0
-lowest (r ∷ rs) = r .applies ⇒ r .code else lowest rs
+lowest rs = inTurn rs
 
 abbrev pub row : ℕ → Bool → Row
 row k t = record { code = k; applies = t }
@@ -25,9 +29,9 @@ some p (x ∷ []) = p x
 some p (x ∷ y ∷ ys) = p x || some p (y ∷ ys)
 
 -- k is the code of a row that applies, and no row before it does
-pub data Lowest (k : ℕ) : List Row → Type 0 where
-  found : {r : Row} {rs : List Row} → r .applies ≡ true → r .code ≡ k → Lowest k (r ∷ rs)
-  later : {r : Row} {rs : List Row} → r .applies ≡ false → Lowest k rs → Lowest k (r ∷ rs)
+pub data First (k : ℕ) : List Row → Type 0 where
+  found : {r : Row} {rs : List Row} → r .applies ≡ true → r .code ≡ k → First k (r ∷ rs)
+  later : {r : Row} {rs : List Row} → r .applies ≡ false → First k rs → First k (r ∷ rs)
 
 -- no row applies
 pub data NoneApplies : List Row → Type 0 where

@@ -42,10 +42,10 @@ pub enum Question {
     Below(u32, u32),
 }
 
-// Kinds 53 and 54.
+// Kinds 53 and 54; the third word of a grade is its price list.
 pub enum PriceCall {
     Range(u32, u32),
-    Grade(u32, u32),
+    Grade(u32, u32, u32),
 }
 
 // A call by what answers it: a change, a history call, a question, a call of the price list, or a kind that is not named.
@@ -157,7 +157,7 @@ fn command_of(k: u32, a: u32, b: u32, c: u32, d: u32) -> Command
         return Command::Quote(PriceCall::Range(a, b));
     }
     if k == 54 {
-        return Command::Quote(PriceCall::Grade(a, b));
+        return Command::Quote(PriceCall::Grade(a, b, c));
     }
     Command::Unknown
 }

@@ -3,7 +3,7 @@ use mathlib.Core.Path.{_≡_, sym, subst}
 use mathlib.Core.List.{List}
 use Prim.Native.Nat.{ℕ}
 use borrow.Author.Tests.{ne-eqb}
-use Rattle.machine.specs.Run.{Lent, RunResult, listRefusal, refused, run}
+use Rattle.machine.specs.Run.{Lent, RunResult, listRefusal, listNumber, refused, run}
 use Rattle.machine.specs.Demand.{Demand3}
 use Rattle.machine.specs.Demands.{Demand1, Demand2}
 use Rattle.machine.proofs.Demands.{demand-1, demand-2}
@@ -23,7 +23,7 @@ module _ (l : Lent) (r : Outcome) (answers image : List ℕ) (h : runResult r an
   pub meets-demand-3 : listRefusal l ≡ 0 → Demand3 l (runResult r answers image)
   meets-demand-3 e = subst (λ (x : RunResult). Demand3 l x) (sym h) (demand-3 l e)
 
-  -- REFERENCE 9.8
-  pub leaves-refused : (listRefusal l ≡ 0 → ⊥) → runResult r answers image ≡ refused (listRefusal l) l
+  -- a refused list returns its code, the number beside it and 0, and writes nowhere (REFERENCE 9.8)
+  pub leaves-refused : (listRefusal l ≡ 0 → ⊥) → runResult r answers image ≡ refused (listRefusal l) (listNumber l) l
   unfolding run
   leaves-refused n = rw (ne-eqb (listRefusal l) 0 n) at h

@@ -1,4 +1,4 @@
--- The code of a list, by which test stops it.
+-- The code of a list and the number beside it, by which test stops it.
 use Prim.Native.Nat.{ℕ, suc, _+_, _*_, _/_, _%_, _≤_}
 use mathlib.Core.Path.{_≡_, refl, sym, ap, _∙_}
 use mathlib.Core.Bool.{Bool, true, false, not, _&&_}
@@ -10,18 +10,25 @@ use borrow.Author.Tests.{not-false, lt-ltb, le-ltb}
 use Rattle.lists.specs.Choice.{_⇒_else_, _==_, within}
 use Rattle.lists.proofs.Bools.{and-true, within-range}
 use Rattle.types.specs.Rows.{goodRows}
-use Rattle.image.specs.Image.{loadable, imageLength}
-use Rattle.image.specs.Checks.{bounds}
+use Rattle.image.specs.Image.{imageLength}
+use Rattle.image.specs.Checks.{bounds, verdict, codeOf, offsetOf, loadOffset}
+use Rattle.image.specs.declared.Verdict.{Verdict}
+use Rattle.image.specs.declared.Verdict.the-variants.{Sound, BadHeader, BadRecord, BadIncidence}
 use Rattle.machine.specs.Calls.{boundsIn}
-use Rattle.machine.specs.Run.{Lent, parametersOf, listRefusal}
+use Rattle.machine.specs.Run.{Lent, parametersOf, listRefusal, numberBeside, listNumber}
+use Rattle.machine.proofs.ListRows.{startRows}
 use Rattle.engine.specs.Refusals.{inLimits, lengthsCode, Lends}
 
 -- ---- three tests first
 
-stopped : (x y z : Bool) (c r : ℕ) → c ≡ (x ⇒ 101 else y ⇒ 102 else z ⇒ 103 else 0) → (c ≡ 0 → ⊥) → c ≡ (x ⇒ 101 else y ⇒ 102 else z ⇒ 103 else r)
-stopped true y z c r e n = e
-stopped false true z c r e n = e
-stopped false false true c r e n = e
+abbrev Beside : ℕ → ℕ → Type 0
+Beside c n = (o : ℕ) → n ≡ numberBeside c o
+
+stopped : (x y z : Bool) (c r : ℕ) → c ≡ (x ⇒ 101 else y ⇒ 102 else z ⇒ 103 else 0) → (c ≡ 0 → ⊥) →
+    (c ≡ (x ⇒ 101 else y ⇒ 102 else z ⇒ 103 else r)) × Beside c 0
+stopped true y z c r e n = (e, λ o. rw e)
+stopped false true z c r e n = (e, λ o. rw e)
+stopped false false true c r e n = (e, λ o. rw e)
 stopped false false false c r e n = absurd (n e)
 
 gone-on : (x y z : Bool) (r : ℕ) → _≡_ {A = ℕ} (x ⇒ 101 else y ⇒ 102 else z ⇒ 103 else 0) 0 → (z ≡ false) × (_≡_ {A = ℕ} (x ⇒ 101 else y ⇒ 102 else z ⇒ 103 else r) r)
@@ -54,19 +61,42 @@ module _ (l : Lent) where
   z : Bool
   z = not (inLimits (l .vertexTable / 8) (l .edgeTable / 12) (l .changeTable / 12))
 
-  by-lengths : (c : ℕ) → c ≡ lengthsOf → (c ≡ 0 → ⊥) → c ≡ listRefusal l
+  by-lengths : (c : ℕ) → c ≡ lengthsOf → (c ≡ 0 → ⊥) → (c ≡ listRefusal l) × Beside c 0
   unfolding listRefusal lengthsOf x y z
   by-lengths c e n = stopped x y z c _ e n
 
   others : lengthsOf ≡ 0 →
       listRefusal l ≡ (
       not (goodRows (l .rows)) ⇒ 104 else
-      not (loadable (boundsIn (parametersOf l)) (l .start)) ⇒ 105 else
-      ltb (length (l .end)) (imageLength (parametersOf l .vertices) (parametersOf l .edges)) ⇒ 106 else
-      0
+      startRows (verdict (boundsIn (parametersOf l)) (l .start))
+      (ltb (length (l .end)) (imageLength (parametersOf l .vertices) (parametersOf l .edges)) ⇒ 106 else
+      0)
       )
-  unfolding listRefusal lengthsOf x y z
+  unfolding listRefusal lengthsOf x y z startRows
   others e = gone-on x y z _ e .1
+
+  -- a code that goes with no offset
+  pub beside : (c : ℕ) → c ≡ listRefusal l → Beside c 0 → 0 ≡ listNumber l
+  unfolding listNumber
+  beside c e b = b (loadOffset (boundsIn (parametersOf l)) (l .start)) ∙ ap (λ (k : ℕ). numberBeside k (loadOffset (boundsIn (parametersOf l)) (l .start))) e
+
+-- what `refusal` ensures of the list
+abbrev Refuses : Lent → ℕ → ℕ → Type 0
+Refuses l c n = (c ≡ listRefusal l) × (n ≡ listNumber l)
+
+sound-start : (v : Verdict) (r : ℕ) → codeOf v ≡ 0 → startRows v r ≡ r
+unfolding startRows
+sound-start Sound r e = refl
+sound-start BadHeader r e = absurd (omega arith)
+sound-start (BadRecord at) r e = absurd (omega arith)
+sound-start (BadIncidence at) r e = absurd (omega arith)
+
+bad-start : (v : Verdict) (r : ℕ) → (codeOf v ≡ 0 → ⊥) → (codeOf v ≡ startRows v r) × (offsetOf v ≡ numberBeside (codeOf v) (offsetOf v))
+unfolding startRows
+bad-start Sound r n = absurd (n refl)
+bad-start BadHeader r n = (refl, refl)
+bad-start (BadRecord at) r n = (refl, refl)
+bad-start (BadIncidence at) r n = (refl, refl)
 
 module _ (l : Lent) (start rows : List ℕ) (calls vertices edges journal answers image : ℕ) (h : Lends l start rows calls vertices edges journal answers image) where
   lengths-are : lengthsCode calls answers vertices edges journal ≡ lengthsOf l
@@ -74,45 +104,39 @@ module _ (l : Lent) (start rows : List ℕ) (calls vertices edges journal answer
   lengths-are =
       λ i. lengthsCode (sym (h .calls-are) i) (sym (h .answers-are) i) (sym (h .vertices-are) i) (sym (h .edges-are) i) (sym (h .journal-is) i)
 
-  loads-are : loadable (boundsIn (parametersOf l)) (l .start) ≡ loadable (bounds (vertices / 8) (edges / 12) (length rows)) start
-  loads-are = λ i. loadable (bounds (h .vertices-are i / 8) (h .edges-are i / 12) (length (h .rows-are i))) (h .start-is i)
+  verdict-is : verdict (boundsIn (parametersOf l)) (l .start) ≡ verdict (bounds (vertices / 8) (edges / 12) (length rows)) start
+  verdict-is = λ i. verdict (bounds (h .vertices-are i / 8) (h .edges-are i / 12) (length (h .rows-are i))) (h .start-is i)
 
-  pub lengths-refused : (c : ℕ) → c ≡ lengthsCode calls answers vertices edges journal → (c ≡ 0 → ⊥) → c ≡ listRefusal l
-  lengths-refused c e n = by-lengths l c (e ∙ lengths-are) n
+  -- a code that goes with no offset
+  alone : (c : ℕ) → c ≡ listRefusal l → Beside c 0 → Refuses l c 0
+  alone c e b = (e, beside l c e b)
+
+  pub lengths-refused : (c : ℕ) → c ≡ lengthsCode calls answers vertices edges journal → (c ≡ 0 → ⊥) → Refuses l c 0
+  lengths-refused c e n = let r = by-lengths l c (e ∙ lengths-are) n in alone c (r .0) (r .1)
 
   module _ (e : lengthsCode calls answers vertices edges journal ≡ 0) where
-    pub rows-refused : goodRows rows ≡ false → 104 ≡ listRefusal l
-    rows-refused f = sym (rw (others l (sym lengths-are ∙ e), ap goodRows (h .rows-are), f) refl)
+    pub rows-refused : goodRows rows ≡ false → Refuses l 104 0
+    rows-refused f = alone 104 (sym (rw (others l (sym lengths-are ∙ e), ap goodRows (h .rows-are), f) refl)) (λ o. refl)
 
-    module _ (g : goodRows rows ≡ true) where
-      pub start-refused : loadable (bounds (vertices / 8) (edges / 12) (length rows)) start ≡ false → 105 ≡ listRefusal l
-      start-refused f = sym (rw (others l (sym lengths-are ∙ e), ap goodRows (h .rows-are), g, loads-are, f) refl)
+    module _ (g : goodRows rows ≡ true) (v : Verdict) (is : v ≡ verdict (bounds (vertices / 8) (edges / 12) (length rows)) start) where
+      -- past 104: the start's rows, then 106
+      rest : listRefusal l ≡ startRows v (ltb (length (l .end)) (imageLength (parametersOf l .vertices) (parametersOf l .edges)) ⇒ 106 else 0)
+      rest = rw (others l (sym lengths-are ∙ e), ap goodRows (h .rows-are), g, verdict-is, ← is) refl
 
-      module _ (k : loadable (bounds (vertices / 8) (edges / 12) (length rows)) start ≡ true) where
-        pub image-refused : suc image ≤ 6 + 3 * (vertices / 8) + 8 * (edges / 12) → 106 ≡ listRefusal l
-        image-refused f =
-            sym (rw (
-              others l (sym lengths-are ∙ e),
-              ap goodRows (h .rows-are),
-              g,
-              loads-are,
-              k,
-              h .image-is,
-              h .vertices-are,
-              h .edges-are,
-              lt-ltb image (6 + 3 * (vertices / 8) + 8 * (edges / 12)) f,
-            ) refl)
+      pub start-refused : (codeOf v ≡ 0 → ⊥) → Refuses l (codeOf v) (offsetOf v)
+      unfolding listNumber
+      start-refused n =
+          let b = bad-start v _ n in
+          let c = b .0 ∙ sym rest in
+          let o : offsetOf v ≡ loadOffset (boundsIn (parametersOf l)) (l .start) = ap offsetOf (is ∙ sym verdict-is) in
+          (c, b .1 ∙ λ i. numberBeside (c i) (o i))
 
-        pub none-refused : 6 + 3 * (vertices / 8) + 8 * (edges / 12) ≤ image → 0 ≡ listRefusal l
-        none-refused f =
-            sym (rw (
-              others l (sym lengths-are ∙ e),
-              ap goodRows (h .rows-are),
-              g,
-              loads-are,
-              k,
-              h .image-is,
-              h .vertices-are,
-              h .edges-are,
-              le-ltb image (6 + 3 * (vertices / 8) + 8 * (edges / 12)) f,
-            ) refl)
+      module _ (k : codeOf v ≡ 0) where
+        last : listRefusal l ≡ (ltb image (6 + 3 * (vertices / 8) + 8 * (edges / 12)) ⇒ 106 else 0)
+        last = rest ∙ sound-start v _ k ∙ rw (h .image-is, h .vertices-are, h .edges-are) refl
+
+        pub image-refused : suc image ≤ 6 + 3 * (vertices / 8) + 8 * (edges / 12) → Refuses l 106 0
+        image-refused f = alone 106 (sym (rw (last, lt-ltb image (6 + 3 * (vertices / 8) + 8 * (edges / 12)) f) refl)) (λ o. refl)
+
+        pub none-refused : 6 + 3 * (vertices / 8) + 8 * (edges / 12) ≤ image → Refuses l 0 0
+        none-refused f = alone 0 (sym (rw (last, le-ltb image (6 + 3 * (vertices / 8) + 8 * (edges / 12)) f) refl)) (λ o. refl)

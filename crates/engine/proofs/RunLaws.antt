@@ -1,6 +1,6 @@
 -- A list that is not refused: what its steps ask, and what they leave together; and a list that is refused.
 use Prim.Native.Nat.{ℕ, _/_, _^_, _<_}
-use mathlib.Core.Path.{_≡_, refl, sym, ap}
+use mathlib.Core.Path.{_≡_, refl, sym, ap, _∙_}
 use mathlib.Core.List.{List}
 use native.Mathlib.Omega.{arith}
 use lib.ListN.{length}
@@ -23,7 +23,7 @@ use Rattle.store.proofs.Laws.{within-loaded, can-save, Saved}
 use Rattle.machine.specs.Calls.{Parameters, boundsIn}
 use Rattle.commands.specs.Calls.{callsOf}
 use Rattle.machine.specs.Machine.{last}
-use Rattle.machine.specs.Run.{Lent, RunResult, parametersOf, listRefusal, accepted, refused, run}
+use Rattle.machine.specs.Run.{Lent, RunResult, parametersOf, listRefusal, listNumber, accepted, refused, run}
 use Rattle.machine.proofs.ListRows.{Passed, passed}
 use Rattle.engine.specs.Refusals.{Lends}
 use Rattle.engine.specs.Running.{Running}
@@ -116,6 +116,8 @@ pub run-accepted : (l : Lent) (r : RunResult) → listRefusal l ≡ 0 → r ≡ 
 unfolding run
 run-accepted l r e h = rw e h
 
-pub run-refused : (l : Lent) (c : ℕ) → c ≡ listRefusal l → (c ≡ 0 → ⊥) → record { code = c; done = 0; words = 0; answers = l .answers; end = l .end } ≡ run l
+pub run-refused : (l : Lent) (c n : ℕ) → c ≡ listRefusal l → n ≡ listNumber l → (c ≡ 0 → ⊥) →
+    record { code = c; done = n; words = 0; answers = l .answers; end = l .end } ≡ run l
 unfolding run refused
-run-refused l c e n = rw (← e, ne-eqb c 0 n)
+run-refused l c n e f z =
+    (λ i. record { code = e i; done = f i; words = 0; answers = l .answers; end = l .end }) ∙ rw (ne-eqb (listRefusal l) 0 (λ q. z (e ∙ q)))

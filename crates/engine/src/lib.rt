@@ -1,5 +1,5 @@
 // The engine: a list of calls on lent words, from the refusals of the list to the end image.
 mod step; // step.rt: one call
-mod refusals; // refusals.rt: codes 101 to 106
+mod refusals; // refusals.rt: the codes of a list
 mod calls; // calls.rt: every call of a list
 pub mod run; // run.rt: the whole list

@@ -1,12 +1,19 @@
-// The refusals of a list: codes 101 to 106, the lowest that applies; 0 where none does. Nothing is written.
-use image::Verdict;
+// The refusals of a list: the first code in turn that applies, 0 where none does. Nothing is written.
 use image::check;
+use image::code_of;
+use image::offset_of;
 use types::RowsVerdict;
 use types::check_rows;
 ghost use mathlib.Core.Path.{_≡_};
 ghost use Rattle.lists.specs.Choice.{within};
-ghost use Rattle.machine.specs.Run.{Lent, listRefusal};
+ghost use Rattle.machine.specs.Run.{Lent, listRefusal, listNumber};
 ghost use Rattle.engine.specs.Refusals.{inLimits, lengthsCode, Lends};
+
+// The code of a list and the number beside it: with 108 and 109 the offset of the first bad word of the start, else 0.
+pub struct Refused {
+    pub code: u32,
+    pub number: u32,
+}
 
 fn at_most(most: usize, n: usize) -> bool
     ensures { λ r. ⌜ r ≡ within 1 most n ⌝ }
@@ -45,7 +52,7 @@ fn lengths_code(calls: usize, answers: usize, vertices: usize, edges: usize, jou
     103
 }
 
-// The code of the list. The start is looked at only where its capacities are within the limits.
+// The start is looked at only where its capacities are within the limits.
 pub fn refusal(
     start: &[u32],
     rows: &[u64],
@@ -55,23 +62,36 @@ pub fn refusal(
     journal: usize,
     answers: usize,
     image: usize,
-) -> u32
-    ensures { λ r. ⌜ ((l : Lent) → Lends l (now (start .entry)) (now (rows .entry)) calls vertices edges journal answers image → r ≡ listRefusal l) ⌝ }
+) -> Refused
+    ensures { λ r. ⌜ ((l : Lent)
+        → Lends l (now (start .entry)) (now (rows .entry)) calls vertices edges journal answers image
+        → (r .code ≡ listRefusal l) × (r .number ≡ listNumber l)) ⌝ }
 {
     let code = lengths_code(calls, answers, vertices, edges, journal);
     if code != 0 {
-        return code;
+        return Refused { code, number: 0 };
     }
     let RowsVerdict::Good = check_rows(rows) else {
-        return 104;
+        return Refused {
+            code: 104,
+            number: 0,
+        };
     };
     let v = vertices / 8;
     let e = edges / 12;
-    let Verdict::Sound = check(start, v as u32, e as u32, rows.len() as u32) else {
-        return 105;
-    };
-    if image < 6 + 3 * v + 8 * e {
-        return 106;
+    let found = check(start, v as u32, e as u32, rows.len() as u32);
+    let bad = code_of(found);
+    if bad != 0 {
+        return Refused {
+            code: bad,
+            number: offset_of(found),
+        };
     }
-    0
+    if image < 6 + 3 * v + 8 * e {
+        return Refused {
+            code: 106,
+            number: 0,
+        };
+    }
+    Refused { code: 0, number: 0 }
 }

@@ -9,7 +9,8 @@ ghost use mathlib.Core.Path.{_≡_};
 ghost use Rattle.machine.specs.Run.{listRefusal, accepted as acceptedOf, run as runOf};
 ghost use Rattle.engine.specs.Outcomes.{lent, runResult, given, left, Untouched, MeetsDemand3};
 
-// The code of the list, the calls done, the words of the end image. Its layout is that of include/futtockfig.h.
+// The code of the list, the calls done, the words of the end image. Of a refused list `done` is the number beside its
+// code. The layout is that of include/futtockfig.h.
 #[repr(C)]
 pub struct Outcome {
     pub code: u32,
@@ -17,7 +18,7 @@ pub struct Outcome {
     pub words: usize,
 }
 
-// A list that none of 101 to 106 refuses. What the tables and the journal hold afterwards is left open.
+// A list that is not refused. What the tables and the journal hold afterwards is left open.
 fn accepted(
     start: &[u32],
     rows: &[u64],
@@ -28,9 +29,10 @@ fn accepted(
     answers: &mut [u32],
     image: &mut [u32],
 ) -> Outcome
-    requires { ⌜ listRefusal (lent (now start) (now rows) (now calls) (now vertices) (now edges) (now journal) (now answers) (now image)) ≡ 0 ⌝ }
+    requires { ⌜ listRefusal (lent (now start) (now rows) (now calls)
+        (now vertices) (now edges) (now journal) (now answers) (now image)) ≡ 0 ⌝ }
     ensures { λ r. ⌜ runResult r (now (answers .exit)) (now (image .exit))
-        ≡ acceptedOf (lent (now (start .entry)) (now (rows .entry)) (now (calls .entry)) (now (vertices .entry)) (now (edges .entry)) (now (journal .entry)) (now (answers .entry)) (now (image .entry))) ⌝ }
+        ≡ acceptedOf (given start rows calls vertices edges journal answers image) ⌝ }
 {
     let closed = closure(rows);
     let types = rows.len() as u32;
@@ -58,7 +60,8 @@ fn accepted(
 }
 
 // The result, the answers and the end image are those of the specification's run of the lent words, whatever they are.
-// A refused list writes nowhere. After an accepted one, what the tables and the journal hold is left open, and the way back holds.
+// A refused list writes nowhere. After an accepted one, what the tables and the journal hold is left open, and the way
+// back holds.
 pub fn run(
     start: &[u32],
     rows: &[u64],
@@ -71,9 +74,10 @@ pub fn run(
 ) -> Outcome
     ensures { λ r. ⌜ left r answers image ≡ runOf (given start rows calls vertices edges journal answers image) ⌝ }
     ensures { λ r. ⌜ Untouched (given start rows calls vertices edges journal answers image) vertices edges journal ⌝ }
-    ensures { λ r. ⌜ MeetsDemand3 (given start rows calls vertices edges journal answers image) (left r answers image) ⌝ }
+    ensures { λ r. ⌜ MeetsDemand3 (given start rows calls vertices edges journal answers image)
+        (left r answers image) ⌝ }
 {
-    let code = refusal(
+    let refused = refusal(
         start,
         rows,
         calls.len(),
@@ -83,10 +87,10 @@ pub fn run(
         answers.len(),
         image.len(),
     );
-    if code != 0 {
+    if refused.code != 0 {
         return Outcome {
-            code,
-            done: 0,
+            code: refused.code,
+            done: refused.number as usize,
             words: 0,
         };
     }

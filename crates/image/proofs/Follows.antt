@@ -1,7 +1,7 @@
 -- The words before a bad one can go on: some words that load begin with them, with the same counts of vertices and edges.
 use Prim.Native.Nat.{ℕ, zero, suc, _+_, _*_, _-_, _≤_}
 use mathlib.Core.Path.{_≡_, refl, sym, ap, _∙_}
-use mathlib.Core.Logic.{_⊎_, inl, inr}
+use mathlib.Core.Logic.{inl, inr}
 use mathlib.Core.Bool.{Bool, true, false, _&&_}
 use mathlib.Core.List.{List, [], _++_}
 use native.Mathlib.Omega.{arith}
@@ -192,12 +192,6 @@ module _ (b : Bounds) (ws : List ℕ) (k : ℕ) where
       let t = incidence-headed b ws k h in
       let f = incidence-found b ws k h in
       after-incidence b ws k (t .header) (t .counts) (f .0) (f .1) (f .2)
-
-  pub something-follows : 1 ≤ b .types → (verdict b ws ≡ BadRecord k) ⊎ (verdict b ws ≡ BadIncidence k) → Follows b ws k
-  something-follows some h = elim h [
-    | inl x ↦ record-follows some x
-    | inr x ↦ incidence-follows x
-  ]
 
 pub no-types : (b : Bounds) (ws : List ℕ) → b .types ≡ 0 → 1 ≤ vertexCount ws → loadable b ws ≡ false
 no-types b ws z h = go (loadable b ws) refl

@@ -23,3 +23,4 @@ pub mod Offsets
 pub mod FirstBad
 pub mod Fill
 pub mod Follows
+pub mod LoadCodes

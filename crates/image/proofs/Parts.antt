@@ -9,7 +9,6 @@ use lib.Seq.{take-all}
 use borrow.Author.Tests.{ne-eqb}
 use Rattle.lists.specs.Choice.{_⇒_else_, _==_, within}
 use Rattle.lists.proofs.Bools.{tf, within-range}
-use Rattle.lists.proofs.Picks.{same, differ, same?}
 use Rattle.image.specs.Image.{edgeOffset, incidenceOffset, soundHeader, vertexCount, edgeCount, vertexPart, edgePart, incidencePart, part}
 use Rattle.image.specs.Parts.{hasPart, partBound, partStart, partEnd}
 use Rattle.image.proofs.Headers.{header-words, sound-length}

@@ -19,7 +19,7 @@ use Rattle.graph.specs.declared.Reading.the-variants.{Untested, Silent, Heard}
 use Rattle.graph.specs.Graph.{Vertex, Edge, Graph, vn, en, wd, isVertex, hasVertex, readingKind}
 use Rattle.graph.specs.WellFormed.{Bounds, wordsAt, soundVertex, soundEdge, wellFormed}
 use Rattle.image.specs.Image.{vertexSize, vertexRecord, edgeRecord, incidencesOf, vertexOffset, edgeOffset, incidenceOffset, save, loadable}
-use Rattle.image.specs.Checks.{codeOf, loadCode, goodVertex, goodEdge, vertexWalk, numbersIn, edgeWalk, goodList, listWalk, soundCounts, verdict}
+use Rattle.image.specs.Checks.{goodVertex, goodEdge, vertexWalk, numbersIn, edgeWalk, goodList, listWalk, soundCounts, verdict}
 use Rattle.image.specs.declared.Verdict.the-variants.{Sound}
 use Rattle.image.proofs.Formed.{Formed, formed, vertex-facts, edge-facts}
 use Rattle.image.proofs.RecordWords.{edges-back}
@@ -27,7 +27,6 @@ use Rattle.image.proofs.Ends.{has-number}
 use Rattle.image.proofs.Loads.{vertex-words, edge-words, incidence-words, header-sound, loads}
 use Rattle.image.proofs.Counts.{self-one, rem-count, rem-length}
 use Rattle.image.proofs.Room.{few-vertices, few-edges}
-use Rattle.image.proofs.Verdicts.{code-by}
 use Rattle.image.proofs.VertexPass.{has-self}
 use Rattle.image.proofs.SoundLoads.{sound-loads}
 
@@ -147,6 +146,3 @@ loads-sound b ws h = let s = loads b ws .0 h in subst (λ (l : List ℕ). verdic
 -- a verdict is sound for exactly the words that load
 pub sound-exactly : (b : Bounds) (ws : List ℕ) → (verdict b ws ≡ Sound) ↔ (loadable b ws ≡ true)
 sound-exactly b ws = (sound-loads b ws, loads-sound b ws)
-
-pub verdict-code : (b : Bounds) (ws : List ℕ) → codeOf (verdict b ws) ≡ loadCode b ws
-verdict-code b ws = code-by (verdict b ws) (loadable b ws) (sound-loads b ws) (loads-sound b ws)

@@ -11,7 +11,7 @@ use borrow.Author.Tests.{eq-eqb, ne-eqb}
 use Rattle.lists.specs.Choice.{_==_, bit}
 use Rattle.lists.specs.Lists.{has}
 use Rattle.graph.specs.WellFormed.{Bounds}
-use Rattle.image.specs.Image.{vertexSize, vertexOffset, edgeOffset, incidenceOffset, soundHeader, vertexCount, edgeCount, vertexPart, edgePart, incidencePart, part, edgesFrom}
+use Rattle.image.specs.Image.{vertexSize, vertexOffset, edgeOffset, incidenceOffset, soundHeader, vertexCount, edgeCount, part, edgesFrom}
 use Rattle.image.specs.Checks.{bounds, vertexWalk, numbersIn, edgeWalk, listWalk, soundCounts, andThen, verdict}
 use Rattle.image.specs.Scratch.{vertexRun, vertexMarks, edgeRun, edgeDegrees, edgeOwners, incidenceRun, scratchRun}
 use Rattle.image.specs.declared.Verdict.{Verdict}

@@ -12,7 +12,7 @@ use borrow.Author.Tests.{lt-ltb, ltb-false}
 use Rattle.lists.specs.Choice.{_⇒_else_, within}
 use Rattle.graph.specs.Graph.{isReading}
 use Rattle.image.proofs.Verdict.{the-type}
-use Rattle.image.specs.Checks.{codeOf, goodVertex, goodEdge, recordAt, ended, listAt, andThen}
+use Rattle.image.specs.Checks.{codeOf, offsetOf, goodVertex, goodEdge, recordAt, ended, listAt, andThen}
 use Rattle.image.specs.declared.Verdict.{Verdict}
 use Rattle.image.specs.declared.Verdict.the-variants.{Sound, BadHeader, BadRecord, BadIncidence}
 
@@ -82,32 +82,32 @@ then-sound BadHeader x h = absurd (header-not h)
 then-sound (BadRecord at) x h = absurd (record-not h)
 then-sound (BadIncidence at) x h = absurd (incidence-not h)
 
--- the code of a verdict that is sound exactly where a test holds
-pub code-by : (r : Verdict) (t : Bool) → (r ≡ Sound → t ≡ true) → (t ≡ true → r ≡ Sound) → codeOf r ≡ (t ⇒ 0 else 105)
-code-by Sound t f g = rw (f refl)
-code-by BadHeader true f g = absurd (header-not (g refl))
-code-by BadHeader false f g = refl
-code-by (BadRecord at) true f g = absurd (record-not (g refl))
-code-by (BadRecord at) false f g = refl
-code-by (BadIncidence at) true f g = absurd (incidence-not (g refl))
-code-by (BadIncidence at) false f g = refl
+-- ---- codes
 
--- what a caller of the check learns of the test, by whether the verdict is sound
-pub code-sound : (r : Verdict) (t : Bool) → r ≡ Sound → codeOf r ≡ (t ⇒ 0 else 105) → t ≡ true
-code-sound Sound true e h = refl
-code-sound Sound false e h = absurd (omega arith)
-code-sound BadHeader t e h = absurd (header-not e)
-code-sound (BadRecord at) t e h = absurd (record-not e)
-code-sound (BadIncidence at) t e h = absurd (incidence-not e)
+pub zero-sound : (r : Verdict) → codeOf r ≡ 0 → r ≡ Sound
+zero-sound Sound e = refl
+zero-sound BadHeader e = absurd (omega arith)
+zero-sound (BadRecord at) e = absurd (omega arith)
+zero-sound (BadIncidence at) e = absurd (omega arith)
 
-pub code-bad : (r : Verdict) (t : Bool) → OneOf (1 ∷ 2 ∷ 3 ∷ []) (tagOf the-type r) → codeOf r ≡ (t ⇒ 0 else 105) → t ≡ false
-code-bad Sound t k h = absurd (sound-not k)
-code-bad BadHeader true k h = absurd (omega arith)
-code-bad BadHeader false k h = refl
-code-bad (BadRecord at) true k h = absurd (omega arith)
-code-bad (BadRecord at) false k h = refl
-code-bad (BadIncidence at) true k h = absurd (omega arith)
-code-bad (BadIncidence at) false k h = refl
+pub coded-record : (r : Verdict) → codeOf r ≡ 108 → r ≡ BadRecord (offsetOf r)
+coded-record Sound e = absurd (omega arith)
+coded-record BadHeader e = absurd (omega arith)
+coded-record (BadRecord at) e = refl
+coded-record (BadIncidence at) e = absurd (omega arith)
+
+pub coded-incidence : (r : Verdict) → codeOf r ≡ 109 → r ≡ BadIncidence (offsetOf r)
+coded-incidence Sound e = absurd (omega arith)
+coded-incidence BadHeader e = absurd (omega arith)
+coded-incidence (BadRecord at) e = absurd (omega arith)
+coded-incidence (BadIncidence at) e = refl
+
+-- any other code goes with no offset
+pub uncoded : (r : Verdict) → (codeOf r ≡ 108 → ⊥) → (codeOf r ≡ 109 → ⊥) → offsetOf r ≡ 0
+uncoded Sound m n = refl
+uncoded BadHeader m n = refl
+uncoded (BadRecord at) m n = absurd (m refl)
+uncoded (BadIncidence at) m n = absurd (n refl)
 
 -- ---- what a whole good record says
 

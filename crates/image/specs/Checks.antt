@@ -1,4 +1,4 @@
--- What a check says of words: sound, or where the first word stands that cannot follow the words before it.
+-- What a check says of words: sound, or the offset at which it stops, going through records and lists in turn.
 use Prim.Native.Nat.{ℕ, zero, suc, _+_, _^_}
 use mathlib.Core.Bool.{Bool, true, not, _&&_}
 use mathlib.Core.List.{List, [], _∷_}
@@ -22,17 +22,16 @@ use Rattle.image.specs.Image.{
   edgePart,
   incidencePart,
   edgesFrom,
-  loadable,
 }
 use Rattle.image.specs.declared.Verdict.{Verdict}
 use Rattle.image.specs.declared.Verdict.the-variants.{Sound, BadHeader, BadRecord, BadIncidence}
 
--- code 105 (REFERENCE 8.5): of a verdict, and of words
+-- the code of a verdict (REFERENCE 8.5, 8.8, 8.9)
 abbrev pub codeOf : Verdict → ℕ
 codeOf Sound = 0
 codeOf BadHeader = 105
-codeOf (BadRecord at) = 105
-codeOf (BadIncidence at) = 105
+codeOf (BadRecord at) = 108
+codeOf (BadIncidence at) = 109
 
 -- the offset of the first bad word, counted from the first word; 0 where the verdict names no word
 abbrev pub offsetOf : Verdict → ℕ
@@ -40,9 +39,6 @@ offsetOf Sound = 0
 offsetOf BadHeader = 0
 offsetOf (BadRecord at) = at
 offsetOf (BadIncidence at) = at
-
-abbrev pub loadCode : Bounds → List ℕ → ℕ
-loadCode b ws = loadable b ws ⇒ 0 else 105
 
 abbrev pub bounds : ℕ → ℕ → ℕ → Bounds
 bounds vertices edges types = record { vertices = vertices; edges = edges; types = types }
@@ -66,6 +62,11 @@ recordAt size at good rest = ltb good size ⇒ BadRecord (at + good) else rest
 
 -- ---- the parts
 
+-- the numbers of k records of size words
+unfoldable pub numbersIn : ℕ → ℕ → List ℕ → List ℕ
+numbersIn size zero ws = []
+numbersIn size (suc k) ws = getD ws 0 0 ∷ numbersIn size k (drop size ws)
+
 -- k vertex records of size words in turn; seen has the numbers before
 unfoldable pub vertexWalk : ℕ → ℕ → ℕ → List ℕ → ℕ → List ℕ → ℕ → Verdict
 unfolding goodVertex
@@ -73,11 +74,6 @@ vertexWalk size cap types seen zero ws at = Sound
 vertexWalk size cap types seen (suc k) ws at =
     recordAt 3 at (goodVertex cap types (not (has (getD ws 0 0) seen)) (getD ws 0 0) (getD ws 1 0) (getD ws 2 0))
     (vertexWalk size cap types (getD ws 0 0 ∷ seen) k (drop size ws) (at + size))
-
--- the numbers of k records of size words
-unfoldable pub numbersIn : ℕ → ℕ → List ℕ → List ℕ
-numbersIn size zero ws = []
-numbersIn size (suc k) ws = getD ws 0 0 ∷ numbersIn size k (drop size ws)
 
 -- k edge records in turn; vs has the vertices' numbers, seen the edges' numbers before
 unfoldable pub edgeWalk : ℕ → ℕ → List ℕ → List ℕ → ℕ → List ℕ → ℕ → Verdict
@@ -136,3 +132,10 @@ verdict b ws =
     else andThen (vertexWalk vertexSize (b .vertices) (b .types) [] v (vertexPart ws) vertexOffset)
     (andThen (edgeWalk (b .edges) (b .types) (numbersOf ws) [] e (edgePart ws) (edgeOffset v))
     (listWalk (edgesFrom e (edgePart ws)) (numbersOf ws) (incidencePart ws) (incidenceOffset v e)))
+
+-- the code and the offset of words (proofs/LoadCodes: the code is 0 exactly where they load)
+abbrev pub loadCode : Bounds → List ℕ → ℕ
+loadCode b ws = codeOf (verdict b ws)
+
+abbrev pub loadOffset : Bounds → List ℕ → ℕ
+loadOffset b ws = offsetOf (verdict b ws)

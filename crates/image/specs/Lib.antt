@@ -1,4 +1,5 @@
 pub mod Image
 pub mod Parts
 pub mod Checks
+pub mod FirstBad
 pub mod Scratch

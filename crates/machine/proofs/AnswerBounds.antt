@@ -74,11 +74,11 @@ lowest-le n (r ∷ rs) (more h hs) = go (r .applies) (lowest-le n rs hs)
     go true i = h
     go false i = i
 
-pub code-le : (w : Parameters) (m : Machine) (c : Command) → refusal w m c ≤ 16
+pub code-le : (w : Parameters) (m : Machine) (c : Command) → refusal w m c ≤ 17
 unfolding refusal
 code-le w m c =
     let t = codeTable w m (callOf c) in
-    lowest-le 16 t (all-bool (λ (r : Row). leb (r .code) 16) (λ r e. leb-true (r .code) 16 e) t refl)
+    lowest-le 17 t (all-bool (λ (r : Row). leb (r .code) 17) (λ r e. leb-true (r .code) 17 e) t refl)
 
 -- ---- numbers
 
@@ -141,7 +141,7 @@ module _ (w : Parameters) (m : Machine) (k : Limits w) (i : Invariant w m) where
   number-fits (Recall Free) = omega (arith, free-le w m, k .few-changes)
   number-fits (Ask q) = question-fits q
   number-fits (Quote (Range a b)) = omega (arith, two-way-range (boundsIn w) (present m) ranges a b)
-  number-fits (Quote (Grade a b)) = omega (arith, grade-range (boundsIn w) (present m) ranges a b)
+  number-fits (Quote (Grade a b c)) = omega (arith, grade-range (boundsIn w) (present m) ranges a b c)
   number-fits Unknown = omega arith
 
   -- both words of an answer

@@ -15,13 +15,13 @@ use Rattle.commands.specs.Tables.{NoneApplies}
 use Rattle.machine.specs.Calls.{Parameters, boundsIn}
 use Rattle.machine.specs.Codes.{codeTable, refusal}
 use Rattle.machine.specs.Machine.{Answer, deedOf, answerTo, answer, answers, step, last}
-use Rattle.machine.specs.Run.{Lent, parametersOf, listTable, listRefusal, refused, run}
+use Rattle.machine.specs.Run.{Lent, parametersOf, listTable, listRefusal, listNumber, refused, run}
 use Rattle.machine.specs.Demand.{begins, after}
 use Rattle.machine.specs.Demands.{Each, ByTable, Demand1, OfTheGraph, Demand2}
 use Rattle.machine.proofs.Accepts.{refused-step}
 use Rattle.machine.proofs.Graphs.{end-formed}
 use Rattle.machine.proofs.ListRows.{passed, start-formed}
-use Rattle.machine.proofs.Lowest.{lowest-to, lowest-from, none-to, none-from, coded, list-code-given}
+use Rattle.machine.proofs.Lowest.{turn-to, turn-from, none-to, none-from, coded, list-code-given}
 use Rattle.machine.proofs.OnWords.{on-words}
 use Rattle.machine.proofs.Whole.{demand-3}
 
@@ -31,7 +31,7 @@ module _ (w : Parameters) (m : Machine) (x : Call) where
   by-table : ByTable w m x (answer w m x)
   unfolding answerTo
   by-table = record {
-    refused-by = λ k. (λ e. lowest-to k (codeTable w m x) (on-words w m x ∙ e), λ h. sym (on-words w m x) ∙ lowest-from k h);
+    refused-by = λ k. (λ e. turn-to k (codeTable w m x) (on-words w m x ∙ e), λ h. sym (on-words w m x) ∙ turn-from k h);
     accepted = (λ e. none-to (codeTable w m x) (coded w m x) (on-words w m x ∙ e), λ h. sym (on-words w m x) ∙ none-from h);
     number = λ n. rw (ne-eqb (refusal w m (commandOf x)) 0 n);
     leaves = λ n. refused-step w m (commandOf x) (ne-eqb (refusal w m (commandOf x)) 0 n);
@@ -55,7 +55,7 @@ not-refused : (l : Lent) → NoneApplies (listTable l) → listRefusal l ≡ 0
 unfolding listRefusal
 not-refused l h = none-from {rs = listTable l} h
 
-refused-is : (l : Lent) (k : ℕ) → listRefusal l ≡ suc k → run l ≡ refused (suc k) l
+refused-is : (l : Lent) (k : ℕ) → listRefusal l ≡ suc k → run l ≡ refused (suc k) (listNumber l) l
 unfolding run
 refused-is l k e = rw (e, ne-eqb (suc k) 0 (omega arith))
 

@@ -127,7 +127,7 @@ module _ (w : Parameters) (m : Machine) where
   pub price-refusal : (p : PriceCall) → refusal w m (Quote p) ≡ priceCode (present m) p
   unfolding refusal
   price-refusal (Range a b) = refl
-  price-refusal (Grade a b) = refl
+  price-refusal (Grade a b c) = refl
 
 -- ---- steps are made by changes alone
 

@@ -12,6 +12,7 @@ pub mod Graphs
 pub mod GraphBounds
 pub mod Invariant
 pub mod ListRows
+pub mod BadStart
 pub mod AnswerBounds
 pub mod Ends
 pub mod Lowest

@@ -1,4 +1,4 @@
--- What a list that is not refused has passed: none of 101 to 106 applies.
+-- What a list that is not refused has passed: no row of its table applies.
 use Prim.Native.Nat.{ℕ, suc, _*_, _/_, _%_, _≤_}
 use mathlib.Core.Path.{_≡_, refl}
 use mathlib.Core.Bool.{Bool, true, false, not, _&&_}
@@ -11,6 +11,10 @@ use Rattle.lists.specs.Lists.{all}
 use Rattle.lists.proofs.Bools.{and-true, within-range}
 use Rattle.types.specs.Rows.{rowFits, goodRows}
 use Rattle.image.specs.Image.{load, loadable, imageLength}
+use Rattle.image.specs.Checks.{codeOf, verdict}
+use Rattle.image.specs.declared.Verdict.{Verdict}
+use Rattle.image.specs.declared.Verdict.the-variants.{Sound, BadHeader, BadRecord, BadIncidence}
+use Rattle.image.proofs.LoadCodes.{code-loads}
 use Rattle.image.proofs.Loads.{loaded}
 use Rattle.image.proofs.WordSize.{InRange}
 use Rattle.machine.specs.Calls.{Parameters, boundsIn}
@@ -20,6 +24,17 @@ use Rattle.machine.proofs.Graphs.{Formed}
 chain-zero : (t : Bool) (n r : ℕ) → ((t ⇒ suc n else r) == 0) ≡ true → (t ≡ false) × ((r == 0) ≡ true)
 chain-zero true n r h = absurd (omega (arith, eqb-true (suc n) 0 h))
 chain-zero false n r h = (refl, h)
+
+-- the three rows of the start chart
+unfoldable pub startRows : Verdict → ℕ → ℕ
+startRows v r = (codeOf v == 105) ⇒ 105 else (codeOf v == 108) ⇒ 108 else (codeOf v == 109) ⇒ 109 else r
+
+start-zero : (v : Verdict) (r : ℕ) → (startRows v r == 0) ≡ true → (codeOf v ≡ 0) × ((r == 0) ≡ true)
+unfolding startRows
+start-zero Sound r h = (refl, h)
+start-zero BadHeader r h = absurd (omega (arith, eqb-true 105 0 h))
+start-zero (BadRecord at) r h = absurd (omega (arith, eqb-true 108 0 h))
+start-zero (BadIncidence at) r h = absurd (omega (arith, eqb-true 109 0 h))
 
 pub limits-in : (w : Parameters) → Limits w → InRange (boundsIn w)
 limits-in w k = record { vertices = k .few-vertices; edges = k .few-edges; types = k .few-types }
@@ -33,14 +48,14 @@ pub record Passed (l : Lent) : Type 0 where
   pub end-room : imageLength (parametersOf l .vertices) (parametersOf l .edges) ≤ length (l .end)
 
 pub passed : (l : Lent) → listRefusal l ≡ 0 → Passed l
-unfolding listRefusal goodRows
+unfolding listRefusal goodRows startRows
 passed l e =
     let w = parametersOf l in
     let r1 = chain-zero (not (length (l .calls) % 5 == 0)) 100 _ (eq-eqb _ 0 e) in
     let r2 = chain-zero (ltb (length (l .answers)) (2 * (length (l .calls) / 5))) 101 _ (r1 .1) in
     let r3 = chain-zero (not (within 1 1000 (w .vertices) && within 1 4000 (w .edges) && within 1 20000 (w .changes))) 102 _ (r2 .1) in
     let r4 = chain-zero (not (goodRows (l .rows))) 103 _ (r3 .1) in
-    let r5 = chain-zero (not (loadable (boundsIn w) (l .start))) 104 _ (r4 .1) in
+    let r5 = start-zero (verdict (boundsIn w) (l .start)) _ (r4 .1) in
     let r6 = chain-zero (ltb (length (l .end)) (imageLength (w .vertices) (w .edges))) 105 _ (r5 .1) in
     let a = and-true (within 1 1000 (w .vertices) && within 1 4000 (w .edges)) (within 1 20000 (w .changes)) (not-false _ (r3 .0)) in
     let b = and-true (within 1 1000 (w .vertices)) (within 1 4000 (w .edges)) (a .0) in
@@ -63,7 +78,7 @@ passed l e =
         few-types = t .1;
       };
       rows-good = not-false _ (r4 .0);
-      start-loads = not-false _ (r5 .0);
+      start-loads = code-loads (boundsIn w) (l .start) .0 (r5 .0);
       end-room = ltb-false _ _ (r6 .0);
     }
 

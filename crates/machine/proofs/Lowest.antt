@@ -1,4 +1,4 @@
--- The code given is that of the lowest row that applies; 10 is given for want of room.
+-- The code given is that of the first row that applies, of a call the lowest; 10 is given for want of room.
 use Prim.Native.Nat.{ℕ, suc, _≤_, _<_}
 use mathlib.Core.Path.{_≡_, refl}
 use mathlib.Core.Logic.{_↔_}
@@ -20,44 +20,44 @@ use Rattle.machine.specs.HistoryCodes.{isChange}
 use Rattle.commands.specs.Commands.{changeOf, callOf}
 use Rattle.machine.specs.Codes.{free, codeTable, refusal}
 use Rattle.machine.specs.HistoryCodes.{noRoom}
-use Rattle.commands.specs.Tables.{Row, lowest, Lowest, found, later, NoneApplies, none, passed}
+use Rattle.commands.specs.Tables.{Row, inTurn, First, found, later, NoneApplies, none, passed}
 use Rattle.commands.specs.declared.Command.{Command}
 use Rattle.machine.proofs.Families.{Coded}
 use Rattle.machine.specs.Run.{Lent, listTable, listRefusal}
 
 -- the codes of the tables, in their order
-pub codes : (w : Parameters) (m : Machine) (x : Call) → map (λ (r : Row). r .code) (codeTable w m x) ≡ map suc (upto 16)
+pub codes : (w : Parameters) (m : Machine) (x : Call) → map (λ (r : Row). r .code) (codeTable w m x) ≡ map suc (upto 17)
 unfolding codeTable
 codes w m x = refl
 
-pub list-codes : (l : Lent) → map (λ (r : Row). r .code) (listTable l) ≡ 101 ∷ 102 ∷ 103 ∷ 104 ∷ 105 ∷ 106 ∷ []
+pub list-codes : (l : Lent) → map (λ (r : Row). r .code) (listTable l) ≡ 101 ∷ 102 ∷ 103 ∷ 104 ∷ 105 ∷ 108 ∷ 109 ∷ 106 ∷ []
 unfolding listTable
 list-codes l = refl
 
 -- ---- any table of codes from 1 on
 
 module _ (k : ℕ) where
-  pub lowest-to : (rs : List Row) → lowest rs ≡ suc k → Lowest (suc k) rs
-  lowest-to [] e = absurd (omega arith)
-  lowest-to (r ∷ rs) e = go (λ i. lowest-to rs i) (r .applies) refl e
+  pub turn-to : (rs : List Row) → inTurn rs ≡ suc k → First (suc k) rs
+  turn-to [] e = absurd (omega arith)
+  turn-to (r ∷ rs) e = go (λ i. turn-to rs i) (r .applies) refl e
     where
-      go : (lowest rs ≡ suc k → Lowest (suc k) rs) → (t : Bool) → r .applies ≡ t → (t ⇒ r .code else lowest rs) ≡ suc k → Lowest (suc k) (r ∷ rs)
+      go : (inTurn rs ≡ suc k → First (suc k) rs) → (t : Bool) → r .applies ≡ t → (t ⇒ r .code else inTurn rs) ≡ suc k → First (suc k) (r ∷ rs)
       go ih true f i = found f i
       go ih false f i = later f (ih i)
 
-  pub lowest-from : {rs : List Row} → Lowest (suc k) rs → lowest rs ≡ suc k
-  lowest-from (found f e) = rw f e
-  lowest-from (later f h) = rw f (lowest-from h)
+  pub turn-from : {rs : List Row} → First (suc k) rs → inTurn rs ≡ suc k
+  turn-from (found f e) = rw f e
+  turn-from (later f h) = rw f (turn-from h)
 
-pub none-to : (rs : List Row) → Coded rs → lowest rs ≡ 0 → NoneApplies rs
+pub none-to : (rs : List Row) → Coded rs → inTurn rs ≡ 0 → NoneApplies rs
 none-to [] done e = none
 none-to (r ∷ rs) (more c cs) e = go (λ i. none-to rs cs i) (r .applies) refl e
   where
-    go : (lowest rs ≡ 0 → NoneApplies rs) → (t : Bool) → r .applies ≡ t → (t ⇒ r .code else lowest rs) ≡ 0 → NoneApplies (r ∷ rs)
+    go : (inTurn rs ≡ 0 → NoneApplies rs) → (t : Bool) → r .applies ≡ t → (t ⇒ r .code else inTurn rs) ≡ 0 → NoneApplies (r ∷ rs)
     go ih true f i = absurd (omega arith)
     go ih false f i = passed f (ih i)
 
-pub none-from : {rs : List Row} → NoneApplies rs → lowest rs ≡ 0
+pub none-from : {rs : List Row} → NoneApplies rs → inTurn rs ≡ 0
 none-from none = refl
 none-from (passed f h) = rw f (none-from h)
 
@@ -69,9 +69,9 @@ coded w m x = all-bool (λ (r : Row). leb 1 (r .code)) (λ r e. leb-true 1 (r .c
 
 module _ (w : Parameters) (m : Machine) (c : Command) where
   -- a code is given exactly where its row applies and no row before it does
-  pub code-given : (k : ℕ) → (refusal w m c ≡ suc k) ↔ Lowest (suc k) (codeTable w m (callOf c))
+  pub code-given : (k : ℕ) → (refusal w m c ≡ suc k) ↔ First (suc k) (codeTable w m (callOf c))
   unfolding refusal
-  code-given k = (lowest-to k (codeTable w m (callOf c)), lowest-from k)
+  code-given k = (turn-to k (codeTable w m (callOf c)), turn-from k)
 
   -- a call is accepted exactly where no row applies
   pub none-given : (refusal w m c ≡ 0) ↔ NoneApplies (codeTable w m (callOf c))
@@ -86,6 +86,6 @@ no-room w m x =
 
 -- ---- the table of a list
 
-pub list-code-given : (l : Lent) (k : ℕ) → (listRefusal l ≡ suc k) ↔ Lowest (suc k) (listTable l)
+pub list-code-given : (l : Lent) (k : ℕ) → (listRefusal l ≡ suc k) ↔ First (suc k) (listTable l)
 unfolding listRefusal
-list-code-given l k = (lowest-to k (listTable l), lowest-from k)
+list-code-given l k = (turn-to k (listTable l), turn-from k)

@@ -1,7 +1,13 @@
--- A price is read off the present graph alone, so it comes back with the graph of a mark.
-use Prim.Native.Nat.{ℕ}
+-- A price is read off the present graph alone, so it comes back with the graph of a mark; where code 17 is given.
+use Prim.Native.Nat.{ℕ, _<_}
 use mathlib.Core.Path.{_≡_, refl, ap, _∙_}
+use mathlib.Core.Logic.{_↔_}
+use mathlib.Core.Bool.{Bool, true, false, _||_}
 use mathlib.Core.List.{List}
+use native.Mathlib.Omega.{arith}
+use lib.Dec.{ltb}
+use borrow.Author.Tests.{ltb-true, lt-ltb}
+use Rattle.lists.proofs.Bools.{ft}
 use Rattle.lists.specs.Choice.{_⇒_else_, _==_}
 use Rattle.graph.specs.Graph.{Graph}
 use Rattle.history.specs.Machine.{Machine, fresh, present}
@@ -11,7 +17,8 @@ use Rattle.commands.specs.declared.Command.the-variants.{Quote}
 use Rattle.commands.specs.Calls.{Call, five}
 use Rattle.commands.specs.Commands.{commandOf}
 use Rattle.machine.specs.Calls.{Parameters}
-use Rattle.machine.specs.Codes.{priceCode}
+use Rattle.pricing.specs.Prices.{nothingHeard}
+use Rattle.machine.specs.Codes.{lacksVertex, priceCode}
 use Rattle.machine.specs.Machine.{Answer, priceNumber, answerTo, answer, step, last}
 use Rattle.machine.specs.Marks.{events, Kept, goTo}
 use Rattle.machine.proofs.Families.{price-refusal}
@@ -25,12 +32,31 @@ pub price-of-present : (w : Parameters) (m : Machine) (p : PriceCall) → answer
 unfolding answerTo
 price-of-present w m p = rw (price-refusal w m p)
 
+-- ---- code 17: a price list that there is not, of a pair that has a range
+
+exactly : (u v t : Bool) →
+    _≡_ {A = ℕ} (u ⇒ 4 else v ⇒ 16 else t ⇒ 17 else 0) 17 ↔ ((_≡_ {A = ℕ} (u ⇒ 4 else v ⇒ 16 else 0) 0) × (t ≡ true))
+exactly true v t = (λ e. absurd (omega arith), λ p. absurd (omega arith))
+exactly false true t = (λ e. absurd (omega arith), λ p. absurd (omega arith))
+exactly false false true = (λ e. (refl, refl), λ p. refl)
+exactly false false false = (λ e. absurd (omega arith), λ p. ft (p .1))
+
+pub price-list-code : (g : Graph) (a b c : ℕ) →
+    (priceCode g (Grade a b c) ≡ 17) ↔ ((priceCode g (Range a b) ≡ 0) × (2 < c))
+price-list-code g a b c =
+    let x = exactly (lacksVertex g a || lacksVertex g b) (nothingHeard g a b) (ltb 2 c) in (
+      λ e. let p = x .0 e in (p .0, ltb-true 2 c (p .1)),
+      λ p. x .1 (p .0, lt-ltb 2 c (p .1)),
+    )
+
+-- ---- marks
+
 -- kinds 53 and 54 by their words
 pub range-call : (a b c d : ℕ) → commandOf (five 53 a b c d) ≡ Quote (Range a b)
 unfolding commandOf
 range-call a b c d = refl
 
-pub grade-call : (a b c d : ℕ) → commandOf (five 54 a b c d) ≡ Quote (Grade a b)
+pub grade-call : (a b c d : ℕ) → commandOf (five 54 a b c d) ≡ Quote (Grade a b c)
 unfolding commandOf
 grade-call a b c d = refl
 

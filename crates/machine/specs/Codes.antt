@@ -1,4 +1,4 @@
--- The table of codes 1 to 16: when each applies, and the lowest that does.
+-- The table of codes 1 to 17: when each applies, and the lowest that does.
 use Prim.Native.Nat.{ℕ}
 use mathlib.Core.Bool.{Bool, false, not, _&&_}
 use mathlib.Core.List.{List, [], _∷_, _++_}
@@ -76,6 +76,10 @@ sideOutside x = (x .kind == 45) && ltb 2 (x .c)
 abbrev pub nothingToRange : Graph → Call → Bool
 nothingToRange g x = (x .kind is (53 ∷ 54 ∷ [])) && nothingHeard g (x .a) (x .b)
 
+-- 17: a grade by a price list that there is not
+abbrev pub priceListOutside : Call → Bool
+priceListOutside x = (x .kind == 54) && ltb 2 (x .c)
+
 -- ---- the table
 
 -- rows 1 to 9
@@ -92,11 +96,12 @@ chartTable b g x =
     row 9 (sameTwice x) ∷
     []
 
--- rows 15 and 16
+-- rows 15 to 17
 abbrev pub lastTable : Graph → Call → List Row
 lastTable g x =
     row 15 (sideOutside x) ∷
     row 16 (nothingToRange g x) ∷
+    row 17 (priceListOutside x) ∷
     []
 
 -- 10 to 14 are the history's

@@ -17,11 +17,11 @@ use Rattle.commands.specs.declared.Command.the-variants.{Ask, Quote}
 use Rattle.commands.specs.Calls.{Call, callsOf}
 use Rattle.commands.specs.Commands.{commandOf}
 use Rattle.commands.specs.Fits.{Words}
-use Rattle.commands.specs.Tables.{Lowest, NoneApplies}
+use Rattle.commands.specs.Tables.{First, NoneApplies}
 use Rattle.machine.specs.Calls.{Parameters, boundsIn}
 use Rattle.machine.specs.Codes.{codeTable}
 use Rattle.machine.specs.Machine.{Answer, questionNumber, priceNumber, step}
-use Rattle.machine.specs.Run.{Lent, RunResult, parametersOf, listTable, refused, answerWords}
+use Rattle.machine.specs.Run.{Lent, RunResult, parametersOf, listTable, listNumber, refused, answerWords}
 use Rattle.machine.specs.Demand.{begins, after}
 
 -- one claim a call and its answer, each on the machine that the calls before it left; as many answers as calls
@@ -33,14 +33,14 @@ Each P w m (x ∷ xs) (a ∷ bs) = P m x a × Each P w (step w m x) xs bs
 
 -- the code of a call is the lowest of the table on its five words; a refused call answers 0 and leaves graph, marks and history
 pub record ByTable (w : Parameters) (m : Machine) (x : Call) (a : Answer) : Type 0 where
-  pub refused-by : (k : ℕ) → (a .code ≡ suc k) ↔ Lowest (suc k) (codeTable w m x)
+  pub refused-by : (k : ℕ) → (a .code ≡ suc k) ↔ First (suc k) (codeTable w m x)
   pub accepted : (a .code ≡ 0) ↔ NoneApplies (codeTable w m x)
   pub number : (a .code ≡ 0 → ⊥) → a .number ≡ 0
   pub leaves : (a .code ≡ 0 → ⊥) → step w m x ≡ m
 
 pub record Demand1 (l : Lent) (r : RunResult) (tables-stay : Type 0) : Type 0 where
-  -- a list has the first code of its table that applies; then nothing is done and nothing written
-  pub refusal : (k : ℕ) → Lowest (suc k) (listTable l) → (r ≡ refused (suc k) l) × tables-stay
+  -- a list has the first code of its table that applies, with the number beside it; nothing is done and nothing written
+  pub refusal : (k : ℕ) → First (suc k) (listTable l) → (r ≡ refused (suc k) (listNumber l) l) × tables-stay
   -- else each call has its answer
   pub answered : NoneApplies (listTable l) →
       (r .code ≡ 0) × (r .done ≡ length (callsOf (l .calls)))

@@ -66,10 +66,10 @@ questionNumber rows g (EdgeOrder a b) = bit (before a b (edgeNumbers g))
 questionNumber rows g (WordOrder a b) = bit (before a b (listOf g (this g a)))
 questionNumber rows g (Below s t) = bit (below rows s t)
 
--- REFERENCE 6.2 and 6.3
+-- kind 53: the two-way range of a and b; kind 54: the grade of that range by list c (REFERENCE 6.2, 6.3)
 abbrev pub priceNumber : Graph → PriceCall → ℕ
 priceNumber g (Range a b) = twoWay g a b
-priceNumber g (Grade a b) = grade g a b
+priceNumber g (Grade a b c) = grade c g a b
 
 -- ---- one command: the number and the effect of an accepted one; questions and prices have none
 

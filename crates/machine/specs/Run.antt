@@ -1,16 +1,17 @@
 -- A run: what is lent, the refusals of a list, the result and the lent words after it.
 use Prim.Native.Nat.{ℕ, _*_, _/_, _%_, _≤_}
-use mathlib.Core.Bool.{not, _&&_}
+use mathlib.Core.Bool.{not, _&&_, _||_}
 use mathlib.Core.List.{List, [], _∷_}
 use lib.ListN.{length}
 use lib.Dec.{ltb}
 use Rattle.lists.specs.Choice.{_⇒_else_, _==_, within}
 use Rattle.lists.specs.Lists.{over}
 use Rattle.types.specs.Rows.{goodRows}
-use Rattle.image.specs.Image.{imageLength, save, load, loadable}
+use Rattle.image.specs.Image.{imageLength, save, load}
+use Rattle.image.specs.Checks.{verdict, loadCode, loadOffset}
 use Rattle.history.specs.Machine.{fresh, present}
 use Rattle.commands.specs.Calls.{callsOf}
-use Rattle.commands.specs.Tables.{Row, row, lowest}
+use Rattle.commands.specs.Tables.{Row, row, inTurn}
 use Rattle.machine.specs.Calls.{Parameters, boundsIn}
 use Rattle.machine.specs.Machine.{Answer, answers, last}
 
@@ -25,7 +26,8 @@ pub record Lent : Type 0 where
   pub answers : List ℕ
   pub end : List ℕ
 
--- REFERENCE 9.4, and the two lent slices that a run writes, as it ends
+-- the result, a code, a number (the calls done) and the words of the end chart, and the two lent slices that a run
+-- writes, as it ends
 pub record RunResult : Type 0 where
   pub code : ℕ
   pub done : ℕ
@@ -35,7 +37,12 @@ pub record RunResult : Type 0 where
 
 -- REFERENCE 9.2
 abbrev pub parametersOf : Lent → Parameters
-parametersOf l = record { rows = l .rows; vertices = l .vertexTable / 8; edges = l .edgeTable / 12; changes = l .changeTable / 12 }
+parametersOf l = record {
+  rows = l .rows;
+  vertices = l .vertexTable / 8;
+  edges = l .edgeTable / 12;
+  changes = l .changeTable / 12;
+}
 
 -- REFERENCE 12.1
 pub record Limits (w : Parameters) : Type 0 where
@@ -48,25 +55,39 @@ pub record Limits (w : Parameters) : Type 0 where
   pub some-types : 1 ≤ length (w .rows)
   pub few-types : length (w .rows) ≤ 64
 
--- REFERENCE 8.1 to 8.6; 106 asks for the length of an image as large as the capacities
+-- The codes of a list in turn: 101 to 104, then what is bad in the start chart, 105, 108 or 109, then 106, which asks
+-- for as many words as an image with as many vertices and edges as the capacities.
 unfoldable pub listTable : Lent → List Row
-unfolding goodRows loadable
+unfolding goodRows verdict
 listTable l =
     row 101 (not (length (l .calls) % 5 == 0)) ∷
     row 102 (ltb (length (l .answers)) (2 * (length (l .calls) / 5))) ∷
     row 103 (not (within 1 1000 (w .vertices) && within 1 4000 (w .edges) && within 1 20000 (w .changes))) ∷
     row 104 (not (goodRows (l .rows))) ∷
-    row 105 (not (loadable (boundsIn w) (l .start))) ∷
+    row 105 (start == 105) ∷
+    row 108 (start == 108) ∷
+    row 109 (start == 109) ∷
     row 106 (ltb (length (l .end)) (imageLength (w .vertices) (w .edges))) ∷
     []
   where
     w : Parameters
     w = parametersOf l
 
--- the lowest that applies, 0 where none does
+    start : ℕ
+    start = loadCode (boundsIn w) (l .start)
+
+-- the first in turn that applies, 0 where none does
 unfoldable pub listRefusal : Lent → ℕ
 unfolding listTable
-listRefusal l = lowest (listTable l)
+listRefusal l = inTurn (listTable l)
+
+-- the number beside a code: with 108 and 109 the offset of the first bad word of the start chart, else 0
+abbrev pub numberBeside : ℕ → ℕ → ℕ
+numberBeside code offset = ((code == 108) || (code == 109)) ⇒ offset else 0
+
+unfoldable pub listNumber : Lent → ℕ
+unfolding listRefusal verdict
+listNumber l = numberBeside (listRefusal l) (loadOffset (boundsIn (parametersOf l)) (l .start))
 
 -- REFERENCE 9.6
 abbrev pub answerWords : List Answer → List ℕ
@@ -88,10 +109,10 @@ accepted l =
       end = over image (l .end);
     }
 
--- REFERENCE 9.8
-unfoldable pub refused : ℕ → Lent → RunResult
-refused code l = record { code = code; done = 0; words = 0; answers = l .answers; end = l .end }
+-- a refused list returns its code, the number beside it and 0, and writes nowhere
+unfoldable pub refused : ℕ → ℕ → Lent → RunResult
+refused code number l = record { code = code; done = number; words = 0; answers = l .answers; end = l .end }
 
 unfoldable pub run : Lent → RunResult
-unfolding listRefusal accepted refused
-run l = let r = listRefusal l in (r == 0) ⇒ accepted l else refused r l
+unfolding listRefusal listNumber accepted refused
+run l = let r = listRefusal l in (r == 0) ⇒ accepted l else refused r (listNumber l) l

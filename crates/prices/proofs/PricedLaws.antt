@@ -1,17 +1,16 @@
 -- Code and range of two vertices, and the answers that they make.
-use Prim.Native.Nat.{ℕ}
+use Prim.Native.Nat.{ℕ, _≤_, _<_}
 use mathlib.Core.Path.{_≡_, refl, sym, ap, _∙_}
 use mathlib.Core.Bool.{Bool, true, false, _||_}
 use native.Mathlib.Omega.{arith}
-use borrow.Author.Tests.{ne-eqb, not-false}
+use lib.Dec.{ltb}
+use borrow.Author.Tests.{ne-eqb, not-false, lt-ltb, le-ltb}
 use Rattle.lists.specs.Choice.{_⇒_else_, _==_}
 use Rattle.graph.specs.Graph.{Graph, hasVertex}
 use Rattle.graph.specs.WellFormed.{WellFormed}
 use Rattle.graph.specs.Changes.{VertexThere}
 use Rattle.graph.proofs.Numbers.{vertex-once}
-use Rattle.pricing.specs.Grades.{limits}
 use Rattle.pricing.specs.Prices.{nothingHeard, twoWay, gradeOf, grade}
-use Rattle.pricing.proofs.GradeLaws.{grade-of-zero, limits-rise}
 use Rattle.commands.specs.declared.PriceCall.the-variants.{Range, Grade}
 use Rattle.machine.specs.Codes.{lacksVertex, priceCode}
 use Rattle.machine.specs.Machine.{priceNumber}
@@ -24,13 +23,33 @@ use Rattle.prices.specs.Priced.{Priced}
 pub range-answers : (g : Graph) (a b : ℕ) (r : Price) → Priced g a b r → AnswerIs (record { code = r .code; number = r .range }) (priceCode g (Range a b)) (priceNumber g (Range a b))
 range-answers g a b r d = record { coded = d .coded; numbered = d .ranged }
 
-pub grade-answers : (g : Graph) (a b n : ℕ) (r : Price) → Priced g a b r → n ≡ gradeOf (r .range) → AnswerIs (record { code = r .code; number = n }) (priceCode g (Grade a b)) (priceNumber g (Grade a b))
-unfolding grade
-grade-answers g a b n r d e = record { coded = d .coded; numbered = e ∙ ap gradeOf (d .ranged) ∙ pick (priceCode g (Grade a b) == 0) }
-  where
-    pick : (t : Bool) → gradeOf (t ⇒ twoWay g a b else 0) ≡ (t ⇒ gradeOf (twoWay g a b) else 0)
-    pick true = refl
-    pick false = grade-of-zero limits limits-rise
+-- the code of a grade is that of the range, or 17
+then-17 : (u v t : Bool) (n : ℕ) → n ≡ (u ⇒ 4 else v ⇒ 16 else 0) →
+    (u ⇒ 4 else v ⇒ 16 else t ⇒ 17 else 0) ≡ ((n == 0) ⇒ (t ⇒ 17 else 0) else n)
+then-17 true v t n e = rw e
+then-17 false true t n e = rw e
+then-17 false false t n e = rw e
+
+module _ (g : Graph) (a b c : ℕ) (r : Price) (d : Priced g a b r) where
+  grade-code : priceCode g (Grade a b c) ≡ ((r .code == 0) ⇒ (ltb 2 c ⇒ 17 else 0) else r .code)
+  grade-code = then-17 (lacksVertex g a || lacksVertex g b) (nothingHeard g a b) (ltb 2 c) (r .code) (d .coded)
+
+  -- answered as the call's code and number
+  abbrev Graded : ℕ → ℕ → Type 0
+  Graded k n = AnswerIs (record { code = k; number = n }) (priceCode g (Grade a b c)) (priceNumber g (Grade a b c))
+
+  pub grade-refused : (r .code ≡ 0 → ⊥) → Graded (r .code) 0
+  grade-refused n =
+      rw (grade-code, ne-eqb (r .code) 0 n) (record { coded = refl; numbered = rw (ne-eqb (r .code) 0 n) })
+
+  pub grade-outside : r .code ≡ 0 → 2 < c → Graded 17 0
+  grade-outside z l = rw (grade-code, z, lt-ltb 2 c l) (record { coded = refl; numbered = refl })
+
+  pub grade-done : r .code ≡ 0 → c ≤ 2 → (n : ℕ) → n ≡ gradeOf c (r .range) → Graded 0 n
+  unfolding grade
+  grade-done z l n e =
+      rw (grade-code, z, le-ltb 2 c l)
+      (record { coded = refl; numbered = e ∙ ap (gradeOf c) (d .ranged ∙ rw (← d .coded, z)) })
 
 -- ---- codes 4 and 16
 

@@ -1,14 +1,14 @@
-// The printed price list: the lower limit of each grade, and the grade of a range by such a table.
+// The printed price lists: the lower limit of each grade, and the grade of a range by such a table.
 ghost use mathlib.Core.Path.{_≡_};
 ghost use Prim.Native.Nat.{_+_, _-_, _<_};
 ghost use lib.ListN.{length};
 ghost use lib.Dec.{leb};
 ghost use Rattle.lists.specs.Choice.{bit};
-ghost use Rattle.pricing.specs.Grades.{gradeBy};
+ghost use Rattle.pricing.specs.Grades.{oldLimits, newLimits, gradeBy};
 ghost use Rattle.pricing.specs.Prices.{gradeOf};
 
 // Behind each limit its grade.
-const LIMITS: [u32; 40] = [
+const OLD_LIMITS: [u32; 40] = [
     0, // 0
     250, // 1
     500, // 2
@@ -51,6 +51,59 @@ const LIMITS: [u32; 40] = [
     9750, // 39
 ];
 
+const NEW_LIMITS: [u32; 50] = [
+    0, // 0
+    200, // 1
+    400, // 2
+    600, // 3
+    800, // 4
+    1000, // 5
+    1200, // 6
+    1400, // 7
+    1600, // 8
+    1800, // 9
+    2000, // 10
+    2200, // 11
+    2400, // 12
+    2600, // 13
+    2800, // 14
+    3000, // 15
+    3200, // 16
+    3400, // 17
+    3600, // 18
+    3800, // 19
+    4000, // 20
+    4200, // 21
+    4400, // 22
+    4600, // 23
+    4800, // 24
+    5000, // 25
+    5200, // 26
+    5400, // 27
+    5600, // 28
+    5800, // 29
+    6000, // 30
+    6200, // 31
+    6400, // 32
+    6600, // 33
+    6800, // 34
+    7000, // 35
+    7200, // 36
+    7400, // 37
+    7600, // 38
+    7800, // 39
+    8000, // 40
+    8200, // 41
+    8400, // 42
+    8600, // 43
+    8800, // 44
+    9000, // 45
+    9200, // 46
+    9400, // 47
+    9600, // 48
+    9800, // 49
+];
+
 // One more where the limit is not above the range.
 fn counted(n: u32, limit: u32, range: u32) -> u32
     requires { ⌜ n < 4294967295 ⌝ }
@@ -85,9 +138,24 @@ fn grade_by(limits: &[u32], range: u32) -> u32
     less_one(n)
 }
 
-// The grade of a range.
-pub fn grade_of(range: u32) -> u32
-    ensures { λ r. ⌜ r ≡ gradeOf range ⌝ }
+fn old_grade(range: u32) -> u32
+    ensures { λ r. ⌜ r ≡ gradeBy oldLimits range ⌝ }
 {
-    grade_by(&LIMITS, range)
+    grade_by(&OLD_LIMITS, range)
+}
+
+fn new_grade(range: u32) -> u32
+    ensures { λ r. ⌜ r ≡ gradeBy newLimits range ⌝ }
+{
+    grade_by(&NEW_LIMITS, range)
+}
+
+// The grade of a range by price list c: 2 is the new one, 0 and 1 are the old.
+pub fn grade_of(c: u32, range: u32) -> u32
+    ensures { λ r. ⌜ r ≡ gradeOf c range ⌝ }
+{
+    if c == 2 {
+        return new_grade(range);
+    }
+    old_grade(range)
 }

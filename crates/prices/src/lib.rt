@@ -138,19 +138,28 @@ fn range(vt: &[u32], et: &[u32], a: u32, b: u32) -> Answer
     }
 }
 
-// Kind 54: the grade of a and b.
-fn grade(vt: &[u32], et: &[u32], a: u32, b: u32) -> Answer
+// Kind 54: the grade of a and b by price list c. Code 17, where there is no such list, comes behind 4 and 16.
+fn grade(vt: &[u32], et: &[u32], a: u32, b: u32, c: u32) -> Answer
     requires { ⌜ ((z : Bounds) × (head : Head) × (g : Graph) × Sized z (st head (now vt) (now et))
         × Holds (st head (now vt) (now et)) g) ⌝ }
     ensures { λ r. ⌜ ((head : Head) → (g : Graph) → Holds (st head (now (vt .entry)) (now (et .entry))) g
-        → AnswerIs r (priceCode g (price.Grade a b)) (priceNumber g (price.Grade a b))) ⌝ }
+        → AnswerIs r (priceCode g (price.Grade a b c)) (priceNumber g (price.Grade a b c))) ⌝ }
 {
     let p = priced(vt, et, a, b);
-    let number = grade_of(p.range);
-    Answer {
-        code: p.code,
-        number,
+    if p.code != 0 {
+        return Answer {
+            code: p.code,
+            number: 0,
+        };
     }
+    if 2 < c {
+        return Answer {
+            code: 17,
+            number: 0,
+        };
+    }
+    let number = grade_of(c, p.range);
+    Answer { code: 0, number }
 }
 
 // Any call of the price list.
@@ -162,6 +171,6 @@ pub fn quote(vt: &[u32], et: &[u32], call: PriceCall) -> Answer
 {
     match call {
         PriceCall::Range(a, b) => range(vt, et, a, b),
-        PriceCall::Grade(a, b) => grade(vt, et, a, b),
+        PriceCall::Grade(a, b, c) => grade(vt, et, a, b, c),
     }
 }

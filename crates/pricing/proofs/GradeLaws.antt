@@ -8,9 +8,9 @@ use native.Mathlib.Nat.{div-eq-of-lt-le}
 use lib.ListN.{length, getD}
 use lib.Dec.{leb, ltb}
 use borrow.Author.Tests.{leb-true, leb-false, ltb-true, ltb-false, lt-leb, le-leb, eqb-true}
-use Rattle.lists.specs.Choice.{_==_, bit}
+use Rattle.lists.specs.Choice.{_⇒_else_, _==_, bit}
 use Rattle.lists.proofs.Bools.{ft, and-true}
-use Rattle.pricing.specs.Grades.{limits, reached, gradeBy, risesFrom, rising, multiplesFrom}
+use Rattle.pricing.specs.Grades.{oldLimits, newLimits, limitsOf, reached, gradeBy, risesFrom, rising, multiplesFrom}
 
 -- no limit is reached by a range that is not above what they rise from
 none : (p : ℕ) (ls : List ℕ) (r : ℕ) → risesFrom p ls ≡ true → r ≤ p → reached ls r ≡ 0
@@ -121,13 +121,39 @@ module _ (d : ℕ) where
               let q : length ls ≡ k + 1 = omega (arith, g .line) in
               rw q at top
 
--- ---- the printed table
+-- ---- the printed tables
 
-pub limits-rise : rising limits ≡ true
-unfolding limits
-limits-rise = refl
+old-rises : rising oldLimits ≡ true
+unfolding oldLimits
+old-rises = refl
 
--- as by dividing by 250, for every range that a graph can have
-pub grade-as-before : (r : ℕ) → r ≤ 9999 → gradeBy limits r ≡ r / 250
-unfolding limits
-grade-as-before r h = grade-of-multiples 250 limits r limits-rise refl (omega arith)
+new-rises : rising newLimits ≡ true
+unfolding newLimits
+new-rises = refl
+
+-- each list passes the test
+pub limits-rise : (c : ℕ) → rising (limitsOf c) ≡ true
+limits-rise c = go (c == 2)
+  where
+    go : (t : Bool) → rising (t ⇒ newLimits else oldLimits) ≡ true
+    go true = new-rises
+    go false = old-rises
+
+-- by the old list, for every range that a graph can have
+pub old-grade : (r : ℕ) → r ≤ 9999 → gradeBy oldLimits r ≡ r / 250
+unfolding oldLimits
+old-grade r h = grade-of-multiples 250 oldLimits r old-rises refl (omega arith)
+
+-- by the new list
+pub new-grade : (r : ℕ) → r ≤ 9999 → gradeBy newLimits r ≡ r / 200
+unfolding newLimits
+new-grade r h = grade-of-multiples 200 newLimits r new-rises refl (omega arith)
+
+-- the new list has the most lines
+pub lines-le : (c : ℕ) → length (limitsOf c) ≤ 50
+unfolding newLimits oldLimits
+lines-le c = go (c == 2)
+  where
+    go : (t : Bool) → length (t ⇒ newLimits else oldLimits) ≤ 50
+    go true = omega arith
+    go false = omega arith

@@ -1,8 +1,9 @@
--- Decimetres are 0 to 9,999, so every range is; a grade is a line of the table, at most 39.
-use Prim.Native.Nat.{ℕ, _%_, _/_, _≤_}
+-- Decimetres are 0 to 9,999, so every range is; a grade is a line of its list, at most 49.
+use Prim.Native.Nat.{ℕ, _%_, _/_, _≤_, _<_}
 use mathlib.Core.Path.{_≡_}
 use mathlib.Core.List.{List, [], _∷_}
 use native.Mathlib.Omega.{arith}
+use borrow.Author.Tests.{ne-eqb}
 use Rattle.lists.proofs.Picks.{pick-yes, pick-no, same, differ, same?}
 use Rattle.lists.proofs.Sums.{all-imp}
 use Rattle.lists.proofs.KeyedAll.{all-found}
@@ -11,9 +12,9 @@ use Rattle.graph.specs.declared.Reading.the-variants.{Untested, Silent, Heard}
 use Rattle.graph.specs.Graph.{Edge, Graph, en, noEdge, edge, edgeOf, listOf, decimetres}
 use Rattle.graph.specs.WellFormed.{Bounds, Within}
 use Rattle.graph.proofs.Readings.{reading-range}
-use Rattle.pricing.specs.Grades.{limits}
+use Rattle.pricing.specs.Grades.{limitsOf}
 use Rattle.pricing.specs.Prices.{readingOut, later, lastTested, way, oneWay, twoWay, grade}
-use Rattle.pricing.proofs.GradeLaws.{Graded, graded, limits-rise, grade-as-before}
+use Rattle.pricing.proofs.GradeLaws.{Graded, graded, limits-rise, lines-le, old-grade, new-grade}
 
 -- where every reading is of n decimetres at most, the last tested one is
 module _ (n : ℕ) (f : ℕ → Reading) (h : (w : ℕ) → decimetres (f w) ≤ n) where
@@ -50,10 +51,15 @@ module _ (k : Bounds) (g : Graph) (w : Within k g) (a b : ℕ) where
   unfolding twoWay
   two-way-range = omega (arith, one-way-range k g w a b)
 
-  pub grade-is-before : grade g a b ≡ twoWay g a b / 250
+  -- lists 0 and 1, and list 2
+  pub old-grade-is : (c : ℕ) → c < 2 → grade c g a b ≡ twoWay g a b / 250
   unfolding grade
-  grade-is-before = grade-as-before (twoWay g a b) two-way-range
+  old-grade-is c h = rw (ne-eqb c 2 (λ e. omega (arith, e))) (old-grade (twoWay g a b) two-way-range)
 
-  pub grade-range : grade g a b ≤ 39
-  unfolding grade limits
-  grade-range = omega (arith, graded limits (twoWay g a b) limits-rise .line)
+  pub new-grade-is : grade 2 g a b ≡ twoWay g a b / 200
+  unfolding grade
+  new-grade-is = new-grade (twoWay g a b) two-way-range
+
+  pub grade-range : (c : ℕ) → grade c g a b ≤ 49
+  unfolding grade
+  grade-range c = omega (arith, graded (limitsOf c) (twoWay g a b) (limits-rise c) .line, lines-le c)

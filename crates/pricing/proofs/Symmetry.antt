@@ -20,6 +20,6 @@ pub nothing-heard-symmetric : (g : Graph) (a b : ℕ) → nothingHeard g a b ≡
 unfolding nothingHeard
 nothing-heard-symmetric g a b = or-swap (not (isHeard (way g a b))) (not (isHeard (way g b a)))
 
-pub grade-symmetric : (g : Graph) (a b : ℕ) → grade g a b ≡ grade g b a
+pub grade-symmetric : (c : ℕ) (g : Graph) (a b : ℕ) → grade c g a b ≡ grade c g b a
 unfolding grade
-grade-symmetric g a b = ap gradeOf (two-way-symmetric g a b)
+grade-symmetric c g a b = ap (gradeOf c) (two-way-symmetric g a b)

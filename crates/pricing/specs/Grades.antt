@@ -1,14 +1,15 @@
--- Grades by a printed table of lower limits: one limit a grade, from grade 0 on.
+-- Grades by printed tables of lower limits: one limit a grade, from grade 0 on.
 use Prim.Native.Nat.{ℕ, suc, _-_, _*_}
 use mathlib.Core.Bool.{Bool, true, false, _&&_}
 use mathlib.Core.List.{List, [], _∷_}
 use lib.Dec.{leb, ltb}
-use Rattle.lists.specs.Choice.{_==_, bit}
+use Rattle.lists.specs.Choice.{_⇒_else_, _==_, bit}
 use Rattle.lists.specs.Lists.{sumOf}
 
--- the table as printed; behind each limit its grade
-unfoldable pub limits : List ℕ
-limits =
+-- ---- the tables as printed; behind each limit its grade
+
+unfoldable pub oldLimits : List ℕ
+oldLimits =
     0 ∷  -- 0
     250 ∷  -- 1
     500 ∷  -- 2
@@ -50,6 +51,66 @@ limits =
     9500 ∷  -- 38
     9750 ∷  -- 39
     []
+
+unfoldable pub newLimits : List ℕ
+newLimits =
+    0 ∷  -- 0
+    200 ∷  -- 1
+    400 ∷  -- 2
+    600 ∷  -- 3
+    800 ∷  -- 4
+    1000 ∷  -- 5
+    1200 ∷  -- 6
+    1400 ∷  -- 7
+    1600 ∷  -- 8
+    1800 ∷  -- 9
+    2000 ∷  -- 10
+    2200 ∷  -- 11
+    2400 ∷  -- 12
+    2600 ∷  -- 13
+    2800 ∷  -- 14
+    3000 ∷  -- 15
+    3200 ∷  -- 16
+    3400 ∷  -- 17
+    3600 ∷  -- 18
+    3800 ∷  -- 19
+    4000 ∷  -- 20
+    4200 ∷  -- 21
+    4400 ∷  -- 22
+    4600 ∷  -- 23
+    4800 ∷  -- 24
+    5000 ∷  -- 25
+    5200 ∷  -- 26
+    5400 ∷  -- 27
+    5600 ∷  -- 28
+    5800 ∷  -- 29
+    6000 ∷  -- 30
+    6200 ∷  -- 31
+    6400 ∷  -- 32
+    6600 ∷  -- 33
+    6800 ∷  -- 34
+    7000 ∷  -- 35
+    7200 ∷  -- 36
+    7400 ∷  -- 37
+    7600 ∷  -- 38
+    7800 ∷  -- 39
+    8000 ∷  -- 40
+    8200 ∷  -- 41
+    8400 ∷  -- 42
+    8600 ∷  -- 43
+    8800 ∷  -- 44
+    9000 ∷  -- 45
+    9200 ∷  -- 46
+    9400 ∷  -- 47
+    9600 ∷  -- 48
+    9800 ∷  -- 49
+    []
+
+-- the table of a price list by its number: 2 is the new one, 0 and 1 are the old
+abbrev pub limitsOf : ℕ → List ℕ
+limitsOf c = (c == 2) ⇒ newLimits else oldLimits
+
+-- ---- a grade by any table
 
 -- how many limits are not above the range
 abbrev pub reached : List ℕ → ℕ → ℕ

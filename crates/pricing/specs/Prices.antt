@@ -6,7 +6,7 @@ use Rattle.lists.specs.Choice.{pick}
 use Rattle.graph.specs.declared.Reading.{Reading}
 use Rattle.graph.specs.declared.Reading.the-variants.{Untested, Silent, Heard}
 use Rattle.graph.specs.Graph.{Graph, edge, edgeOf, bySide, listOf, decimetres}
-use Rattle.pricing.specs.Grades.{limits, gradeBy}
+use Rattle.pricing.specs.Grades.{limitsOf, gradeBy}
 
 -- the reading of the edge of word w where w goes out to b, else untested
 abbrev pub readingOut : Graph → ℕ → ℕ → Reading
@@ -36,20 +36,20 @@ unfoldable pub oneWay : Graph → ℕ → ℕ → ℕ
 unfolding way
 oneWay g a b = decimetres (way g a b)
 
--- code 16 (REFERENCE 7.16)
+-- code 16: one of the ways is silent, or has no tested word (REFERENCE 7.16)
 unfoldable pub nothingHeard : Graph → ℕ → ℕ → Bool
 unfolding way
 nothingHeard g a b = not (isHeard (way g a b)) || not (isHeard (way g b a))
 
--- REFERENCE 6.2
+-- both ways count, the smaller sets the range; a and b may be one vertex (REFERENCE 6.2)
 unfoldable pub twoWay : Graph → ℕ → ℕ → ℕ
 unfolding oneWay
 twoWay g a b = min (oneWay g a b) (oneWay g b a)
 
--- by the printed table (REFERENCE 6.3)
-abbrev pub gradeOf : ℕ → ℕ
-gradeOf range = gradeBy limits range
+-- the grade of a range by price list c (REFERENCE 6.3)
+abbrev pub gradeOf : ℕ → ℕ → ℕ
+gradeOf c range = gradeBy (limitsOf c) range
 
-unfoldable pub grade : Graph → ℕ → ℕ → ℕ
+unfoldable pub grade : ℕ → Graph → ℕ → ℕ → ℕ
 unfolding twoWay
-grade g a b = gradeOf (twoWay g a b)
+grade c g a b = gradeOf c (twoWay g a b)

@@ -11,11 +11,7 @@ use Rattle.graph.specs.Graph.{Graph}
 use Rattle.graph.specs.WellFormed.{Bounds, Within, wellFormed}
 use Rattle.graph.proofs.Facts.{to-facts, from-facts}
 use Rattle.image.specs.Image.{imageLength, save, load, loadable}
-use Rattle.image.specs.Checks.{codeOf, loadCode}
-use Rattle.image.specs.declared.Verdict.{Verdict}
-use Rattle.image.specs.declared.Verdict.the-variants.{Sound}
 use Rattle.image.proofs.Loads.{image-length, saved-same, saved-loads, loaded, loaded-same}
-use Rattle.image.proofs.Verdicts.{code-sound}
 use Rattle.image.proofs.Room.{few-vertices, few-edges}
 use Rattle.tables.specs.Tables.{State, st, noHead}
 use Rattle.tables.specs.Holds.{Holds}
@@ -24,10 +20,6 @@ use Rattle.store.specs.Words.{CanSave}
 use Rattle.store.specs.Filling.{CanLoad}
 
 -- ---- what the calls ask
-
--- words that `image::check` has found sound can be loaded
-pub checked : (b : Bounds) (words : List ℕ) (r : Verdict) → codeOf r ≡ loadCode b words → r ≡ Sound → loadable b words ≡ true
-checked b words r h e = code-sound r (loadable b words) e h
 
 -- what is loaded is within the bounds
 pub within-loaded : (b : Bounds) (words : List ℕ) → loadable b words ≡ true → Within b (load words)

@@ -70,8 +70,8 @@ fn calls(text: &str) -> Option<Vec<u32>> {
 /// Writes the result and returns the words of the end image.
 fn report(case: &Case, out: &mut String) -> Vec<u32> {
     let image = match case.run() {
-        Outcome::Refused(code) => {
-            show(out, "result", &[code, 0, 0]);
+        Outcome::Refused(code, number) => {
+            show(out, "result", &[code as usize, number, 0]);
             vec![]
         }
         Outcome::Done { answers, image } => {

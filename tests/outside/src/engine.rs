@@ -92,9 +92,9 @@ pub fn compare(case: &Case, wanted: &Outcome, junk: u64) -> Result<(), String> {
     }
     let result = (raw.code, raw.done, raw.words);
     match wanted {
-        Outcome::Refused(code) => {
-            if result != (*code, 0, 0) {
-                return Err(format!("result is {result:?}, should be {:?}", (code, 0, 0)));
+        Outcome::Refused(code, number) => {
+            if result != (*code, *number, 0) {
+                return Err(format!("result is {result:?}, should be {:?}", (code, number, 0)));
             }
             for (name, lent) in [("vertices", &vertices), ("edges", &edges), ("journal", &journal), ("answers", &answers), ("image", &image)] {
                 if !lent.whole() {

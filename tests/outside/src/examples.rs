@@ -71,7 +71,7 @@ fn then_walk(name: &'static str, before: &[(Call, (u32, u32))], vertex: u32, lis
     e
 }
 
-/// The rows of the table for single calls, codes 1 to 16.
+/// The rows of the table for single calls, codes 1 to 17.
 pub fn codes() -> Vec<Example> {
     // Fifteen changes of cost 1 leave 5 free: deleting vertex 1 costs 6.
     let mut fifteen = vec![[7, 1, 0, 0, 0]; 15];
@@ -95,20 +95,32 @@ pub fn codes() -> Vec<Example> {
         example("code 14", &[[19, 0, 0, 0, 0]], &[(14, 0)]),
         example("code 15", &[[45, 1, 0, 3, 0]], &[(15, 0)]),
         example("code 16", &[[53, 1, 2, 0, 0]], &[(16, 0)]),
+        example("code 17", &[[8, 1, 2, 0, 0], [54, 1, 1, 3, 0]], &[(0, 1), (17, 0)]),
     ]
 }
 
 /// The rows of the table for whole lists: 101 to 106.
-pub fn list_codes() -> Vec<(u32, Case)> {
+pub fn list_codes() -> Vec<(u32, usize, Case)> {
     let seven = || Example { name: "", calls: vec![[30, 0, 0, 0, 0]], answers: vec![] }.case();
-    let mut cases = vec![(101, seven()), (102, seven()), (103, seven()), (104, seven()), (105, seven()), (106, seven())];
-    cases[0].1.calls.push(0);
-    cases[1].1.answers = 1;
-    cases[2].1.vertices = 7;
-    cases[3].1.rows.clear();
-    cases[4].1.start = vec![0, 0, 6, 6, 6, 7];
-    cases[5].1.image = 115;
-    cases
+    let with = |code, number, change: &dyn Fn(&mut Case)| {
+        let mut case = seven();
+        change(&mut case);
+        (code, number, case)
+    };
+    vec![
+        with(101, 0, &|c| c.calls.push(0)),
+        with(102, 0, &|c| c.answers = 1),
+        with(103, 0, &|c| c.vertices = 7),
+        with(104, 0, &|c| c.rows.clear()),
+        with(105, 0, &|c| c.start = vec![0, 0, 6, 6, 6, 7]),
+        // The second of two equal numbers; the second end; a reading kind; a word twice; a word of another vertex.
+        with(108, 9, &|c| c.start[9] = 1),
+        with(108, 20, &|c| c.start[20] = 5),
+        with(108, 22, &|c| c.start[22] = 3),
+        with(109, 61, &|c| c.start[61] = 2),
+        with(109, 73, &|c| c.start[73] = 3),
+        with(106, 0, &|c| c.image = 115),
+    ]
 }
 
 /// Cases A to L.
@@ -158,10 +170,10 @@ pub fn slips() -> Vec<Example> {
     ]
 }
 
-/// Every range, on a loop, and its grade.
+/// Every range, on a loop, and its grade by each price list.
 pub fn every_grade() -> Case {
     let mut calls = vec![[1, 1, 0, 0, 0], [3, 1, 1, 1, 0]];
-    calls.extend((0..10_000).flat_map(|d| [[8, 1, 2, d, 0], [54, 1, 1, 0, 0]]));
+    calls.extend((0..10_000).flat_map(|d| [[8, 1, 2, d, 0], [54, 1, 1, 0, 0], [54, 1, 1, 1, 0], [54, 1, 1, 2, 0]]));
     Case::new(Capacities { vertices: 1, edges: 1, changes: 20_000 }, &[0], &calls)
 }
 
@@ -177,7 +189,7 @@ mod tests {
     fn answers(case: &Case) -> Vec<(u32, u32)> {
         match case.run() {
             Outcome::Done { answers, .. } => answers.chunks(2).map(|a| (a[0], a[1])).collect(),
-            Outcome::Refused(code) => panic!("refused {code}"),
+            Outcome::Refused(code, _) => panic!("refused {code}"),
         }
     }
 
@@ -190,7 +202,7 @@ mod tests {
 
     #[test]
     fn every_code_of_a_call() {
-        assert_eq!(codes().len(), 16);
+        assert_eq!(codes().len(), 17);
         for e in codes() {
             assert_eq!(answers(&e.case()), e.answers, "{}", e.name);
         }
@@ -198,8 +210,8 @@ mod tests {
 
     #[test]
     fn every_code_of_a_list() {
-        for (code, case) in list_codes() {
-            assert_eq!(case.run(), Outcome::Refused(code));
+        for (code, number, case) in list_codes() {
+            assert_eq!(case.run(), Outcome::Refused(code, number));
         }
     }
 
@@ -220,8 +232,8 @@ mod tests {
 
     #[test]
     fn every_range_has_its_grade() {
-        let grades: Vec<(u32, u32)> = answers(&every_grade()).into_iter().skip(3).step_by(2).collect();
-        assert_eq!(grades, (0..10_000).map(|d| (0, d / 250)).collect::<Vec<_>>());
+        let grades: Vec<_> = answers(&every_grade())[2..].chunks(4).map(|a| [a[1], a[2], a[3]]).collect();
+        assert_eq!(grades, (0..10_000).map(|d| [(0, d / 250), (0, d / 250), (0, d / 200)]).collect::<Vec<_>>());
     }
 
     #[test]

@@ -344,17 +344,19 @@ fn call(r: &mut Random, machine: &Machine, kind: u32) -> Call {
             [kind, e, v, junk(r), d]
         }
         11 | 12 | 46 | 53 | 54 => {
+            // The price list of a grade.
+            let c = if kind == 54 && !r.once_in(12) { r.under(4) as u32 } else { junk(r) };
             let a = vertex(r);
             let mut b = if r.once_in(8) { a } else { vertex(r) };
             // A pair that has an edge.
             if matches!(kind, 53 | 54) && !g.edges.is_empty() && r.once_in(2) {
                 let e = &g.edges[r.under(g.edges.len())];
-                return [kind, e.alpha, e.omega, junk(r), d];
+                return [kind, e.alpha, e.omega, c, d];
             }
             if matches!(kind, 53 | 54) && r.once_in(4) {
                 b = a;
             }
-            [kind, a, b, junk(r), d]
+            [kind, a, b, c, d]
         }
         13 | 14 | 47 => {
             let a = edge(r);

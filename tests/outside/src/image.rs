@@ -1,7 +1,7 @@
 //! The saved chart: its words, its parts, and which words load.
 
 use crate::machine::{Capacities, Edge, Graph, Reading, Vertex};
-use std::collections::HashSet;
+use std::collections::{BTreeSet, HashSet};
 
 /// The words that a graph saves as.
 pub fn save(g: &Graph) -> Vec<u32> {
@@ -62,6 +62,76 @@ pub fn is_chart(g: &Graph, capacities: Capacities, types: u32) -> bool {
         due.insert((e.omega, 2 * e.number + 1));
     }
     g.vertices.iter().all(|v| v.list.iter().all(|w| due.remove(&(v.number, *w)))) && due.is_empty()
+}
+
+/// Why words do not load; where single words are to blame, the offset of the first of them.
+#[derive(Clone, Copy, PartialEq, Eq, Debug)]
+pub enum Bad {
+    Header,
+    Record(usize),
+    Incidence(usize),
+}
+
+impl Bad {
+    pub fn code(self) -> u32 {
+        match self {
+            Bad::Header => 105,
+            Bad::Record(_) => 108,
+            Bad::Incidence(_) => 109,
+        }
+    }
+
+    /// The second number of a refused list.
+    pub fn number(self) -> usize {
+        match self {
+            Bad::Header => 0,
+            Bad::Record(at) | Bad::Incidence(at) => at,
+        }
+    }
+}
+
+/// The first thing that is bad, read from the front: header and counts, each record, then each list.
+pub fn bad(words: &[u32], capacities: Capacities, types: u32) -> Option<Bad> {
+    if !sound_header(words) || words[0] > capacities.vertices || words[1] > capacities.edges || (words[0] == 0 && words[1] > 0) {
+        return Some(Bad::Header);
+    }
+    let (edges_at, lists_at) = (words[3] as usize, words[4] as usize);
+    let mut vertices = BTreeSet::new();
+    for at in (6..edges_at).step_by(3) {
+        let number_good = (1..=capacities.vertices).contains(&words[at]) && vertices.insert(words[at]);
+        let good = [number_good, words[at + 1] < types];
+        if let Some(i) = good.iter().position(|good| !good) {
+            return Some(Bad::Record(at + i));
+        }
+    }
+    let mut edges = BTreeSet::new();
+    for at in (edges_at..lists_at).step_by(6) {
+        let [number, alpha, omega, ty, kind, decimetres]: [u32; 6] = words[at..at + 6].try_into().unwrap();
+        let good = [
+            (1..=capacities.edges).contains(&number) && edges.insert(number),
+            vertices.contains(&alpha),
+            vertices.contains(&omega),
+            ty < types,
+            // Some decimetres go with it.
+            Reading::of(kind, 0).is_some(),
+            Reading::of(kind, decimetres).is_some(),
+        ];
+        if let Some(i) = good.iter().position(|good| !good) {
+            return Some(Bad::Record(at + i));
+        }
+    }
+    let mut at = lists_at;
+    for v in words[6..edges_at].chunks(3) {
+        let ends = words[edges_at..lists_at].chunks(6).flat_map(|e| [(e[1], 2 * e[0]), (e[2], 2 * e[0] + 1)]);
+        let mut due: BTreeSet<u32> = ends.filter(|(vertex, _)| *vertex == v[0]).map(|(_, word)| word).collect();
+        while !due.is_empty() {
+            if !due.remove(&words[at]) {
+                return Some(Bad::Incidence(at));
+            }
+            at += 1;
+        }
+    }
+    None
 }
 
 /// The chart that saves as exactly these words, if there is one.

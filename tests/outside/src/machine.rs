@@ -358,6 +358,7 @@ impl Machine {
         test(14, kind == 20 && self.place == self.costs.len());
         test(15, kind == 45 && c > 2);
         test(16, matches!(kind, 53 | 54) && g.two_way(a, b).is_none());
+        test(17, kind == 54 && c > 2);
         codes.into_iter().min()
     }
 
@@ -460,7 +461,7 @@ impl Machine {
             48 => is_before(g.list_of(a), |w| *w, a, b),
             52 => self.types.below(a, b) as u32,
             53 => g.two_way(a, b).unwrap(),
-            54 => g.two_way(a, b).unwrap() / 250,
+            54 => g.two_way(a, b).unwrap() / if c == 2 { 200 } else { 250 },
             _ => unreachable!(),
         }
     }

@@ -87,7 +87,7 @@ impl Reached {
     fn add(&mut self, case: &Case, outcome: &Outcome) {
         self.lists += 1;
         match outcome {
-            Outcome::Refused(code) => *self.codes.entry(*code).or_default() += 1,
+            Outcome::Refused(code, _) => *self.codes.entry(*code).or_default() += 1,
             Outcome::Done { answers, .. } => {
                 for (call, answer) in case.calls.chunks(5).zip(answers.chunks(2)) {
                     self.calls += 1;
@@ -108,7 +108,7 @@ impl Reached {
     /// Kinds never accepted, changes that never altered nothing, and codes never given.
     fn missing(&self) -> Vec<String> {
         let kinds = (0..100).filter(|k| is_kind(*k) && !self.kinds.contains_key(k)).map(|k| format!("kind {k}"));
-        let codes = (1..=16).chain(101..=106).filter(|c| !self.codes.contains_key(c)).map(|c| format!("code {c}"));
+        let codes = (1..=17).chain(101..=106).chain(108..=109).filter(|c| !self.codes.contains_key(c)).map(|c| format!("code {c}"));
         let idle = (5..=16).filter(|k| !self.idle.contains_key(k)).map(|k| format!("kind {k} that alters nothing"));
         kinds.chain(codes).chain(idle).collect()
     }
@@ -302,8 +302,8 @@ mod compare {
         if let Err(message) = engine::compare(&grades, &grades.run(), 1) {
             fail(format!("the grades of all ranges: {message}"));
         }
-        for (code, case) in examples::list_codes() {
-            if let Err(message) = engine::compare(&case, &Outcome::Refused(code), 1) {
+        for (code, number, case) in examples::list_codes() {
+            if let Err(message) = engine::compare(&case, &Outcome::Refused(code, number), 1) {
                 fail(format!("example of code {code}: {message}"));
             }
         }

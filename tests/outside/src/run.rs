@@ -18,12 +18,10 @@ pub struct Case {
 
 #[derive(Clone, PartialEq, Eq, Debug)]
 pub enum Outcome {
-    Refused(u32),
+    /// The code and the number after it.
+    Refused(u32, usize),
     /// The words that answers and image begin with.
-    Done {
-        answers: Vec<u32>,
-        image: Vec<u32>,
-    },
+    Done { answers: Vec<u32>, image: Vec<u32> },
 }
 
 impl Case {
@@ -45,32 +43,36 @@ impl Case {
         Capacities { vertices: (self.vertices / 8) as u32, edges: (self.edges / 12) as u32, changes: (self.journal / 12) as u32 }
     }
 
-    /// Codes 101 to 106, the lowest that applies; else the graph at the start.
-    fn refusal(&self) -> Result<Graph, u32> {
+    /// Codes 101 to 104, then one of 105, 108, 109, then 106, the first that applies; else the graph at the start.
+    fn refusal(&self) -> Result<Graph, (u32, usize)> {
         let c = self.capacities();
         let n = self.rows.len();
         if self.calls.len() % 5 != 0 {
-            return Err(101);
+            return Err((101, 0));
         }
         if self.answers < 2 * (self.calls.len() / 5) {
-            return Err(102);
+            return Err((102, 0));
         }
         if !(1..=1_000).contains(&c.vertices) || !(1..=4_000).contains(&c.edges) || !(1..=20_000).contains(&c.changes) {
-            return Err(103);
+            return Err((103, 0));
         }
         if n == 0 || n > 64 || self.rows.iter().any(|row| (n..64).any(|bit| row >> bit & 1 == 1)) {
-            return Err(104);
+            return Err((104, 0));
         }
-        let Some(start) = image::load(&self.start, c, n as u32) else {
-            return Err(105);
+        let start = image::load(&self.start, c, n as u32);
+        let bad = image::bad(&self.start, c, n as u32);
+        assert_eq!(start.is_some(), bad.is_none(), "words load exactly where none is bad");
+        let Some(start) = start else {
+            let bad = bad.unwrap();
+            return Err((bad.code(), bad.number()));
         };
         if self.image < image_room(c) {
-            return Err(106);
+            return Err((106, 0));
         }
         Ok(start)
     }
 
-    pub fn machine(&self) -> Result<Machine, u32> {
+    pub fn machine(&self) -> Result<Machine, (u32, usize)> {
         let start = self.refusal()?;
         Ok(Machine::new(self.capacities(), Types { rows: self.rows.clone() }, start))
     }
@@ -78,7 +80,7 @@ impl Case {
     pub fn run(&self) -> Outcome {
         let mut machine = match self.machine() {
             Ok(machine) => machine,
-            Err(code) => return Outcome::Refused(code),
+            Err((code, number)) => return Outcome::Refused(code, number),
         };
         let mut answers = Vec::new();
         for call in self.calls.chunks(5) {

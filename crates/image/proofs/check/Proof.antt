@@ -1,12 +1,11 @@
 use Prim.Native.Nat.{_≤_}
-use mathlib.Core.Path.{sym, ap, _∙_}
+use mathlib.Core.Path.{sym, _∙_}
 use native.Mathlib.Omega.{arith}
 use borrow.Author.Needs.{needs}
 use borrow.Author.Tests.{not-true, not-false}
-use Rattle.image.specs.Checks.{bounds, codeOf}
+use Rattle.image.specs.Checks.{bounds}
 use Rattle.image.proofs.Headers.{counts-le}
 use Rattle.image.proofs.ScratchPass.{bad-head, bad-counts, incidences-few, verdict-by}
-use Rattle.image.proofs.SavedSound.{verdict-code}
 use Rattle.image.proofs.check.Statement.{statement}
 use Rattle.image.proofs.check.Tie as tie
 
@@ -18,8 +17,7 @@ returns c =
     let a = c .before .before .before .args in
     let s = c .before .sound in
     let b = bounds (a .vertices) (a .edges) (a .types) in
-    let v = bad-head b (a .words .now) (sym (s .ensures) ∙ not-true (s .result) (c .if1 .taken)) in
-    (ap codeOf v ∙ verdict-code b (a .words .now), v)
+    bad-head b (a .words .now) (sym (s .ensures) ∙ not-true (s .result) (c .if1 .taken))
 
 get-requires : tie.Need-get-requires
 get-requires c κs = search needs
@@ -37,8 +35,7 @@ returns-2 c =
     let n = c .before .counts in
     let k = sym (n .ensures) ∙ not-true (n .result) (c .if2 .taken) in
     let b = bounds (a .vertices) (a .edges) (a .types) in
-    let v = bad-counts (a .words .now) (sym (s .ensures) ∙ not-false (s .result) (c .before .before .before .before .if1 .left)) b (rw (c .before .before .before .get .ensures, c .before .before .get2 .ensures) at k) in
-    (ap codeOf v ∙ verdict-code b (a .words .now), v)
+    bad-counts (a .words .now) (sym (s .ensures) ∙ not-false (s .result) (c .before .before .before .before .if1 .left)) b (rw (c .before .before .before .get .ensures, c .before .before .get2 .ensures) at k)
 
 part-requires : tie.Need-part-requires
 part-requires c κs = search needs
@@ -74,10 +71,8 @@ returns-3 c =
     let h = sym (s .ensures) ∙ not-false (s .result) (c .before .before .before .before .before .before .before .before .if1 .left) in
     let k = sym (n .ensures) ∙ not-false (n .result) (c .before .before .before .before .if2 .left) in
     let p = c .before .before .before .before .before .before .before .before .before .before .before .pre in
-    let b = bounds (a .vertices) (a .edges) (a .types) in
-    let v = verdict-by (a .words .now) h (λ i. omega (arith, c .before .before .before .before .before .before .before .before .before .before .shared-slice-known .given i)) (a .vertices) (a .edges) (a .types) (x .result) (y .result) (p .0) (p .1) (x .ensures) (y .ensures) k
-    (c .before .before .before .part .result .now) (c .before .before .part2 .result .now) (c .before .part3 .result .now) (c .before .before .before .part .ensures .0) (c .before .before .part2 .ensures .0) (c .before .part3 .ensures .0) (c .all .result) (c .all .ensures) in
-    (ap codeOf v ∙ verdict-code b (a .words .now), v)
+    verdict-by (a .words .now) h (λ i. omega (arith, c .before .before .before .before .before .before .before .before .before .before .shared-slice-known .given i)) (a .vertices) (a .edges) (a .types) (x .result) (y .result) (p .0) (p .1) (x .ensures) (y .ensures) k
+    (c .before .before .before .part .result .now) (c .before .before .part2 .result .now) (c .before .part3 .result .now) (c .before .before .before .part .ensures .0) (c .before .before .part2 .ensures .0) (c .before .part3 .ensures .0) (c .all .result) (c .all .ensures)
 
 pub check-spec : {M : Type 1} → statement M
 check-spec =

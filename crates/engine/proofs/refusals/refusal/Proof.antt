@@ -1,16 +1,30 @@
 -- `engine::refusals::refusal` meets its contract.
-use Prim.Native.Nat.{_/_}
-use mathlib.Core.Path.{sym, _∙_}
+use mathlib.Core.Path.{_≡_, sym, _∙_}
+use mathlib.Core.Bool.{true}
+use Prim.Native.Nat.{_≤_, _/_}
 use native.Mathlib.Omega.{arith}
-use lib.ListN.{length}
 use borrow.Author.Needs.{needs}
+use Rattle.types.specs.Rows.{goodRows}
 use Rattle.types.proofs.RowLaws.{verdict-good, verdict-bad, good-facts}
-use Rattle.image.specs.Image.{loadable}
-use Rattle.image.specs.Checks.{bounds}
-use Rattle.image.proofs.Verdicts.{code-sound, code-bad}
+use Rattle.engine.specs.Refusals.{lengthsCode}
 use Rattle.engine.proofs.RefusalLaws.{capacities, lengths-refused, rows-refused, start-refused, image-refused, none-refused}
 use Rattle.engine.proofs.refusals.refusal.Statement.{statement}
 use Rattle.engine.proofs.refusals.refusal.Tie as tie
+
+-- ---- what the tests before the start's check found
+
+lengths-pass : (c : tie.Else1) →
+    lengthsCode (c .before .before .before .before .args .calls) (c .before .before .before .before .args .answers) (c .before .before .before .before .args .vertices) (c .before .before .before .before .args .edges) (c .before .before .before .before .args .journal)
+    ≡ 0
+lengths-pass c = sym (c .before .lengths-code .ensures) ∙ c .if1 .left
+
+limits : (c : tie.Else1) → (c .before .before .before .before .args .vertices / 8 ≤ 1000) × (c .before .before .before .before .args .edges / 12 ≤ 4000)
+limits c = let a = c .before .before .before .before .args in capacities (a .calls) (a .answers) (a .vertices) (a .edges) (a .journal) (lengths-pass c)
+
+rows-good : (c : tie.After-enum-told) → goodRows (c .before .before .before .before .before .before .before .args .rows .now) ≡ true
+rows-good c = verdict-good _ _ (c .before .before .check-rows .ensures) (c .enum-told .given .1)
+
+-- ---- the needs
 
 lengths-code-requires : tie.Need-lengths-code-requires
 lengths-code-requires c κs = search needs
@@ -29,85 +43,57 @@ enum-told-2 c = search needs
 
 returns-2 : tie.Need-returns-2
 returns-2 c =
-    let d = c .before .before .before in
-    λ l h. rows-refused l _ _ _ _ _ _ _ _ h (sym (d .before .lengths-code .ensures) ∙ d .if1 .left)
-    (verdict-bad _ _ (c .before .before .check-rows .ensures) (c .enum-told2 .given .1))
+    λ l h. rows-refused l _ _ _ _ _ _ _ _ h (lengths-pass (c .before .before .before)) (verdict-bad _ _ (c .before .before .check-rows .ensures) (c .enum-told2 .given .1))
 
 cast-check : tie.Need-cast-check
-cast-check c =
-    let d = c .before .before .before in
-    let a = d .before .before .before .before .args in
-    omega (arith, capacities (a .calls) (a .answers) (a .vertices) (a .edges) (a .journal) (sym (d .before .lengths-code .ensures) ∙ d .if1 .left) .0)
+cast-check c = omega (arith, limits (c .before .before .before) .0)
 
 cast-check-2 : tie.Need-cast-check-2
-cast-check-2 c =
-    let d = c .before .before .before in
-    let a = d .before .before .before .before .args in
-    omega (arith, capacities (a .calls) (a .answers) (a .vertices) (a .edges) (a .journal) (sym (d .before .lengths-code .ensures) ∙ d .if1 .left) .1)
+cast-check-2 c = omega (arith, limits (c .before .before .before) .1)
 
 cast-check-3 : tie.Need-cast-check-3
-cast-check-3 c =
-    let a = c .before .before .before .before .before .before .before .args in
-    omega (arith, good-facts (a .rows .now) (verdict-good _ _ (c .before .before .check-rows .ensures) (c .enum-told .given .1)) .few)
+cast-check-3 c = omega (arith, good-facts (c .before .before .before .before .before .before .before .args .rows .now) (rows-good c) .few)
 
 check-requires : tie.Need-check-requires
-check-requires c κs =
-    let d = c .before .before .before in
-    let a = d .before .before .before .before .args in
-    capacities (a .calls) (a .answers) (a .vertices) (a .edges) (a .journal) (sym (d .before .lengths-code .ensures) ∙ d .if1 .left)
+check-requires c κs = limits (c .before .before .before)
 
-enum-told-3 : tie.Need-enum-told-3
-enum-told-3 c = search needs
+code-of-requires : tie.Need-code-of-requires
+code-of-requires c κs = search needs
+
+offset-of-requires : tie.Need-offset-of-requires
+offset-of-requires c κs = search needs
 
 returns-3 : tie.Need-returns-3
 returns-3 c =
-    let e = c .before .before in
-    let d = e .before .before .before in
-    let a = d .before .before .before .before .args in
-    λ l h. start-refused l _ _ _ _ _ _ _ _ h (sym (d .before .lengths-code .ensures) ∙ d .if1 .left)
-    (verdict-good _ _ (e .before .before .check-rows .ensures) (e .enum-told .given .1))
-    (code-bad (c .before .check .result) (loadable (bounds (a .vertices / 8) (a .edges / 12) (length (a .rows .now))) (a .start .now)) (c .match2 .keys2) (c .before .check .ensures .0))
+    let f = c .before .before in
+    let e = f .before .before in
+    λ l h.
+    let r = start-refused l _ _ _ _ _ _ _ _ h (lengths-pass (e .before .before .before)) (rows-good e) (f .before .check .result) (f .before .check .ensures) (λ z. c .before .if2 .taken (f .code-of .ensures ∙ z)) in
+    (f .code-of .ensures ∙ r .0, c .offset-of .ensures ∙ r .1)
 
-mul-if2 : tie.Need-mul-if2
-mul-if2 c = search needs
+mul-if3 : tie.Need-mul-if3
+mul-if3 c = search needs
 
-add-if2 : tie.Need-add-if2
-add-if2 c = search needs
+add-if3 : tie.Need-add-if3
+add-if3 c = search needs
 
-mul-if2-2 : tie.Need-mul-if2-2
-mul-if2-2 c = search needs
+mul-if3-2 : tie.Need-mul-if3-2
+mul-if3-2 c = search needs
 
-add-if2-2 : tie.Need-add-if2-2
-add-if2-2 c =
-    let d = c .before .before .before .before .before .before in
-    let a = d .before .before .before .before .args in
-    omega (
-      arith,
-      capacities (a .calls) (a .answers) (a .vertices) (a .edges) (a .journal) (sym (d .before .lengths-code .ensures) ∙ d .if1 .left) .0,
-      capacities (a .calls) (a .answers) (a .vertices) (a .edges) (a .journal) (sym (d .before .lengths-code .ensures) ∙ d .if1 .left) .1,
-    )
+add-if3-2 : tie.Need-add-if3-2
+add-if3-2 c = let k = limits (c .before .before .before .before .before .before) in omega (arith, k .0, k .1)
 
 returns-4 : tie.Need-returns-4
 returns-4 c =
-    let f = c .before in
-    let e = f .before .before .before in
-    let d = e .before .before .before in
-    let a = d .before .before .before .before .args in
-    λ l h. image-refused l _ _ _ _ _ _ _ _ h (sym (d .before .lengths-code .ensures) ∙ d .if1 .left)
-    (verdict-good _ _ (e .before .before .check-rows .ensures) (e .enum-told .given .1))
-    (code-sound (f .before .before .check .result) (loadable (bounds (a .vertices / 8) (a .edges / 12) (length (a .rows .now))) (a .start .now)) (f .enum-told3 .given .1) (f .before .before .check .ensures .0))
-    (c .if2 .taken)
+    let f = c .before .before in
+    let e = f .before .before in
+    λ l h. image-refused l _ _ _ _ _ _ _ _ h (lengths-pass (e .before .before .before)) (rows-good e) (f .before .check .result) (f .before .check .ensures) (sym (f .code-of .ensures) ∙ c .before .if2 .left) (c .if3 .taken)
 
 returns-5 : tie.Need-returns-5
 returns-5 c =
-    let f = c .before in
-    let e = f .before .before .before in
-    let d = e .before .before .before in
-    let a = d .before .before .before .before .args in
-    λ l h. none-refused l _ _ _ _ _ _ _ _ h (sym (d .before .lengths-code .ensures) ∙ d .if1 .left)
-    (verdict-good _ _ (e .before .before .check-rows .ensures) (e .enum-told .given .1))
-    (code-sound (f .before .before .check .result) (loadable (bounds (a .vertices / 8) (a .edges / 12) (length (a .rows .now))) (a .start .now)) (f .enum-told3 .given .1) (f .before .before .check .ensures .0))
-    (c .if2 .left)
+    let f = c .before .before in
+    let e = f .before .before in
+    λ l h. none-refused l _ _ _ _ _ _ _ _ h (lengths-pass (e .before .before .before)) (rows-good e) (f .before .check .result) (f .before .check .ensures) (sym (f .code-of .ensures) ∙ c .before .if2 .left) (c .if3 .left)
 
 pub refusal-spec : {M : Type 1} → statement M
 refusal-spec =
@@ -123,11 +109,12 @@ refusal-spec =
     cast-check-2
     cast-check-3
     check-requires
-    enum-told-3
+    code-of-requires
+    offset-of-requires
     returns-3
-    mul-if2
-    add-if2
-    mul-if2-2
-    add-if2-2
+    mul-if3
+    add-if3
+    mul-if3-2
+    add-if3-2
     returns-4
     returns-5)

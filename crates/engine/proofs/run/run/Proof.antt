@@ -1,26 +1,39 @@
 -- `engine::run::run` meets its contract.
-use mathlib.Core.Path.{refl, sym, _∙_}
+use mathlib.Core.Path.{_≡_, refl, sym, _∙_}
 use borrow.Author.Needs.{needs}
+use Rattle.machine.specs.Run.{Lent, listRefusal, listNumber}
 use Rattle.engine.specs.Outcomes.{lent}
 use Rattle.engine.proofs.Demand.{meets-demand-3}
 use Rattle.engine.proofs.RunLaws.{lends, run-refused, run-accepted}
 use Rattle.engine.proofs.run.run.Statement.{statement}
 use Rattle.engine.proofs.run.run.Tie as tie
 
+-- what is lent, and what the refusals say of it
+abbrev given : tie.After-refusal → Lent
+given c =
+    let a = c .before .before .before .before .before .before .before .before .before .args in
+    lent (a .start .now) (a .rows .now) (a .calls .now) (a .vertices .now) (a .edges .now) (a .journal .now) (a .answers .now) (a .image .now)
+
+told : (c : tie.After-refusal) → (c .refusal .result .code ≡ listRefusal (given c)) × (c .refusal .result .number ≡ listNumber (given c))
+told c =
+    let a = c .before .before .before .before .before .before .before .before .before .args in
+    c .refusal .ensures (given c) (lends (a .start .now) (a .rows .now) (a .calls .now) (a .vertices .now) (a .edges .now) (a .journal .now) (a .answers .now) (a .image .now))
+
 refusal-requires : tie.Need-refusal-requires
 refusal-requires c κs = search needs
 
+cast-t17 : tie.Need-cast-t17
+cast-t17 c = search needs
+
 returns : tie.Need-returns
 returns c =
-    let a = c .before .before .before .before .before .before .before .before .before .before .args in
-    let l = lent (a .start .now) (a .rows .now) (a .calls .now) (a .vertices .now) (a .edges .now) (a .journal .now) (a .answers .now) (a .image .now) in
-    let coded = c .before .refusal .ensures l (lends (a .start .now) (a .rows .now) (a .calls .now) (a .vertices .now) (a .edges .now) (a .journal .now) (a .answers .now) (a .image .now)) in
-    (run-refused l _ coded (c .if1 .taken), (λ n. (refl, refl, refl), λ e. absurd (c .if1 .taken (coded ∙ e))))
+    let d = c .before .before .before in
+    let t = told d in
+    let n = c .before .if1 .taken in
+    (run-refused (given d) _ _ (t .0) (t .1) n, (λ z. (refl, refl, refl), λ e. absurd (n (t .0 ∙ e))))
 
 accepted-requires : tie.Need-accepted-requires
-accepted-requires c κs =
-    let a = c .before .before .before .before .before .before .before .before .before .before .before .before .before .before .before .args in
-    sym (c .before .before .before .before .before .before .refusal .ensures (lent (a .start .now) (a .rows .now) (a .calls .now) (a .vertices .now) (a .edges .now) (a .journal .now) (a .answers .now) (a .image .now)) (lends (a .start .now) (a .rows .now) (a .calls .now) (a .vertices .now) (a .edges .now) (a .journal .now) (a .answers .now) (a .image .now))) ∙ c .before .before .before .before .before .if1 .left
+accepted-requires c κs = sym (told (c .before .before .before .before .before .before .before) .0) ∙ c .before .before .before .before .before .if1 .left
 
 same-length : tie.Need-same-length
 same-length c = search needs
@@ -39,17 +52,17 @@ same-length-5 c = search needs
 
 returns-2 : tie.Need-returns-2
 returns-2 c =
-    let a = c .before .before .before .before .before .before .before .before .before .before .before .before .before .before .before .before .before .before .before .before .before .before .before .before .before .before .args in
-    let l = lent (a .start .now) (a .rows .now) (a .calls .now) (a .vertices .now) (a .edges .now) (a .journal .now) (a .answers .now) (a .image .now) in
-    let e = sym (c .before .before .before .before .before .before .before .before .before .before .before .before .before .before .before .before .before .refusal .ensures l (lends (a .start .now) (a .rows .now) (a .calls .now) (a .vertices .now) (a .edges .now) (a .journal .now) (a .answers .now) (a .image .now))) ∙ c .before .before .before .before .before .before .before .before .before .before .before .before .before .before .before .before .if1 .left in
-    let ran-as = run-accepted l _ e (c .before .before .before .before .before .before .before .before .before .before .accepted .ensures) in
-    (ran-as, (λ n. absurd (n e), meets-demand-3 l _ _ _ ran-as))
+    let d = c .before .before .before .before .before .before .before .before .before .before .before .before .before .before .before .before .before .before in
+    let e = sym (told d .0) ∙ c .before .before .before .before .before .before .before .before .before .before .before .before .before .before .before .before .if1 .left in
+    let ran-as = run-accepted (given d) _ e (c .before .before .before .before .before .before .before .before .before .before .accepted .ensures) in
+    (ran-as, (λ n. absurd (n e), meets-demand-3 (given d) _ _ _ ran-as))
 
 pub run-spec : {M : Type 1} → statement M
 run-spec =
     tie.close
     (tie.spec
     refusal-requires
+    cast-t17
     returns
     accepted-requires
     same-length
