@@ -34,8 +34,9 @@ untested n a o = record { number = n; alpha = a; omega = o; type = 0; reading = 
 -- as a literal
 abbrev pub seven : Graph
 seven = record {
-  vseq = plainVertex 1 (2 ∷ 3 ∷ 4 ∷ 6 ∷ 9 ∷ 11 ∷ []) ∷ plainVertex 2
-      (5 ∷ 7 ∷ 8 ∷ 13 ∷ []) ∷ plainVertex 3 [] ∷ plainVertex 4 (10 ∷ 12 ∷ 14 ∷ 15 ∷ []) ∷ [];
+  vseq =
+      plainVertex 1 (2 ∷ 3 ∷ 4 ∷ 6 ∷ 9 ∷ 11 ∷ []) ∷ plainVertex 2 (5 ∷ 7 ∷ 8 ∷ 13 ∷ []) ∷
+      plainVertex 3 [] ∷ plainVertex 4 (10 ∷ 12 ∷ 14 ∷ 15 ∷ []) ∷ [];
   eseq =
       untested 1 1 1 ∷ untested 2 1 2 ∷ untested 3 1 2 ∷ untested 4 2 1 ∷
       untested 5 4 1 ∷ untested 6 4 2 ∷ untested 7 4 4 ∷ [];
