@@ -231,11 +231,11 @@ struct futtockfig_span futtockfig_part(const uint32_t *words, size_t words_len, 
 
 /*
  * A PAGE
- *   An image's edges for reading on paper: for every edge, in Eseq order, a row of 25 bytes. Its number, alpha and omega
- *   have 4 columns each, its type has 2, its reading 6. A column is filled from the right, with spaces before the text
- *   and no leading zeros; one space stands between columns and one newline at the row's end. A reading is a hyphen for
- *   untested, the word silent, or the decimetres. Two images that give the same page have the same edges, in the same
- *   order.
+ *   An image's edges for reading on paper: for every edge, in Eseq order, a row of 25 bytes. Its number, alpha and
+ *   omega have 4 columns each, its type has 2, its reading 6. A column is filled from the right, with spaces before the
+ *   text and no leading zeros; one space stands between columns and one newline at the row's end. A reading is a hyphen
+ *   for untested, the word silent, or the decimetres. Two images that give the same page have the same edges, in the
+ *   same order.
  */
 struct futtockfig_page_result {
     uint32_t code; /* 0, 105, 107, 108 or 109 */
@@ -243,10 +243,10 @@ struct futtockfig_page_result {
 };
 
 /*
- * Writes the page of an image. The words may be an image with up to 1,000 vertices, 4,000 edges and 64 types; all others
- * get 105, 108 or 109, whatever the page: as a start does in a run with such capacities and types, and with 108 and 109
- * bytes is the offset of the first bad word. The same words may be bad at another place in a run, or not at all. Then a
- * page that is too short for the rows gets FUTTOCKFIG_SHORT_PAGE.
+ * Writes the page of an image. The words may be an image with up to 1,000 vertices, 4,000 edges and 64 types; all
+ * others get 105, 108 or 109, whatever the page: as a start does in a run with such capacities and types, and with 108
+ * and 109 bytes is the offset of the first bad word. The same words may be bad at another place in a run, or not at
+ * all. Then a page that is too short for the rows gets FUTTOCKFIG_SHORT_PAGE.
  * With a code no byte of the page is written; else bytes behind the rows stay as they were. Nothing is added behind the
  * last newline, so a page is no C string. No edges are no bytes, and code 0, also where page_len is 0.
  *
