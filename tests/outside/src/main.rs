@@ -245,7 +245,7 @@ mod compare {
 mod compare {
     use super::*;
     use outside::gen::Size;
-    use outside::{engine, examples, vector};
+    use outside::{engine, examples};
     use std::sync::atomic::{AtomicU64, Ordering};
     use std::time::Duration;
 
@@ -349,9 +349,11 @@ mod compare {
         files.sort();
         for file in &files {
             let text = std::fs::read_to_string(file).unwrap();
-            let Some(case) = vector::read(&text) else { fail(format!("{}: not a case", file.display())) };
-            if let Err(message) = engine::compare(&case, &case.run(), 1) {
-                fail(format!("{}: {message}", file.display()));
+            let runs = cases::runs(&text).unwrap_or_else(|line| fail(format!("{}: line {line} is none", file.display())));
+            for case in &runs {
+                if let Err(message) = engine::compare(case, &case.run(), 1) {
+                    fail(format!("{}: {message}", file.display()));
+                }
             }
         }
         files.len()
@@ -379,6 +381,6 @@ mod compare {
             chunk /= 2;
         }
         let shown = engine::compare(&small, &small.run(), seed).err();
-        fail(format!("seed {seed}: {message}\nshrunk to {} calls: {}\n{}", small.calls.len() / 5, shown.unwrap_or_default(), vector::write(&small)))
+        fail(format!("seed {seed}: {message}\nshrunk to {} calls: {}\n{}", small.calls.len() / 5, shown.unwrap_or_default(), cases::told(&small)))
     }
 }
