@@ -16,6 +16,7 @@ ghost use Rattle.journal.specs.Rows.{rowAt};
 ghost use Rattle.tables.specs.Tables.{State, st};
 ghost use Rattle.tables.specs.Capacities.{Sized};
 ghost use Rattle.tables.specs.Holds.{Holds};
+ghost use Rattle.timeline.specs.Current.{noSteps};
 ghost use Rattle.timeline.specs.JournalRows.{JournalRows, Toward, Ready, Added};
 ghost use Rattle.timeline.specs.Steps.{Journal, Behind};
 
@@ -194,6 +195,7 @@ pub fn go_to(x: Current, vt: &mut [u32], et: &mut [u32], t: &[u32], place: u32) 
 
 // Kind 22: the present graph is the start.
 pub fn commit(pos: Position) -> Position
+    ensures { λ r. ⌜ r ≡ noSteps ⌝ }
     ensures { λ r. ⌜ ((b : Bounds) → (s : State) → (t : List ℕ) → (l : Timeline) → Journal b pos s t l → Journal b r s t (begun (current l))) ⌝ }
 {
     Position {
@@ -203,16 +205,20 @@ pub fn commit(pos: Position) -> Position
     }
 }
 
-// Kind 51: free changes, of a capacity.
+// Kind 51: free changes, of a capacity; 0 where more rows are used than it has.
 pub fn free_changes(pos: Position, capacity: u32) -> u32
-    requires { ⌜ pos .used ≤ capacity ⌝ }
+    ensures { λ r. ⌜ r ≡ capacity - pos .used ⌝ }
     ensures { λ r. ⌜ ((b : Bounds) → (s : State) → (t : List ℕ) → (l : Timeline) → Journal b pos s t l → r ≡ freeOf capacity l) ⌝ }
 {
+    if capacity < pos.used {
+        return 0;
+    }
     capacity - pos.used
 }
 
 // No step yet.
 pub fn begin() -> Position
+    ensures { λ r. ⌜ r ≡ noSteps ⌝ }
     ensures { λ r. ⌜ ((b : Bounds) → (s : State) → (t : List ℕ) → (g : Graph) → Sized b s → Within b g → Holds s g → length t < 2 ^ 32 → Journal b r s t (begun g)) ⌝ }
 {
     Position {
