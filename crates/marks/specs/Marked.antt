@@ -1,4 +1,4 @@
--- The set of standing marks and their places: what each call makes of them, and what they have to do with the machine's marks.
+-- The set of standing marks and their places: what each call makes of them, and how they stand for the machine's marks.
 use Prim.Native.Nat.{ℕ, zero, suc, _+_, _-_, _*_, _/_, _%_, _^_, _≤_}
 use mathlib.Core.Path.{_≡_}
 use mathlib.Core.Bool.{Bool, not, _&&_}

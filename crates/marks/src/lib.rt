@@ -45,9 +45,10 @@ pub fn place_of(places: &[u32; 64], a: u32) -> u32
 // Kind 17: mark a at place p. Where a is not 1 to 64, nothing changes.
 pub fn set_mark(set: u64, places: &mut [u32; 64], a: u32, p: u32) -> u64
     ensures { λ r. ⌜ r ≡ withMark a set ⌝ }
-    ensures { λ r. ⌜ now (places .exit) ≡ (within 1 64 a ⇒ setAt (now (places .entry)) (a - 1) p else now (places .entry)) ⌝ }
-    ensures { λ r. ⌜ ((ms : ℕ → Standing) → within 1 64 a ≡ true → inSet set a ≡ false → Marked ms set (now (places .entry))
-        → Marked (marked a (at p) ms) r (now (places .exit))) ⌝ }
+    ensures { λ r. ⌜ now (places .exit)
+        ≡ (within 1 64 a ⇒ setAt (now (places .entry)) (a - 1) p else now (places .entry)) ⌝ }
+    ensures { λ r. ⌜ ((ms : ℕ → Standing) → within 1 64 a ≡ true → inSet set a ≡ false
+        → Marked ms set (now (places .entry)) → Marked (marked a (at p) ms) r (now (places .exit))) ⌝ }
 {
     if !is_mark(a) {
         return set;
@@ -60,7 +61,8 @@ pub fn set_mark(set: u64, places: &mut [u32; 64], a: u32, p: u32) -> u64
 // Kind 18: mark a goes. Where it does not stand, nothing changes.
 pub fn drop_mark(set: u64, a: u32) -> u64
     ensures { λ r. ⌜ r ≡ withoutMark a set ⌝ }
-    ensures { λ r. ⌜ ((places : List ℕ) → (ms : ℕ → Standing) → inSet set a ≡ true → Marked ms set places → Marked (marked a gone ms) r places) ⌝ }
+    ensures { λ r. ⌜ ((places : List ℕ) → (ms : ℕ → Standing) → inSet set a ≡ true → Marked ms set places
+        → Marked (marked a gone ms) r places) ⌝ }
 {
     if !stands(set, a) {
         return set;
@@ -83,7 +85,7 @@ fn cut_mark(set: u64, left: u64, places: &[u32; 64], a: u32, p: u32) -> u64
     drop_mark(set, a)
 }
 
-// A change at place p: the marks whose place is above p go. The marks above a that are left to look at are the digits of
+// A change at place p: the marks whose place is above p go. The marks above a, still to be looked at, are the digits of
 // `left`; only the places of standing marks are read.
 pub fn cut_marks(set: u64, places: &[u32; 64], p: u32) -> u64
     ensures { λ r. ⌜ r ≡ cutSet p (now (places .entry)) set ⌝ }

@@ -129,7 +129,7 @@ fn placed_at(x: Current, vt: &mut [u32], et: &mut [u32], t: &[u32], place: u32) 
     lent::moved(x, h, place, to)
 }
 
-// Kind 19: one step back.
+// Kind 19: one step back. Which words of the tables hold the graph then is left open.
 pub fn undo(x: Current, vt: &mut [u32], et: &mut [u32], t: &[u32]) -> Current
     requires { ⌜ 1 ≤ x .position .place ⌝ }
     requires { ⌜ ((b : Bounds) × (l : Timeline) × Journal b (x .position) (st (x .head) (now vt) (now et)) (now t) l) ⌝ }
@@ -138,7 +138,7 @@ pub fn undo(x: Current, vt: &mut [u32], et: &mut [u32], t: &[u32]) -> Current
     placed_at(x, vt, et, t, x.position.place - 1)
 }
 
-// Kind 20: one step on.
+// Kind 20: one step on. Which words of the tables hold the graph then is left open.
 pub fn redo(x: Current, vt: &mut [u32], et: &mut [u32], t: &[u32]) -> Current
     requires { ⌜ x .position .place < x .position .steps ⌝ }
     requires { ⌜ ((b : Bounds) × (l : Timeline) × Journal b (x .position) (st (x .head) (now vt) (now et)) (now t) l) ⌝ }
@@ -147,7 +147,8 @@ pub fn redo(x: Current, vt: &mut [u32], et: &mut [u32], t: &[u32]) -> Current
     placed_at(x, vt, et, t, x.position.place + 1)
 }
 
-// Writes an edit down as row i and carries that row out.
+// Writes an edit down as row i and carries that row out. The journal is given exactly; the words of the tables
+// are left open, but for the graph that they hold.
 pub fn add_row(
     head: Head,
     vt: &mut [u32],
@@ -181,7 +182,8 @@ fn steps_between(p: u32, q: u32) -> u32
     q - p
 }
 
-// To a place: the steps between are undone or redone; how many.
+// To a place: the steps between are undone or redone; how many. Which words of the tables hold the graph
+// there is left open.
 pub fn go_to(x: Current, vt: &mut [u32], et: &mut [u32], t: &[u32], place: u32) -> MovedTo
     requires { ⌜ place ≤ x .position .steps ⌝ }
     requires { ⌜ ((b : Bounds) × (l : Timeline) × Journal b (x .position) (st (x .head) (now vt) (now et)) (now t) l) ⌝ }

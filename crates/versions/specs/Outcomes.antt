@@ -20,14 +20,22 @@ begunAt h = record { current = record { head = h; position = noSteps }; set = 0 
 
 -- mark a is set, and its place; a mark that stands, or that is no mark, is refused and changes neither
 abbrev pub markSet : Version → ℕ → Done
-markSet x a = record { version = record { current = x .current; set = withMark a (x .set) }; code = freshCode (x .set) a; number = 0 }
+markSet x a = record {
+  version = record { current = x .current; set = withMark a (x .set) };
+  code = freshCode (x .set) a;
+  number = 0;
+}
 
 abbrev pub placesSet : Version → ℕ → List ℕ → List ℕ
 placesSet x a places = (freshCode (x .set) a == 0) ⇒ setAt places (a - 1) (x .current .position .place) else places
 
 -- mark a is dropped; one that does not stand is refused
 abbrev pub markDropped : Version → ℕ → Done
-markDropped x a = record { version = record { current = x .current; set = withoutMark a (x .set) }; code = namedCode (x .set) a; number = 0 }
+markDropped x a = record {
+  version = record { current = x .current; set = withoutMark a (x .set) };
+  code = namedCode (x .set) a;
+  number = 0;
+}
 
 abbrev pub committed : Version → Done
 committed x = record { version = begunAt (x .current .head); code = 0; number = x .current .position .place }
@@ -37,8 +45,11 @@ abbrev pub pairCode : Version → ℕ → ℕ → ℕ
 pairCode x a c = bothCode (namedCode (x .set) a) (namedCode (x .set) c)
 
 abbrev pub betweenMarks : Version → List ℕ → ℕ → ℕ → Done
-betweenMarks x places a c =
-    record { version = x; code = pairCode x a c; number = (pairCode x a c == 0) ⇒ distance (placeIn places a) (placeIn places c) else 0 }
+betweenMarks x places a c = record {
+  version = x;
+  code = pairCode x a c;
+  number = (pairCode x a c == 0) ⇒ distance (placeIn places a) (placeIn places c) else 0;
+}
 
 abbrev pub marksStanding : Version → Done
 marksStanding x = record { version = x; code = 0; number = ones (x .set) }

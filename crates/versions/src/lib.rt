@@ -102,7 +102,8 @@ fn cut(set: u64, position: Position, places: &[u32; 64]) -> u64
     marks::cut_marks(set, places, position.place)
 }
 
-// Kind 2, where its vertex is there: a row for each edge at it, and one for the vertex. It always alters the graph.
+// Kind 2, where its vertex is there: a row for each edge at it, and one for the vertex. It always alters the graph. The
+// words of tables and journal are left open, but for the machine that they stand for.
 pub fn delete_vertex(
     x: Version,
     vt: &mut [u32],
@@ -150,7 +151,8 @@ pub fn made(x: Version, places: &[u32; 64], head: Head, cost: u32) -> Done
     }
 }
 
-// Kind 19: one step back.
+// Kind 19: one step back. Refused, it leaves every word; else those of the tables are left open, but for the
+// graph that they hold.
 fn undo(x: Version, vt: &mut [u32], et: &mut [u32], t: &[u32]) -> Done
     requires { ⌜ ((b : Bounds) × (places : List ℕ) × (m : Machine) × Represents b x (now vt) (now et) (now t) places m) ⌝ }
     ensures { λ r. ⌜ Leaves x (now (vt .entry)) (now (et .entry)) r (now (vt .exit)) (now (et .exit)) ⌝ }
@@ -171,7 +173,7 @@ fn undo(x: Version, vt: &mut [u32], et: &mut [u32], t: &[u32]) -> Done
     }
 }
 
-// Kind 20: one step on.
+// Kind 20: one step on. Words as in `undo`.
 fn redo(x: Version, vt: &mut [u32], et: &mut [u32], t: &[u32]) -> Done
     requires { ⌜ ((b : Bounds) × (places : List ℕ) × (m : Machine) × Represents b x (now vt) (now et) (now t) places m) ⌝ }
     ensures { λ r. ⌜ Leaves x (now (vt .entry)) (now (et .entry)) r (now (vt .exit)) (now (et .exit)) ⌝ }
@@ -240,7 +242,7 @@ fn both(c: u32, d: u32) -> u32
     d
 }
 
-// Kind 21: to the place of mark a.
+// Kind 21: to the place of mark a. Words as in `undo`.
 fn go_to_mark(
     x: Version,
     vt: &mut [u32],
@@ -363,7 +365,8 @@ fn free_changes(x: Version, t: &[u32]) -> Done
     stay(x, 0, number)
 }
 
-// Any history call.
+// Any history call. A refused one leaves every lent word; else those of the tables and places are left open, but for the
+// machine that they stand for.
 pub fn recall(
     x: Version,
     vt: &mut [u32],
