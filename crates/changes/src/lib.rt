@@ -86,6 +86,7 @@ fn make_rows(
 }
 
 // A change as one step: what lies after p is cut, and the change is carried out and written down.
+// Which words of the tables hold the graph then, and those of the journal past its rows, are left open.
 pub fn make_step(
     x: Current,
     vt: &mut [u32],

@@ -1,6 +1,6 @@
 -- Codes from tests.
 use Prim.Native.Nat.{ℕ, _≤_, _<_}
-use mathlib.Core.Path.{_≡_, refl}
+use mathlib.Core.Path.{_≡_, refl, sym, _∙_}
 use mathlib.Core.Bool.{Bool, true, false, _||_}
 use native.Mathlib.Omega.{arith}
 use lib.Dec.{leb}
@@ -8,6 +8,10 @@ use borrow.Author.Tests.{le-leb, lt-leb, eq-eqb, ne-eqb}
 use Rattle.lists.specs.Choice.{_⇒_else_, _==_, within}
 use Rattle.graph.specs.Graph.{isReading}
 use Rattle.lists.proofs.Bools.{and-false}
+use Rattle.tables.specs.declared.Lookup.{Lookup}
+use Rattle.tables.specs.declared.Lookup.the-variants.{Found, Missing}
+use Rattle.tables.specs.Tables.{vertexCode, edgeCode}
+use Rattle.checks.specs.Missing.{firstCode}
 
 pub below-range : (capacity n : ℕ) → n ≡ 0 → within 1 capacity n ≡ false
 below-range capacity n e = rw (lt-leb 1 n (omega arith))
@@ -26,6 +30,21 @@ either false t k c e n = absurd (n e)
 pub second : (s t : Bool) (k c d : ℕ) → 1 ≤ k → c ≡ (s ⇒ k else 0) → c ≡ 0 → d ≡ (t ⇒ k else 0) → d ≡ ((s || t) ⇒ k else 0)
 second true t k c d p e n i = absurd (omega arith)
 second false t k c d p e n i = i
+
+-- the first of two codes that is not 0: it is the first; the first is 0, and the second decides
+pub first-fails : (k c x y : ℕ) → c ≡ x → (c ≡ 0 → ⊥) → k ≡ x → k ≡ firstCode x y
+first-fails k c x y e n h = rw (ne-eqb x 0 (λ z. n (e ∙ z))) h
+
+pub first-passes : (c d x y : ℕ) → c ≡ x → c ≡ 0 → d ≡ y → d ≡ firstCode x y
+first-passes c d x y e z h = rw (eq-eqb x 0 (sym e ∙ z)) h
+
+pub four : (f : Lookup) (c : ℕ) → c ≡ vertexCode f → (c ≡ 0 → ⊥) → 4 ≡ vertexCode f
+four (Found k) c e n = absurd (n e)
+four Missing c e n = refl
+
+pub five : (f : Lookup) (c : ℕ) → c ≡ edgeCode f → (c ≡ 0 → ⊥) → 5 ≡ edgeCode f
+five (Found k) c e n = absurd (n e)
+five Missing c e n = refl
 
 -- ---- a code, and then the rest of a chain
 

@@ -15,6 +15,7 @@ ghost use Rattle.graph.specs.Graph as chart;
 ghost use Rattle.tables.specs.Tables.{foundV, foundE, vertexCode, edgeCode};
 ghost use Rattle.machine.specs.Codes.{lacksVertex, lacksEdge};
 ghost use Rattle.checks.specs.Held.{HoldsV, HoldsE, HoldsVE};
+ghost use Rattle.checks.specs.Missing.{verticesCode, edgesCode, wordsCode};
 
 // Code 4: a vertex that is named.
 pub fn vertex_code(vt: &[u32], v: u32) -> u32
@@ -30,8 +31,8 @@ pub fn vertex_code(vt: &[u32], v: u32) -> u32
 
 // Code 4: two vertices that are named.
 pub fn vertices_code(vt: &[u32], a: u32, b: u32) -> u32
-    ensures { λ r. ⌜ ((g : Graph) → HoldsV (now (vt .entry)) g
-        → r ≡ ((lacksVertex g a || lacksVertex g b) ⇒ 4 else 0)) ⌝ }
+    ensures { λ r. ⌜ ((g : Graph) → HoldsV (now (vt .entry)) g → r ≡ ((lacksVertex g a || lacksVertex g b) ⇒ 4 else 0)) ⌝ }
+    ensures { λ r. ⌜ r ≡ verticesCode (now (vt .entry)) a b ⌝ }
 {
     let c = vertex_code(vt, a);
     if c != 0 {
@@ -55,6 +56,7 @@ pub fn edge_code(et: &[u32], e: u32) -> u32
 // Code 5: two edges that are named.
 pub fn edges_code(et: &[u32], a: u32, b: u32) -> u32
     ensures { λ r. ⌜ ((g : Graph) → HoldsE (now (et .entry)) g → r ≡ ((lacksEdge g a || lacksEdge g b) ⇒ 5 else 0)) ⌝ }
+    ensures { λ r. ⌜ r ≡ edgesCode (now (et .entry)) a b ⌝ }
 {
     let c = edge_code(et, a);
     if c != 0 {
@@ -139,9 +141,8 @@ fn edge_used(et: &[u32], n: u32) -> u32
 
 // Codes 5 and 8: two words whose edges are there and that are seen from one vertex.
 pub fn words_code(et: &[u32], a: u32, b: u32) -> u32
-    ensures { λ r. ⌜ ((g : Graph) → HoldsE (now (et .entry)) g
-        → r ≡ ((lacksEdge g (edgeOf a) || lacksEdge g (edgeOf b)) ⇒ 5 else not
-        (chart.this g a == chart.this g b) ⇒ 8 else 0)) ⌝ }
+    ensures { λ r. ⌜ ((g : Graph) → HoldsE (now (et .entry)) g → r ≡ ((lacksEdge g (edgeOf a) || lacksEdge g (edgeOf b)) ⇒ 5 else not (chart.this g a == chart.this g b) ⇒ 8 else 0)) ⌝ }
+    ensures { λ r. ⌜ r ≡ wordsCode (now (et .entry)) a b ⌝ }
 {
     let f = find_word(et, a);
     let Lookup::Found(_) = f else {

@@ -10,7 +10,8 @@ ghost use Rattle.commands.specs.Calls.{callsOf};
 ghost use Rattle.engine.specs.Running.{Running, Stands};
 ghost use Rattle.engine.specs.Calls.{AfterCalls};
 
-// Answers each call by two words, code and number.
+// Answers each call by two words, code and number. The words of tables, journal and places are left open,
+// but for the machine that they stand for.
 pub fn each(
     x: Version,
     vt: &mut [u32],

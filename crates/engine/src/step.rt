@@ -132,7 +132,7 @@ fn unknown(x: Version) -> Done
     versions::stay(x, 1, 0)
 }
 
-// Any command.
+// Any command. The words of tables, journal and places are left open, but for the machine that they stand for.
 pub fn step(
     x: Version,
     vt: &mut [u32],

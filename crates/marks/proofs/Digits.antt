@@ -1,17 +1,19 @@
 -- Numbers by their binary digits: one digit read, one digit changed, the count of ones.
 use Prim.Native.Nat.{ℕ, zero, suc, _+_, _-_, _*_, _/_, _%_, _^_, _≤_, _<_}
 use mathlib.Core.Bool.{Bool, true, false}
-use mathlib.Core.Path.{_≡_, refl, sym, ap, _∙_}
+use mathlib.Core.Path.{_≡_, refl, sym, ap, subst, _∙_}
 use mathlib.Core.Logic.{_≢_}
 use mathlib.Core.List.{List, [], _∷_, _++_}
 use native.Mathlib.Omega.{arith}
-use native.Mathlib.Nat.{div-div-eq-div-mul, pow-suc, mul-comm, one-mul, mod-eq-of-lt}
-use lib.Pow.{pow-lt, pow-add}
+use native.Mathlib.Nat.{div-div-eq-div-mul, div-eq-of-lt, zero-div, pow-suc, mul-comm, one-mul, mod-eq-of-lt}
+use borrow.Author.Tests.{eq-eqb, ne-eqb}
+use lib.Pow.{pow-lt, pow-add, shr-shr}
 use lib.Bits.{bitAnd, bitOr, bitXor, and-high, or-add-and, xor-add-and}
 use lib.Count.{ones, ones-step}
 use lib.ListN.{length}
-use Rattle.lists.specs.Choice.{_⇒_else_, bit}
+use Rattle.lists.specs.Choice.{_==_, _⇒_else_, bit}
 use Rattle.lists.specs.Lists.{keep, upto}
+use Rattle.lists.proofs.Picks.{Same, same, differ, same?}
 use Rattle.lists.proofs.Sums.{bit-le}
 use Rattle.marks.specs.Marked.{digits}
 
@@ -21,6 +23,9 @@ module _ (n k : ℕ) (b : ℕ → Bool) where
 
   odd : (bit (b k) + 2 * digits n (suc k) b) % 2 ≡ bit (b k)
   odd = omega (arith, bit-le (b k))
+
+bit-odd : (x : ℕ) → bit (x % 2 == 1) ≡ x % 2
+bit-odd x = elim (same? (x % 2) 1) [ same e f ↦ rw (eq-eqb _ _ e) (sym e) | differ e f ↦ rw (ne-eqb _ _ e) (omega arith) ]
 
 pub digits-at : (n k i : ℕ) (b : ℕ → Bool) → i < n → digits n k b / 2 ^ i % 2 ≡ bit (b (k + i))
 unfolding digits
@@ -33,10 +38,10 @@ digits-at (suc n) k (suc i) b h =
     let e : k + suc i ≡ suc k + i = omega arith in
     rw (e, c, ← div-div-eq-div-mul (bit (b k) + 2 * digits n (suc k) b) 2 (2 ^ i), half n k b) (digits-at n (suc k) i b (omega arith))
 
-pub digits-agree : (n k : ℕ) (b c : ℕ → Bool) → ((j : ℕ) → k ≤ j → c j ≡ b j) → digits n k c ≡ digits n k b
+pub digits-agree : (n k : ℕ) (b c : ℕ → Bool) → ((j : ℕ) → k ≤ j → j < k + n → c j ≡ b j) → digits n k c ≡ digits n k b
 unfolding digits
 digits-agree zero k b c h = refl
-digits-agree (suc n) k b c h = rw (h k (omega arith), digits-agree n (suc k) b c (λ j l. h j (omega arith)))
+digits-agree (suc n) k b c h = rw (h k (omega arith) (omega arith), digits-agree n (suc k) b c (λ j l u. h j (omega arith) (omega arith)))
 
 -- digit i is 0 in one and 1 in the other, and the others agree
 pub digits-more : (n k i : ℕ) (b c : ℕ → Bool) → i < n → ((j : ℕ) → j ≢ k + i → c j ≡ b j) → b (k + i) ≡ false → c (k + i) ≡ true → digits n k c ≡ digits n k b + 2 ^ i
@@ -46,11 +51,29 @@ digits-more (suc n) k zero b c h f x y =
     let e : k + 0 ≡ k = omega arith in
     let p : b k ≡ false = ap b (sym e) ∙ x in
     let q : c k ≡ true = ap c (sym e) ∙ y in
-    rw (p, q, digits-agree n (suc k) b c (λ j l. f j (λ z. omega arith))) (omega arith)
+    rw (p, q, digits-agree n (suc k) b c (λ j l u. f j (λ z. omega arith))) (omega arith)
 digits-more (suc n) k (suc i) b c h f x y =
     let e : k + suc i ≡ suc k + i = omega arith in
     rw (f k (λ z. omega arith))
     (omega (arith, digits-more n (suc k) i b c (omega arith) (λ j z. f j (λ w. z (w ∙ e))) (ap b (sym e) ∙ x) (ap c (sym e) ∙ y), pow-suc 2 i))
+
+-- a number's digits from digit m on, where it has none at m + n or above
+pub digits-of : (n m s : ℕ) → s < 2 ^ (m + n) → s / 2 ^ m ≡ digits n (suc m) (λ j. s / 2 ^ (j - 1) % 2 == 1)
+unfolding digits
+digits-of zero m s h =
+    let e : m + 0 ≡ m = omega arith in
+    div-eq-of-lt (subst (λ (x : ℕ). s < 2 ^ x) e h)
+digits-of (suc n) m s h =
+    let e : m + suc n ≡ suc m + n = omega arith in
+    let f : suc m - 1 ≡ m = omega arith in
+    let d : s / 2 ^ suc m ≡ s / 2 ^ m / 2 = ap (λ (x : ℕ). s / x) (pow-suc 2 m) ∙ sym (div-div-eq-div-mul s (2 ^ m) 2) in
+    rw (f, ← digits-of n (suc m) s (subst (λ (x : ℕ). s < 2 ^ x) e h), d, bit-odd (s / 2 ^ m)) (omega arith)
+
+-- digits past the last are 0
+pub digit-past : (s a i : ℕ) → s / 2 ^ a ≡ 0 → a ≤ i → s / 2 ^ i ≡ 0
+digit-past s a i e h =
+    let f : a + (i - a) ≡ i = omega arith in
+    ap (λ (x : ℕ). s / 2 ^ x) (sym f) ∙ sym (shr-shr s a (i - a)) ∙ ap (λ (x : ℕ). x / 2 ^ (i - a)) e ∙ zero-div (2 ^ (i - a))
 
 -- ---- the count of ones
 
@@ -108,6 +131,9 @@ and-bit n k =
 
 pub or-bit : (n k : ℕ) → n / 2 ^ k % 2 ≡ 0 → bitOr n (2 ^ k) ≡ n + 2 ^ k
 or-bit n k h = omega (arith, or-add-and n (2 ^ k), rw h at (and-bit n k))
+
+pub or-same : (n k : ℕ) → n / 2 ^ k % 2 ≡ 1 → bitOr n (2 ^ k) ≡ n
+or-same n k h = omega (arith, or-add-and n (2 ^ k), rw h at (and-bit n k))
 
 pub xor-bit : (n k : ℕ) → n / 2 ^ k % 2 ≡ 1 → bitXor n (2 ^ k) + 2 ^ k ≡ n
 xor-bit n k h = omega (arith, xor-add-and n (2 ^ k), rw h at (and-bit n k))

@@ -1,21 +1,24 @@
 -- The set and the places as marks are set, dropped and cut.
 use Prim.Native.Nat.{ℕ, zero, suc, _+_, _-_, _*_, _/_, _%_, _^_, _≤_, _<_}
-use mathlib.Core.Bool.{Bool, true, false}
+use mathlib.Core.Bool.{Bool, true, false, not, _&&_}
 use mathlib.Core.Path.{_≡_, refl, sym, ap, subst, _∙_}
 use mathlib.Core.Logic.{_≢_}
 use mathlib.Core.List.{List}
+use native.Mathlib.Nat.{div-eq-of-lt, div-one, pow-zero, lt-of-lt-of-le}
 use native.Mathlib.Omega.{arith}
-use borrow.Author.Tests.{eq-eqb, ne-eqb, lt-ltb, le-ltb}
+use borrow.Author.Tests.{eq-eqb, ne-eqb, eqb-true, le-leb, lt-leb, leb-false, ltb-true, ltb-false}
 use lib.Bits.{bitOr, bitXor}
 use lib.Count.{ones}
+use lib.Dec.{leb, ltb}
+use lib.Pow.{pow-mono, shr-shr}
 use lib.ListN.{length, getD, set, length-set}
 use lib.Seq.{getD-set-same, getD-set-other}
-use Rattle.lists.specs.Choice.{_==_, bit}
-use Rattle.lists.proofs.Bools.{tf, ft}
+use Rattle.lists.specs.Choice.{_==_, _⇒_else_, bit, within}
+use Rattle.lists.proofs.Bools.{ft, and-true, within-range}
 use Rattle.lists.proofs.Picks.{Same, same, differ, same?}
 use Rattle.history.specs.Machine.{Standing, gone, at, noMarks, stands, placeOr, marked, cut, cutMarks, standing}
-use Rattle.marks.specs.Marked.{digits, inSet, Marked}
-use Rattle.marks.proofs.Digits.{digits-at, digits-more, ones-count, one-shl, or-bit, xor-bit}
+use Rattle.marks.specs.Marked.{digits, inSet, placeIn, withMark, withoutMark, cutSet, Marked}
+use Rattle.marks.proofs.Digits.{digits-at, digits-agree, digits-more, digits-of, digit-past, ones-count, one-shl, or-bit, or-same, xor-bit}
 
 -- ---- one mark is another
 
@@ -36,6 +39,36 @@ marked-kept n s ms e i k = go (same? k n) i
 gone-not : (s : Standing) (q : ℕ) → s ≡ gone → s ≡ at q → ⊥
 gone-not s q e f = let z : _≡_ {A = ℕ} 0 1 = cc in omega arith
 
+-- ---- marks are 1 to 64
+
+pub in-marks : (a : ℕ) → 1 ≤ a → a ≤ 64 → within 1 64 a ≡ true
+in-marks a l h = rw (le-leb 1 a l, le-leb a 64 h)
+
+and-yes : (t : Bool) → (t && true) ≡ t
+and-yes true = refl
+and-yes false = refl
+
+pub in-range : (s a : ℕ) → inSet s a ≡ true → (1 ≤ a) × (a ≤ 64)
+in-range s a h = within-range 1 64 a (and-true (within 1 64 a) (s / 2 ^ (a - 1) % 2 == 1) h .0)
+
+-- the set without mark a, where it stands
+pub without-is : (s a r : ℕ) → inSet s a ≡ true → r ≡ bitXor s ((1 * 2 ^ (a - 1)) % 2 ^ 64) → r ≡ withoutMark a s
+without-is s a r h e =
+    let i = and-true (within 1 64 a) (s / 2 ^ (a - 1) % 2 == 1) h in
+    let w = in-range s a h in
+    let x = xor-bit s (a - 1) (eqb-true _ _ (i .1)) in
+    rw h (e ∙ rw (one-shl (a - 1) (omega (arith, w .0, w .1))) (omega (arith, x)))
+
+-- the set with mark a
+pub with-is : (s a r : ℕ) → within 1 64 a ≡ true → r ≡ bitOr s ((1 * 2 ^ (a - 1)) % 2 ^ 64) → r ≡ withMark a s
+with-is s a r h e =
+    let w = within-range 1 64 a h in
+    rw h (e ∙ rw (one-shl (a - 1) (omega (arith, w .0, w .1))) (go (same? (s / 2 ^ (a - 1) % 2) 1)))
+  where
+    go : Same (s / 2 ^ (a - 1) % 2) 1 → bitOr s (2 ^ (a - 1)) ≡ (not (s / 2 ^ (a - 1) % 2 == 1) ⇒ s + 2 ^ (a - 1) else s)
+    go (same x y) = rw (eq-eqb _ _ x) (or-same s (a - 1) x)
+    go (differ x y) = rw (ne-eqb _ _ x) (or-bit s (a - 1) (omega arith))
+
 -- ---- the set says which marks stand
 
 module _ (ms : ℕ → Standing) (s : ℕ) (places : List ℕ) (h : Marked ms s places) (a : ℕ) (low : 1 ≤ a) (high : a ≤ 64) where
@@ -45,15 +78,15 @@ module _ (ms : ℕ → Standing) (s : ℕ) (places : List ℕ) (h : Marked ms s 
       ap (λ (x : ℕ). x / 2 ^ (a - 1) % 2) (h .bits) ∙ digits-at 64 1 (a - 1) (λ k. stands (ms k)) (omega arith) ∙ ap (λ (k : ℕ). bit (stands (ms k))) e
 
   pub in-set : inSet s a ≡ stands (ms a)
-  in-set = rw digit-is (go (stands (ms a)))
+  in-set = rw (in-marks a low high, digit-is) (go (stands (ms a)))
     where
       go : (t : Bool) → (bit t == 1) ≡ t
       go true = refl
       go false = refl
 
   -- the word at a standing mark is its place
-  pub place-is : (other : ℕ) → stands (ms a) ≡ true → getD places (a - 1) 0 ≡ placeOr other (ms a)
-  place-is other t = go (ms a) refl t
+  pub place-is : (other : ℕ) → stands (ms a) ≡ true → placeIn places a ≡ placeOr other (ms a)
+  place-is other t = rw (in-marks a low high) (go (ms a) refl t)
     where
       go : (x : Standing) → ms a ≡ x → stands x ≡ true → getD places (a - 1) 0 ≡ placeOr other (ms a)
       go gone e f = ft f
@@ -111,88 +144,112 @@ module _ (ms : ℕ → Standing) (s : ℕ) (places : List ℕ) (h : Marked ms s 
       go k x e (same u v) = absurd (gone-not (marked a gone ms k) x (ap (λ (j : ℕ). marked a gone ms j) u ∙ marked-same a gone ms) e)
       go k x e (differ u v) = h .known k x (sym (marked-other a k gone ms u) ∙ e)
 
-  -- ---- a mark whose place is above p goes
+-- ---- the marks whose place is above p go
 
-  kept : (x : Standing) (r : ℕ) → x ≡ ms a → r ≡ s → Marked (marked a x ms) r places
-  kept x r e q = subst (λ (f : ℕ → Standing). Marked f r places) (sym (marked-kept a x ms e)) (subst (λ (n : ℕ). Marked ms n places) (sym q) h)
-
-  cut-above : (p q : ℕ) → p < q → (x : Standing) → x ≡ at q → cut p x ≡ gone
-  cut-above p q l x e = rw e (rw (lt-ltb p q l) refl)
-
-  pub cut-out : (p q r : ℕ) → q ≡ getD places (a - 1) 0 → p < q → stands (ms a) ≡ true → Marked (marked a gone ms) r places → Marked (marked a (cut p (ms a)) ms) r places
-  cut-out p q r e l t m = go (ms a) refl t
-    where
-      go : (x : Standing) → ms a ≡ x → stands x ≡ true → Marked (marked a (cut p (ms a)) ms) r places
-      go gone f u = ft u
-      go (at y) f u =
-          let z : p < y = omega (arith, h .known a y f .2, e, l) in
-          subst (λ (x : Standing). Marked (marked a x ms) r places) (sym (cut-above p y z (ms a) f)) m
-
-  pub cut-none : (p r : ℕ) → stands (ms a) ≡ false → r ≡ s → Marked (marked a (cut p (ms a)) ms) r places
-  cut-none p r t q = kept (cut p (ms a)) r (go (ms a) t) q
-    where
-      go : (x : Standing) → stands x ≡ false → cut p x ≡ x
-      go gone f = refl
-      go (at y) f = tf f
-
-  pub cut-low : (p q r : ℕ) → q ≡ getD places (a - 1) 0 → q ≤ p → r ≡ s → Marked (marked a (cut p (ms a)) ms) r places
-  cut-low p q r e l f = kept (cut p (ms a)) r (go (ms a) refl) f
-    where
-      go : (x : Standing) → ms a ≡ x → cut p x ≡ x
-      go gone w = refl
-      go (at y) w = rw (le-ltb p y (omega (arith, h .known a y w .2, e, l))) refl
-
--- ---- the marks are cut one after another
-
-abbrev pub cutFirst : ℕ → ℕ → (ℕ → Standing) → ℕ → Standing
-cutFirst zero p ms = ms
-cutFirst (suc n) p ms = marked (suc n) (cut p (ms (suc n))) (cutFirst n p ms)
-
-pub cut-later : (n p : ℕ) (ms : ℕ → Standing) (k : ℕ) → n < k → cutFirst n p ms k ≡ ms k
-cut-later zero p ms k h = refl
-cut-later (suc n) p ms k h = marked-other (suc n) k (cut p (ms (suc n))) (cutFirst n p ms) (λ e. omega arith) ∙ cut-later n p ms k (omega arith)
-
-cut-zero : (n p : ℕ) (ms : ℕ → Standing) → cutFirst n p ms 0 ≡ ms 0
-cut-zero zero p ms = refl
-cut-zero (suc n) p ms = marked-other (suc n) 0 (cut p (ms (suc n))) (cutFirst n p ms) (λ e. omega arith) ∙ cut-zero n p ms
-
-cut-done : (n p : ℕ) (ms : ℕ → Standing) (k : ℕ) → 1 ≤ k → k ≤ n → cutFirst n p ms k ≡ cut p (ms k)
-cut-done zero p ms k l h = absurd (omega arith)
-cut-done (suc n) p ms k l h = go (λ i. cut-done n p ms k l i) (same? k (suc n))
+pub cut-marked : (ms : ℕ → Standing) (s p : ℕ) (places : List ℕ) → Marked ms s places → Marked (cutMarks p ms) (cutSet p places s) places
+cut-marked ms s p places h = record {
+  room = h .room;
+  bits = digits-agree 64 1 (λ k. stands (cut p (ms k))) (λ a. inSet s a && leb (placeIn places a) p) (λ a l u. agrees a l (omega arith));
+  known = λ k q e. h .known k q (was-at (ms k) q e);
+}
   where
-    go : (k ≤ n → cutFirst n p ms k ≡ cut p (ms k)) → Same k (suc n) → cutFirst (suc n) p ms k ≡ cut p (ms k)
-    go ih (same u v) =
-        ap (λ (j : ℕ). cutFirst (suc n) p ms j) u ∙ marked-same (suc n) (cut p (ms (suc n))) (cutFirst n p ms) ∙ ap (λ (j : ℕ). cut p (ms j)) v
-    go ih (differ u v) = marked-other (suc n) k (cut p (ms (suc n))) (cutFirst n p ms) u ∙ ih (omega arith)
+    was-at : (x : Standing) (q : ℕ) → cut p x ≡ at q → x ≡ at q
+    was-at gone q e = e
+    was-at (at y) q e = go (ltb p y) e
+      where
+        go : (t : Bool) → (t ⇒ gone else at y) ≡ at q → at y ≡ at q
+        go true f = absurd (gone-not gone q refl f)
+        go false f = f
 
-pub cut-turn : (ms : ℕ → Standing) (s s′ p q n n′ : ℕ) (places : List ℕ) → n′ ≡ suc n → q ≡ getD places n 0 → Marked (cutFirst n p ms) s places
-    → ((ns : ℕ → Standing) → q ≡ getD places (n′ - 1) 0 → Marked ns s places → Marked (marked n′ (cut p (ns n′)) ns) s′ places) → Marked (cutFirst n′ p ms) s′ places
-cut-turn ms s s′ p q n n′ places e f h g =
-    let z : n ≡ n′ - 1 = omega arith in
-    let x : cutFirst n p ms n′ ≡ ms n′ = cut-later n p ms n′ (omega arith) in
-    let m = g (cutFirst n p ms) (f ∙ ap (λ (i : ℕ). getD places i 0) z) h in
-    let y : Marked (marked n′ (cut p (ms n′)) (cutFirst n p ms)) s′ places = subst (λ (w : Standing). Marked (marked n′ (cut p w) (cutFirst n p ms)) s′ places) x m in
-    go e y
+    agrees : (a : ℕ) → 1 ≤ a → a ≤ 64 → (inSet s a && leb (placeIn places a) p) ≡ stands (cut p (ms a))
+    agrees a low high = rw (in-set ms s places h a low high) (go (ms a) refl)
+      where
+        go : (x : Standing) → ms a ≡ x → (stands (ms a) && leb (placeIn places a) p) ≡ stands (cut p (ms a))
+        go gone e = rw e
+        go (at q) e = rw (e, in-marks a low high, h .known a q e .2) (below (ltb p q) refl)
+          where
+            below : (t : Bool) → ltb p q ≡ t → leb q p ≡ stands (t ⇒ gone else at q)
+            below true f = lt-leb q p (ltb-true p q f)
+            below false f = le-leb q p (ltb-false p q f)
+
+-- the marks up to n have been looked at
+abbrev pub cutTo : ℕ → ℕ → List ℕ → ℕ → ℕ → Bool
+cutTo n p places s j = inSet s j && (leb j n ⇒ leb (placeIn places j) p else true)
+
+pub cut-start : (s p a : ℕ) (places : List ℕ) → s < 2 ^ 64 → a ≡ 0 → s ≡ digits 64 1 (cutTo a p places s)
+cut-start s p a places h e =
+    sym (ap (λ (x : ℕ). s / x) (pow-zero 2) ∙ div-one s) ∙ digits-of 64 0 s h ∙ digits-agree 64 1 (cutTo a p places s) (λ j. s / 2 ^ (j - 1) % 2 == 1) (λ j l u. go j l (omega arith))
   where
-    go : n′ ≡ suc n → Marked (marked n′ (cut p (ms n′)) (cutFirst n p ms)) s′ places → Marked (cutFirst n′ p ms) s′ places
-    go u y = subst (λ (i : ℕ). Marked (cutFirst i p ms) s′ places) (sym u) (subst (λ (i : ℕ). Marked (marked i (cut p (ms i)) (cutFirst n p ms)) s′ places) u y)
+    go : (j : ℕ) → 1 ≤ j → j ≤ 64 → (s / 2 ^ (j - 1) % 2 == 1) ≡ cutTo a p places s j
+    go j l u = rw (in-marks j l u, lt-leb j a (omega arith)) (sym (and-yes _))
 
-pub cut-end : (ms : ℕ → Standing) (s₀ s p n : ℕ) (places : List ℕ) → Marked ms s₀ places → n ≡ 64 → Marked (cutFirst n p ms) s places → Marked (cutMarks p ms) s places
-cut-end ms s₀ s p n places h e m = subst (λ (f : ℕ → Standing). Marked f s places) (λ i k. all k i) m
+-- digits are left, so the next is one of the 64
+pub left-marks : (s left a : ℕ) → s < 2 ^ 64 → left ≡ s / 2 ^ a → left ≢ 0 → a < 64
+left-marks s left a h e n = elim (same? (64 - a) 0) [
+  | same u v ↦ absurd (n (e ∙ div-eq-of-lt (lt-of-lt-of-le h (pow-mono {i = 64} {j = a} (omega arith)))))
+  | differ u v ↦ omega arith
+]
+
+pub left-half : (s left a n : ℕ) → left ≡ s / 2 ^ a → n ≡ a + 1 → left / 2 ≡ s / 2 ^ n
+left-half s left a n e f = ap (λ (x : ℕ). x / 2) e ∙ shr-shr s a 1 ∙ ap (λ (x : ℕ). s / 2 ^ x) (sym f)
+
+-- one more is looked at
+module _ (s left a n p t t′ : ℕ) (places : List ℕ) (e : left ≡ s / 2 ^ a) (f : n ≡ a + 1) (high : n ≤ 64) (g : t ≡ digits 64 1 (cutTo a p places s)) where
+  apart : (j : ℕ) → j ≢ n → leb j a ≡ leb j n
+  apart j h = elim (same? (j - n) 0) [
+    | same u v ↦ le-leb j a (omega arith) ∙ sym (le-leb j n (omega arith))
+    | differ u v ↦ lt-leb j a (omega arith) ∙ sym (lt-leb j n (omega arith))
+  ]
+
+  unlike : (j : ℕ) → j ≢ n → cutTo a p places s j ≡ cutTo n p places s j
+  unlike j h = rw (apart j h)
+
+  first : inSet s n ≡ (left % 2 == 1)
+  first =
+      let z : n - 1 ≡ a = omega arith in
+      rw (in-marks n (omega arith) high, z, e)
+
+  old : cutTo a p places s n ≡ (left % 2 == 1)
+  old = rw (first, lt-leb n a (omega arith)) (and-yes _)
+
+  new : cutTo n p places s n ≡ (left % 2 == 1 && leb (placeIn places n) p)
+  new = rw (first, le-leb n n (omega arith))
+
+  stays : cutTo n p places s n ≡ cutTo a p places s n → t ≡ digits 64 1 (cutTo n p places s)
+  stays h = g ∙ digits-agree 64 1 (cutTo n p places s) (cutTo a p places s) (λ j l u. go j (same? j n))
+    where
+      go : (j : ℕ) → Same j n → cutTo a p places s j ≡ cutTo n p places s j
+      go j (same x y) = ap (cutTo a p places s) x ∙ sym h ∙ ap (cutTo n p places s) y
+      go j (differ x y) = unlike j x
+
+  goes : left % 2 ≡ 1 → p < placeIn places n → withoutMark n t ≡ digits 64 1 (cutTo n p places s)
+  goes h l =
+      let z : n - 1 ≡ a = omega arith in
+      let y : 1 + a ≡ n = omega arith in
+      let o : cutTo a p places s (1 + a) ≡ true = ap (cutTo a p places s) y ∙ old ∙ eq-eqb _ _ h in
+      let w : cutTo n p places s (1 + a) ≡ false = ap (cutTo n p places s) y ∙ (rw (new, eq-eqb _ _ h, lt-leb _ p l)) in
+      let d : t / 2 ^ a % 2 ≡ 1 = ap (λ (x : ℕ). x / 2 ^ a % 2) g ∙ digits-at 64 1 a (cutTo a p places s) (omega arith) ∙ ap bit o in
+      let i : inSet t n ≡ true = rw (in-marks n (omega arith) high, z, d) in
+      let m = digits-more 64 1 a (cutTo n p places s) (cutTo a p places s) (omega arith) (λ j q. unlike j (λ r. q (r ∙ sym y))) w o in
+      rw (i, z) (omega (arith, g, m))
+
+  pub cut-turn : t′ ≡ (left % 2 == 1 && ltb p (placeIn places n) ⇒ withoutMark n t else t) → t′ ≡ digits 64 1 (cutTo n p places s)
+  cut-turn h = h ∙ go (same? (left % 2) 1) (ltb p (placeIn places n)) refl
+    where
+      go : Same (left % 2) 1 → (u : Bool) → ltb p (placeIn places n) ≡ u → (left % 2 == 1 && ltb p (placeIn places n) ⇒ withoutMark n t else t) ≡ digits 64 1 (cutTo n p places s)
+      go (same x y) true v = rw (eq-eqb _ _ x, v) (goes x (ltb-true _ _ v))
+      go (same x y) false v = rw (eq-eqb _ _ x, v) (stays (rw (new, old, eq-eqb _ _ x, le-leb _ p (ltb-false _ _ v))))
+      go (differ x y) u v = rw (ne-eqb _ _ x) (stays (rw (new, old, ne-eqb _ _ x)))
+
+-- none is left
+pub cut-end : (s left a p t : ℕ) (places : List ℕ) → left ≡ s / 2 ^ a → left ≡ 0 → t ≡ digits 64 1 (cutTo a p places s) → t ≡ cutSet p places s
+cut-end s left a p t places e z g = g ∙ digits-agree 64 1 (λ j. inSet s j && leb (placeIn places j) p) (cutTo a p places s) (λ j l u. go j l (omega arith) (leb j a) refl)
   where
-    outside : (k : ℕ) → (x : Standing) → ms k ≡ x → ((q : ℕ) → ms k ≡ at q → ⊥) → ms k ≡ cut p (ms k)
-    outside k gone f g = f ∙ sym (ap (cut p) f)
-    outside k (at q) f g = absurd (g q f)
-
-    far : (k : ℕ) → n < k → ms k ≡ cut p (ms k)
-    far k l = outside k (ms k) refl (λ q f. omega (arith, h .known k q f .1))
-
-    all : (k : ℕ) → cutFirst n p ms k ≡ cut p (ms k)
-    all zero = cut-zero n p ms ∙ outside 0 (ms 0) refl (λ q f. omega (arith, h .known 0 q f .0))
-    all (suc k) = elim (same? (suc k - n) 0) [
-      | same u v ↦ cut-done n p ms (suc k) (omega arith) (omega arith)
-      | differ u v ↦ cut-later n p ms (suc k) (omega arith) ∙ far (suc k) (omega arith)
-    ]
+    go : (j : ℕ) → 1 ≤ j → j ≤ 64 → (t : Bool) → leb j a ≡ t → cutTo a p places s j ≡ (inSet s j && leb (placeIn places j) p)
+    go j l u true f = rw f
+    go j l u false f =
+        let d : s / 2 ^ (j - 1) ≡ 0 = digit-past s a (j - 1) (sym e ∙ z) (omega (arith, leb-false j a f)) in
+        rw (in-marks j l u, d)
 
 -- ---- none, and how many
 

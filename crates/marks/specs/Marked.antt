@@ -1,10 +1,11 @@
--- What the set of standing marks and their places have to do with the machine's marks.
+-- The set of standing marks and their places: what each call makes of them, and how they stand for the machine's marks.
 use Prim.Native.Nat.{ℕ, zero, suc, _+_, _-_, _*_, _/_, _%_, _^_, _≤_}
 use mathlib.Core.Path.{_≡_}
-use mathlib.Core.Bool.{Bool}
+use mathlib.Core.Bool.{Bool, not, _&&_}
 use mathlib.Core.List.{List}
+use lib.Dec.{leb}
 use lib.ListN.{length, getD}
-use Rattle.lists.specs.Choice.{_==_, bit}
+use Rattle.lists.specs.Choice.{_==_, _⇒_else_, bit, within}
 use Rattle.history.specs.Machine.{Standing, at, stands}
 
 -- the number of n binary digits that are b k, b (k + 1), .., the lowest first
@@ -12,9 +13,24 @@ unfoldable pub digits : ℕ → ℕ → (ℕ → Bool) → ℕ
 digits zero k b = 0
 digits (suc n) k b = bit (b k) + 2 * digits n (suc k) b
 
--- mark a is in the set: digit a − 1, counted from 0, is 1
+-- mark a is in the set: digit a − 1, counted from 0, is 1. Only 1 to 64 are marks.
 abbrev pub inSet : ℕ → ℕ → Bool
-inSet set a = set / 2 ^ (a - 1) % 2 == 1
+inSet set a = within 1 64 a && (set / 2 ^ (a - 1) % 2 == 1)
+
+-- the word of mark a; 0 where a is no mark
+abbrev pub placeIn : List ℕ → ℕ → ℕ
+placeIn places a = within 1 64 a ⇒ getD places (a - 1) 0 else 0
+
+-- the set with mark a, and without it
+abbrev pub withMark : ℕ → ℕ → ℕ
+withMark a set = (within 1 64 a && not (inSet set a)) ⇒ set + 2 ^ (a - 1) else set
+
+abbrev pub withoutMark : ℕ → ℕ → ℕ
+withoutMark a set = inSet set a ⇒ set - 2 ^ (a - 1) else set
+
+-- the marks of the set whose place is not above p
+abbrev pub cutSet : ℕ → List ℕ → ℕ → ℕ
+cutSet p places set = digits 64 1 (λ a. inSet set a && leb (placeIn places a) p)
 
 -- the standing marks as a set of 64 bits: digit k says whether mark k + 1 stands, and each that stands has its place
 pub record Marked (ms : ℕ → Standing) (set : ℕ) (places : List ℕ) : Type 0 where

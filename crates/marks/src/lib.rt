@@ -1,84 +1,110 @@
 // The standing marks: one 64-bit set, and the place of each.
 ghost use mathlib.Core.Path.{_≡_};
-ghost use mathlib.Core.Bool.{true, false};
+ghost use mathlib.Core.Bool.{true, false, _&&_};
 ghost use mathlib.Core.List.{List};
-ghost use Prim.Native.Nat.{ℕ, _-_, _≤_};
-ghost use lib.ListN.{length, getD, set as setAt};
-ghost use Rattle.history.specs.Machine.{Standing, gone, at, noMarks, marked, cut, cutMarks, standing, distance};
-ghost use Rattle.marks.specs.Marked.{inSet, Marked};
+ghost use Prim.Native.Nat.{ℕ, _-_, _%_, _≤_};
+ghost use lib.Count.{ones};
+ghost use lib.Dec.{ltb};
+ghost use lib.ListN.{length, set as setAt};
+ghost use Rattle.lists.specs.Choice.{_==_, _⇒_else_, within};
+ghost use Rattle.history.specs.Machine.{Standing, gone, at, noMarks, marked, cutMarks, standing, distance};
+ghost use Rattle.marks.specs.Marked.{inSet, placeIn, withMark, withoutMark, cutSet, Marked};
 
-// Does mark a stand?
+// Is it one of the marks 1 to 64?
+fn is_mark(a: u32) -> bool
+    ensures { λ r. ⌜ r ≡ within 1 64 a ⌝ }
+{
+    if a == 0 {
+        return false;
+    }
+    a <= 64
+}
+
+// Does mark a stand? No where a is not 1 to 64.
 pub fn stands(set: u64, a: u32) -> bool
-    requires { ⌜ (1 ≤ a) × (a ≤ 64) ⌝ }
     ensures { λ r. ⌜ r ≡ inSet set a ⌝ }
 {
+    if !is_mark(a) {
+        return false;
+    }
     let k = a - 1;
     (set >> k) % 2 == 1
 }
 
-// The place of mark a.
+// The place of mark a; 0 where a is not 1 to 64.
 pub fn place_of(places: &[u32; 64], a: u32) -> u32
-    requires { ⌜ (1 ≤ a) × (a ≤ 64) ⌝ }
-    ensures { λ r. ⌜ r ≡ getD (now (places .entry)) (a - 1) 0 ⌝ }
+    ensures { λ r. ⌜ r ≡ placeIn (now (places .entry)) a ⌝ }
 {
+    if !is_mark(a) {
+        return 0;
+    }
     let k = a - 1;
     places[k as usize]
 }
 
-// Kind 17: mark a, which does not stand, at place p.
+// Kind 17: mark a at place p. Where a is not 1 to 64, nothing changes.
 pub fn set_mark(set: u64, places: &mut [u32; 64], a: u32, p: u32) -> u64
-    requires { ⌜ (1 ≤ a) × (a ≤ 64) × (inSet set a ≡ false) ⌝ }
-    ensures { λ r. ⌜ ((ms : ℕ → Standing) → Marked ms set (now (places .entry))
-        → Marked (marked a (at p) ms) r (now (places .exit))) ⌝ }
-    ensures { λ r. ⌜ now (places .exit) ≡ setAt (now (places .entry)) (a - 1) p ⌝ }
+    ensures { λ r. ⌜ r ≡ withMark a set ⌝ }
+    ensures { λ r. ⌜ now (places .exit)
+        ≡ (within 1 64 a ⇒ setAt (now (places .entry)) (a - 1) p else now (places .entry)) ⌝ }
+    ensures { λ r. ⌜ ((ms : ℕ → Standing) → within 1 64 a ≡ true → inSet set a ≡ false
+        → Marked ms set (now (places .entry)) → Marked (marked a (at p) ms) r (now (places .exit))) ⌝ }
 {
+    if !is_mark(a) {
+        return set;
+    }
     let k = a - 1;
     places[k as usize] = p;
     set | (1u64 << k)
 }
 
-// Kind 18: mark a, which stands, goes.
+// Kind 18: mark a goes. Where it does not stand, nothing changes.
 pub fn drop_mark(set: u64, a: u32) -> u64
-    requires { ⌜ (1 ≤ a) × (a ≤ 64) × (inSet set a ≡ true) ⌝ }
-    ensures { λ r. ⌜ ((places : List ℕ) → (ms : ℕ → Standing) → Marked ms set places
+    ensures { λ r. ⌜ r ≡ withoutMark a set ⌝ }
+    ensures { λ r. ⌜ ((places : List ℕ) → (ms : ℕ → Standing) → inSet set a ≡ true → Marked ms set places
         → Marked (marked a gone ms) r places) ⌝ }
 {
+    if !stands(set, a) {
+        return set;
+    }
     let k = a - 1;
     set ^ (1u64 << k)
 }
 
-// Mark a, which has place q, goes where q is above p.
-fn cut_mark(set: u64, a: u32, q: u32, p: u32) -> u64
-    requires { ⌜ (1 ≤ a) × (a ≤ 64) ⌝ }
-    ensures { λ r. ⌜ ((places : List ℕ) → (ms : ℕ → Standing) → q ≡ getD places (a - 1) 0 → Marked ms set places
-        → Marked (marked a (cut p (ms a)) ms) r places) ⌝ }
+// Where the lowest digit of `left` says that mark a stands: it goes if its place is above p.
+fn cut_mark(set: u64, left: u64, places: &[u32; 64], a: u32, p: u32) -> u64
+    ensures { λ r. ⌜ r ≡ (left % 2 == 1 && ltb p (placeIn (now (places .entry)) a) ⇒ withoutMark a set else set) ⌝ }
 {
-    if p < q {
-        if stands(set, a) {
-            return drop_mark(set, a);
-        }
+    if left % 2 != 1 {
         return set;
     }
-    set
+    let q = place_of(places, a);
+    if q <= p {
+        return set;
+    }
+    drop_mark(set, a)
 }
 
-// A change at place p: the marks whose place is above p go.
+// A change at place p: the marks whose place is above p go. The marks above a, still to be looked at, are the digits of
+// `left`; only the places of standing marks are read.
 pub fn cut_marks(set: u64, places: &[u32; 64], p: u32) -> u64
-    ensures { λ r. ⌜ ((ms : ℕ → Standing) → Marked ms set (now (places .entry))
-        → Marked (cutMarks p ms) r (now (places .entry))) ⌝ }
+    ensures { λ r. ⌜ r ≡ cutSet p (now (places .entry)) set ⌝ }
+    ensures { λ r. ⌜ ((ms : ℕ → Standing) → Marked ms set (now (places .entry)) → Marked (cutMarks p ms) r (now (places .entry))) ⌝ }
 {
     let mut s = set;
+    let mut left = set;
     let mut a: u32 = 0;
-    while a < 64 {
-        let q = places[a as usize];
+    while left != 0 {
         a += 1;
-        s = cut_mark(s, a, q, p);
+        s = cut_mark(s, left, places, a, p);
+        left = left / 2;
     }
     s
 }
 
 // Kind 50: how many marks stand, the count of ones of the set.
 pub fn count_marks(set: u64) -> u32
+    ensures { λ r. ⌜ r ≡ ones set ⌝ }
     ensures { λ r. ⌜ ((places : List ℕ) → (ms : ℕ → Standing) → Marked ms set places → r ≡ standing ms) ⌝ }
 {
     u64::count_ones(set)
@@ -96,6 +122,7 @@ pub fn between(p: u32, q: u32) -> u32
 
 // No mark stands.
 pub fn no_marks() -> u64
+    ensures { λ r. ⌜ r ≡ 0 ⌝ }
     ensures { λ r. ⌜ ((places : List ℕ) → length places ≡ 64 → Marked noMarks r places) ⌝ }
 {
     0

@@ -131,10 +131,8 @@ module _ (et : List ℕ) (w : ℕ) (h : EIn et (w / 2)) where
 -- ---- for callers of the walk of `before`
 
 module _ (lane : Lane) (t : List ℕ) (valid : ValidLane lane) where
-  pub before-read : {e e′ : Ends} {r : Bool} (a b : ℕ) → e ≡ e′ → HeldAt lane t e′ a → ((l : List ℕ) → Held lane t e l → r ≡ before a b l) → r ≡ before a b (nodes lane t e′)
-  before-read {e} {e′} {r} a b q h f =
-      let k : Held lane t e (h .0) = rw q (h .1) in
-      f (h .0) k ∙ ap (before a b) (sym (held-nodes lane t e′ valid (h .0) (h .1)))
+  pub before-read : {e e′ : Ends} {r : Bool} (a b : ℕ) → e ≡ e′ → r ≡ before a b (nodes lane t e) → r ≡ before a b (nodes lane t e′)
+  before-read a b q f = f ∙ ap (λ (e : Ends). before a b (nodes lane t e)) q
 
   pub before-asks : {e e′ : Ends} (a : ℕ) → e ≡ e′ → HeldAt lane t e′ a → ValidLane lane × HeldAt lane t e a
   before-asks a q h = (valid, rw q h)

@@ -170,8 +170,8 @@ module _ (lane : Lane) (t : List ℕ) (e : Ends) (valid : ValidLane lane) (a : �
 
   module _ (b x : ℕ) (w : Walk (nodes lane t e) a b x) where
     -- the walk ends at 0
-    pub walk-end : x ≡ 0 → (l : List ℕ) → Held lane t e l → false ≡ before a b l
-    walk-end z l h = rw (← held-nodes lane t e valid l h) (go (rw z at (w .rest)))
+    pub walk-end : x ≡ 0 → false ≡ before a b (nodes lane t e)
+    walk-end z = go (rw z at (w .rest))
       where
         go : has b (suffix 0 (nodes lane t e)) ≡ before a b (nodes lane t e) → false ≡ before a b (nodes lane t e)
         go r = sym (ap (has b) (suffix-none 0 (nodes lane t e) (held .distinct .0))) ∙ r
@@ -191,8 +191,8 @@ module _ (lane : Lane) (t : List ℕ) (e : Ends) (valid : ValidLane lane) (a : �
       walk-here = held-inside lane t e (nodes lane t e) x held walk-has
 
       -- b is found
-      pub walk-found : x ≡ b → (l : List ℕ) → Held lane t e l → true ≡ before a b l
-      walk-found q l h = rw (← held-nodes lane t e valid l h) (rw (eq-eqb x b q) at walk-rest)
+      pub walk-found : x ≡ b → true ≡ before a b (nodes lane t e)
+      walk-found q = rw (eq-eqb x b q) at walk-rest
 
       -- or the walk goes on, with less of the list before it
       module _ (y : ℕ) (q : y ≡ linkOf nxt lane t e x) where

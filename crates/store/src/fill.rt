@@ -68,7 +68,7 @@ fn word(head: Head, vt: &mut [u32], et: &mut [u32], w: u32)
     attach(head, vt, et, v, p, w);
 }
 
-// The vertices, into tables that hold nothing.
+// The vertices, into tables that hold nothing. Which words of the vertex table hold them is left open.
 pub fn vertices(head: Head, words: &[u32], vt: &mut [u32], et: &[u32]) -> Head
     requires { ⌜ CanLoad (now words) (now vt) (now et) × Core (st head (now vt) (now et)) [] [] ⌝ }
     ensures { λ r. ⌜ Core (st r (now (vt .exit)) (now (et .entry)))
@@ -84,7 +84,7 @@ pub fn vertices(head: Head, words: &[u32], vt: &mut [u32], et: &[u32]) -> Head
     h
 }
 
-// The edges, behind the vertices.
+// The edges, behind the vertices. Which words of the edge table hold them is left open.
 pub fn edges(head: Head, words: &[u32], vt: &[u32], et: &mut [u32]) -> Head
     requires { ⌜ CanLoad (now words) (now vt) (now et)
         × Core (st head (now vt) (now et)) (map withoutList (loadOf (now words) .vseq)) [] ⌝ }
@@ -102,6 +102,7 @@ pub fn edges(head: Head, words: &[u32], vt: &[u32], et: &mut [u32]) -> Head
 }
 
 // The lists, behind the edges: the words of a list stand in its order, and each is seen from its vertex.
+// Which words of the two tables hold them is left open.
 pub fn lists(head: Head, words: &[u32], vt: &mut [u32], et: &mut [u32])
     requires { ⌜ CanLoad (now words) (now vt) (now et)
         × Core (st head (now vt) (now et)) (map withoutList (loadOf (now words) .vseq)) (loadOf (now words) .eseq) ⌝ }

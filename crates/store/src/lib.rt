@@ -27,7 +27,8 @@ pub fn save(head: Head, vt: &[u32], et: &[u32], out: &mut [u32]) -> usize
     write::lists(head, vt, et, out, b)
 }
 
-// Fills the tables, whatever they held, from words that `image::check` has found sound.
+// Fills the tables, whatever they held, from words that `image::check` has found sound. Which words hold the graph
+// is left open, and so are the words of rows that hold nothing.
 pub fn load(words: &[u32], vt: &mut [u32], et: &mut [u32]) -> Head
     requires { ⌜ CanLoad (now words) (now vt) (now et) ⌝ }
     ensures { λ r. ⌜ Holds (st r (now (vt .exit)) (now (et .exit))) (loadOf (now (words .entry))) ⌝ }

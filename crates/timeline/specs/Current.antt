@@ -14,3 +14,7 @@ afterStep p h rows = record {
 -- at a place with so many rows before it: the steps stay
 abbrev pub atPlace : Position → Head → ℕ → ℕ → Current
 atPlace p h place used = record { head = h; position = record { place = place; steps = p .steps; used = used } }
+
+-- before the first step
+abbrev pub noSteps : Position
+noSteps = record { place = 0; steps = 0; used = 0 }

@@ -16,6 +16,7 @@ ghost use Rattle.journal.specs.Rows.{rowAt};
 ghost use Rattle.tables.specs.Tables.{State, st};
 ghost use Rattle.tables.specs.Capacities.{Sized};
 ghost use Rattle.tables.specs.Holds.{Holds};
+ghost use Rattle.timeline.specs.Current.{noSteps};
 ghost use Rattle.timeline.specs.JournalRows.{JournalRows, Toward, Ready, Added};
 ghost use Rattle.timeline.specs.Steps.{Journal, Behind};
 
@@ -143,7 +144,7 @@ fn placed_at(x: Current, vt: &mut [u32], et: &mut [u32], t: &[u32], place: u32) 
     lent::moved(x, h, place, to)
 }
 
-// Kind 19: one step back.
+// Kind 19: one step back. Which words of the tables hold the graph then is left open.
 pub fn undo(x: Current, vt: &mut [u32], et: &mut [u32], t: &[u32]) -> Current
     requires { ⌜ 1 ≤ x .position .place ⌝ }
     requires { ⌜ ((b : Bounds) × (l : Timeline)
@@ -156,7 +157,7 @@ pub fn undo(x: Current, vt: &mut [u32], et: &mut [u32], t: &[u32]) -> Current
     placed_at(x, vt, et, t, x.position.place - 1)
 }
 
-// Kind 20: one step on.
+// Kind 20: one step on. Which words of the tables hold the graph then is left open.
 pub fn redo(x: Current, vt: &mut [u32], et: &mut [u32], t: &[u32]) -> Current
     requires { ⌜ x .position .place < x .position .steps ⌝ }
     requires { ⌜ ((b : Bounds) × (l : Timeline)
@@ -169,7 +170,8 @@ pub fn redo(x: Current, vt: &mut [u32], et: &mut [u32], t: &[u32]) -> Current
     placed_at(x, vt, et, t, x.position.place + 1)
 }
 
-// Writes an edit down as row i and carries that row out.
+// Writes an edit down as row i and carries that row out. The journal is given exactly; the words of the tables
+// are left open, but for the graph that they hold.
 pub fn add_row(
     head: Head,
     vt: &mut [u32],
@@ -204,7 +206,8 @@ fn steps_between(p: u32, q: u32) -> u32
     q - p
 }
 
-// To a place: the steps between are undone or redone; how many.
+// To a place: the steps between are undone or redone; how many. Which words of the tables hold the graph
+// there is left open.
 pub fn go_to(x: Current, vt: &mut [u32], et: &mut [u32], t: &[u32], place: u32) -> MovedTo
     requires { ⌜ place ≤ x .position .steps ⌝ }
     requires { ⌜ ((b : Bounds) × (l : Timeline)
@@ -222,8 +225,8 @@ pub fn go_to(x: Current, vt: &mut [u32], et: &mut [u32], t: &[u32], place: u32) 
 
 // Kind 22: the present graph is the start.
 pub fn commit(pos: Position) -> Position
-    ensures { λ r. ⌜ ((b : Bounds) → (s : State) → (t : List ℕ) → (l : Timeline) → Journal b pos s t l
-        → Journal b r s t (begun (current l))) ⌝ }
+    ensures { λ r. ⌜ r ≡ noSteps ⌝ }
+    ensures { λ r. ⌜ ((b : Bounds) → (s : State) → (t : List ℕ) → (l : Timeline) → Journal b pos s t l → Journal b r s t (begun (current l))) ⌝ }
 {
     Position {
         place: 0,
@@ -232,19 +235,21 @@ pub fn commit(pos: Position) -> Position
     }
 }
 
-// Kind 51: free changes, of a capacity.
+// Kind 51: free changes, of a capacity; 0 where more rows are used than it has.
 pub fn free_changes(pos: Position, capacity: u32) -> u32
-    requires { ⌜ pos .used ≤ capacity ⌝ }
-    ensures { λ r. ⌜ ((b : Bounds) → (s : State) → (t : List ℕ) → (l : Timeline) → Journal b pos s t l
-        → r ≡ freeOf capacity l) ⌝ }
+    ensures { λ r. ⌜ r ≡ capacity - pos .used ⌝ }
+    ensures { λ r. ⌜ ((b : Bounds) → (s : State) → (t : List ℕ) → (l : Timeline) → Journal b pos s t l → r ≡ freeOf capacity l) ⌝ }
 {
+    if capacity < pos.used {
+        return 0;
+    }
     capacity - pos.used
 }
 
 // No step yet.
 pub fn begin() -> Position
-    ensures { λ r. ⌜ ((b : Bounds) → (s : State) → (t : List ℕ) → (g : Graph) → Sized b s → Within b g → Holds s g
-        → length t < 2 ^ 32 → Journal b r s t (begun g)) ⌝ }
+    ensures { λ r. ⌜ r ≡ noSteps ⌝ }
+    ensures { λ r. ⌜ ((b : Bounds) → (s : State) → (t : List ℕ) → (g : Graph) → Sized b s → Within b g → Holds s g → length t < 2 ^ 32 → Journal b r s t (begun g)) ⌝ }
 {
     Position {
         place: 0,

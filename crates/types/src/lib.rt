@@ -8,7 +8,7 @@ ghost use lib.ListN.{length};
 ghost use Rattle.lists.specs.Choice.{_==_, _⇒_else_};
 ghost use Rattle.types.specs.Types.{below, belowBy};
 ghost use Rattle.types.specs.Rows.{goodRows, rowFits, rowsCode, codeOf};
-ghost use Rattle.types.specs.Closure.{wordsOf, closureWords};
+ghost use Rattle.types.specs.Closure.{wordsOf, closureWords, bitOf};
 
 // `Good` is code 0, `Bad` is code 104.
 pub enum RowsVerdict {
@@ -112,8 +112,8 @@ pub fn closure(rows: &[u64]) -> [u64; 64]
 
 // Is s below t, by the words of the closure? False where one of them is no type.
 pub fn is_below(words: &[u64; 64], s: u32, t: u32) -> bool
-    ensures { λ r. ⌜ ((rows : List ℕ) → goodRows rows ≡ true → now (words .entry) ≡ closureWords rows
-        → r ≡ below rows s t) ⌝ }
+    ensures { λ r. ⌜ ((rows : List ℕ) → goodRows rows ≡ true → now (words .entry) ≡ closureWords rows → r ≡ below rows s t) ⌝ }
+    ensures { λ r. ⌜ r ≡ bitOf (now (words .entry)) s t ⌝ }
 {
     if 63 < s {
         return false;

@@ -22,8 +22,8 @@ use Rattle.history.proofs.Timelines.{length-cut}
 use Rattle.history.specs.Machine.{stepOf}
 use Rattle.machine.specs.Rules.{steps, nothing, effected, Deed, deed, changeDeed, changeRule, historyRule}
 use Rattle.commands.specs.declared.HistoryCall.the-variants.{SetMark, DropMark, Undo, Redo, GoTo, Commit, Between, Standing as StandingMarks, Free}
-use Rattle.marks.specs.Marked.{Marked}
-use Rattle.marks.proofs.MarkLaws.{marked-same, marked-other, in-set, place-is}
+use Rattle.marks.specs.Marked.{placeIn, Marked}
+use Rattle.marks.proofs.MarkLaws.{marked-same, marked-other, in-marks, in-set, place-is}
 use Rattle.journal.specs.Written.{Written}
 use Rattle.queries.specs.Plans.{planS, OneEdit}
 use Rattle.queries.proofs.PlanLaws.{one-edit}
@@ -188,17 +188,17 @@ module _ (b : Bounds) (x : Version) (vt et t places : List ℕ) (m : Machine) (h
       mark-stands : stands (m .marks a) ≡ true
       mark-stands = sym (in-set (m .marks) (x .set) places (h .marks) a (named .low) (named .high)) ∙ named .stands
 
-      pub mark-place : (other : ℕ) → getD places (a - 1) 0 ≡ placeOr other (m .marks a)
+      pub mark-place : (other : ℕ) → placeIn places a ≡ placeOr other (m .marks a)
       mark-place other = place-is (m .marks) (x .set) places (h .marks) a (named .low) (named .high) other mark-stands
 
-      pub mark-inside : getD places (a - 1) 0 ≤ x .current .position .steps
-      mark-inside = go (m .marks a) refl mark-stands
+      pub mark-inside : placeIn places a ≤ x .current .position .steps
+      mark-inside = rw (in-marks a (named .low) (named .high)) (go (m .marks a) refl mark-stands)
         where
           go : (s : Standing) → m .marks a ≡ s → stands s ≡ true → getD places (a - 1) 0 ≤ x .current .position .steps
           go gone f g = absurd (let z : _≡_ {A = ℕ} 0 1 = cc in omega arith)
           go (at q) f g = omega (arith, h .inside a q f, h .marks .known a q f .2, h .journal .steps)
 
-      pub go-done : (q n : ℕ) → q ≡ getD places (a - 1) 0 → n ≡ distance (x .current .position .place) q → (x′ : Version) (vt′ et′ : List ℕ) → x′ .set ≡ x .set
+      pub go-done : (q n : ℕ) → q ≡ placeIn places a → n ≡ distance (x .current .position .place) q → (x′ : Version) (vt′ et′ : List ℕ) → x′ .set ≡ x .set
           → Journal b (x′ .current .position) (st (x′ .current .head) vt′ et′) t (placed q (m .line)) → Follows (historyRule (capacityOf t) (GoTo a)) m b x′ 0 n vt′ et′ t places
       go-done q n w d x′ vt′ et′ s j =
           let p : q ≡ placeOr (m .line .place) (m .marks a) = w ∙ mark-place (m .line .place) in
@@ -244,7 +244,7 @@ module _ (b : Bounds) (x : Version) (vt et t places : List ℕ) (m : Machine) (h
     pub between-refused : code ≢ 0 → Follows (historyRule (capacityOf t) (Between a c)) m b x code 0 vt et t places
     between-refused n = refused (historyRule (capacityOf t) (Between a c)) m b x vt et t places code (e ∙ both-is m (x .set) places (h .marks) a c) n h
 
-    pub between-done : code ≡ 0 → (p q n : ℕ) → p ≡ getD places (a - 1) 0 → q ≡ getD places (c - 1) 0 → n ≡ distance p q →
+    pub between-done : code ≡ 0 → (p q n : ℕ) → p ≡ placeIn places a → q ≡ placeIn places c → n ≡ distance p q →
         Follows (historyRule (capacityOf t) (Between a c)) m b x 0 n vt et t places
     between-done z p q n u v w =
         let s = both-none (x .set) a c (sym e ∙ z) in

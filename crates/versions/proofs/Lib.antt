@@ -2,3 +2,4 @@ pub mod Codes
 pub mod Following
 pub mod Calls
 pub mod Present
+pub mod OutcomeLaws

@@ -6,6 +6,7 @@ use timeline::Current;
 use timeline::Position;
 ghost use mathlib.Core.Path.{_≡_};
 ghost use mathlib.Core.Bool.{true};
+ghost use mathlib.Core.Logic.{_≢_};
 ghost use mathlib.Core.List.{List};
 ghost use Prim.Native.Nat.{ℕ, _+_, _^_, _≤_, _<_};
 ghost use lib.ListN.{length};
@@ -23,6 +24,17 @@ ghost use Rattle.tables.specs.Tables.{st};
 ghost use Rattle.tables.specs.Holds.{Holds};
 ghost use Rattle.tables.specs.Capacities.{Sized};
 ghost use Rattle.versions.specs.Represents.{capacityOf, Represents, Follows, namedCode, freshCode, bothCode};
+ghost use Rattle.versions.specs.Outcomes.{
+  begunAt,
+  markSet,
+  placesSet,
+  markDropped,
+  committed,
+  betweenMarks,
+  marksStanding,
+  changesFree,
+  Leaves,
+};
 
 // The record that every change updates, and the set of standing marks.
 pub struct Version {
@@ -69,9 +81,8 @@ pub fn stay(x: Version, code: u32, number: u32) -> Done
 
 // No step yet, and no mark.
 pub fn start(head: Head) -> Version
-    ensures { λ r. ⌜ ((b : Bounds) → (vt et t places : List ℕ) → (g : Graph) → Sized b (st head vt et) → Within b g
-        → Holds (st head vt et) g → length t < 2 ^ 32 → length places ≡ 64
-        → Represents b r vt et t places (fresh g)) ⌝ }
+    ensures { λ r. ⌜ r ≡ begunAt head ⌝ }
+    ensures { λ r. ⌜ ((b : Bounds) → (vt et t places : List ℕ) → (g : Graph) → Sized b (st head vt et) → Within b g → Holds (st head vt et) g → length t < 2 ^ 32 → length places ≡ 64 → Represents b r vt et t places (fresh g)) ⌝ }
 {
     let position = timeline::begin();
     let set = marks::no_marks();
@@ -93,7 +104,8 @@ fn cut(set: u64, position: Position, places: &[u32; 64]) -> u64
     marks::cut_marks(set, places, position.place)
 }
 
-// Kind 2, where its vertex is there: a row for each edge at it, and one for the vertex. It always alters the graph.
+// Kind 2, where its vertex is there: a row for each edge at it, and one for the vertex. It always alters the graph. The
+// words of tables and journal are left open, but for the machine that they stand for.
 pub fn delete_vertex(
     x: Version,
     vt: &mut [u32],
@@ -148,14 +160,12 @@ pub fn made(x: Version, places: &[u32; 64], head: Head, cost: u32) -> Done
     }
 }
 
-// Kind 19: one step back.
+// Kind 19: one step back. Refused, it leaves every word; else those of the tables are left open, but for the
+// graph that they hold.
 fn undo(x: Version, vt: &mut [u32], et: &mut [u32], t: &[u32]) -> Done
-    requires { ⌜ ((b : Bounds) × (places : List ℕ) × (m : Machine)
-        × Represents b x (now vt) (now et) (now t) places m) ⌝ }
-    ensures { λ r. ⌜ ((b : Bounds) → (places : List ℕ) → (m : Machine)
-        → Represents b x (now (vt .entry)) (now (et .entry)) (now (t .entry)) places m
-        → Follows (historyRule (capacityOf (now (t .entry))) call.Undo) m b (r .version) (r .code) (r .number)
-        (now (vt .exit)) (now (et .exit)) (now (t .entry)) places) ⌝ }
+    requires { ⌜ ((b : Bounds) × (places : List ℕ) × (m : Machine) × Represents b x (now vt) (now et) (now t) places m) ⌝ }
+    ensures { λ r. ⌜ Leaves x (now (vt .entry)) (now (et .entry)) r (now (vt .exit)) (now (et .exit)) ⌝ }
+    ensures { λ r. ⌜ ((b : Bounds) → (places : List ℕ) → (m : Machine) → Represents b x (now (vt .entry)) (now (et .entry)) (now (t .entry)) places m → Follows (historyRule (capacityOf (now (t .entry))) call.Undo) m b (r .version) (r .code) (r .number) (now (vt .exit)) (now (et .exit)) (now (t .entry)) places) ⌝ }
 {
     let position = x.current.position;
     if position.place == 0 {
@@ -172,14 +182,11 @@ fn undo(x: Version, vt: &mut [u32], et: &mut [u32], t: &[u32]) -> Done
     }
 }
 
-// Kind 20: one step on.
+// Kind 20: one step on. Words as in `undo`.
 fn redo(x: Version, vt: &mut [u32], et: &mut [u32], t: &[u32]) -> Done
-    requires { ⌜ ((b : Bounds) × (places : List ℕ) × (m : Machine)
-        × Represents b x (now vt) (now et) (now t) places m) ⌝ }
-    ensures { λ r. ⌜ ((b : Bounds) → (places : List ℕ) → (m : Machine)
-        → Represents b x (now (vt .entry)) (now (et .entry)) (now (t .entry)) places m
-        → Follows (historyRule (capacityOf (now (t .entry))) call.Redo) m b (r .version) (r .code) (r .number)
-        (now (vt .exit)) (now (et .exit)) (now (t .entry)) places) ⌝ }
+    requires { ⌜ ((b : Bounds) × (places : List ℕ) × (m : Machine) × Represents b x (now vt) (now et) (now t) places m) ⌝ }
+    ensures { λ r. ⌜ Leaves x (now (vt .entry)) (now (et .entry)) r (now (vt .exit)) (now (et .exit)) ⌝ }
+    ensures { λ r. ⌜ ((b : Bounds) → (places : List ℕ) → (m : Machine) → Represents b x (now (vt .entry)) (now (et .entry)) (now (t .entry)) places m → Follows (historyRule (capacityOf (now (t .entry))) call.Redo) m b (r .version) (r .code) (r .number) (now (vt .exit)) (now (et .exit)) (now (t .entry)) places) ⌝ }
 {
     let position = x.current.position;
     if position.place == position.steps {
@@ -244,7 +251,7 @@ fn both(c: u32, d: u32) -> u32
     d
 }
 
-// Kind 21: to the place of mark a.
+// Kind 21: to the place of mark a. Words as in `undo`.
 fn go_to_mark(
     x: Version,
     vt: &mut [u32],
@@ -254,10 +261,8 @@ fn go_to_mark(
     a: u32,
 ) -> Done
     requires { ⌜ ((b : Bounds) × (m : Machine) × Represents b x (now vt) (now et) (now t) (now places) m) ⌝ }
-    ensures { λ r. ⌜ ((b : Bounds) → (m : Machine)
-        → Represents b x (now (vt .entry)) (now (et .entry)) (now (t .entry)) (now (places .entry)) m
-        → Follows (historyRule (capacityOf (now (t .entry))) (call.GoTo a)) m b (r .version) (r .code) (r .number)
-        (now (vt .exit)) (now (et .exit)) (now (t .entry)) (now (places .entry))) ⌝ }
+    ensures { λ r. ⌜ Leaves x (now (vt .entry)) (now (et .entry)) r (now (vt .exit)) (now (et .exit)) ⌝ }
+    ensures { λ r. ⌜ ((b : Bounds) → (m : Machine) → Represents b x (now (vt .entry)) (now (et .entry)) (now (t .entry)) (now (places .entry)) m → Follows (historyRule (capacityOf (now (t .entry))) (call.GoTo a)) m b (r .version) (r .code) (r .number) (now (vt .exit)) (now (et .exit)) (now (t .entry)) (now (places .entry))) ⌝ }
 {
     let code = named(x.set, a);
     if code != 0 {
@@ -278,9 +283,9 @@ fn go_to_mark(
 
 // Kind 17: mark a at the present place.
 fn set_mark(x: Version, places: &mut [u32; 64], a: u32) -> Done
-    ensures { λ r. ⌜ ((b : Bounds) → (vt et t : List ℕ) → (m : Machine) → Represents b x vt et t (now (places .entry)) m
-        → Follows (historyRule (capacityOf t) (call.SetMark a)) m b (r .version) (r .code) (r .number) vt et t
-        (now (places .exit))) ⌝ }
+    ensures { λ r. ⌜ r ≡ markSet x a ⌝ }
+    ensures { λ r. ⌜ now (places .exit) ≡ placesSet x a (now (places .entry)) ⌝ }
+    ensures { λ r. ⌜ ((b : Bounds) → (vt et t : List ℕ) → (m : Machine) → Represents b x vt et t (now (places .entry)) m → Follows (historyRule (capacityOf t) (call.SetMark a)) m b (r .version) (r .code) (r .number) vt et t (now (places .exit))) ⌝ }
 {
     let current = x.current;
     let code = unnamed(x.set, a);
@@ -297,9 +302,8 @@ fn set_mark(x: Version, places: &mut [u32; 64], a: u32) -> Done
 
 // Kind 18: mark a goes.
 fn drop_mark(x: Version, a: u32) -> Done
-    ensures { λ r. ⌜ ((b : Bounds) → (vt et t places : List ℕ) → (m : Machine) → Represents b x vt et t places m
-        → Follows (historyRule (capacityOf t) (call.DropMark a)) m b (r .version) (r .code)
-        (r .number) vt et t places) ⌝ }
+    ensures { λ r. ⌜ r ≡ markDropped x a ⌝ }
+    ensures { λ r. ⌜ ((b : Bounds) → (vt et t places : List ℕ) → (m : Machine) → Represents b x vt et t places m → Follows (historyRule (capacityOf t) (call.DropMark a)) m b (r .version) (r .code) (r .number) vt et t places) ⌝ }
 {
     let current = x.current;
     let code = named(x.set, a);
@@ -316,8 +320,8 @@ fn drop_mark(x: Version, a: u32) -> Done
 
 // Kind 22: the present graph is the start, and no mark stands.
 fn commit(x: Version) -> Done
-    ensures { λ r. ⌜ ((b : Bounds) → (vt et t places : List ℕ) → (m : Machine) → Represents b x vt et t places m
-        → Follows (historyRule (capacityOf t) call.Commit) m b (r .version) (r .code) (r .number) vt et t places) ⌝ }
+    ensures { λ r. ⌜ r ≡ committed x ⌝ }
+    ensures { λ r. ⌜ ((b : Bounds) → (vt et t places : List ℕ) → (m : Machine) → Represents b x vt et t places m → Follows (historyRule (capacityOf t) call.Commit) m b (r .version) (r .code) (r .number) vt et t places) ⌝ }
 {
     let head = x.current.head;
     let old = x.current.position;
@@ -335,10 +339,8 @@ fn commit(x: Version) -> Done
 
 // Kind 49: the steps between marks a and b.
 fn between(x: Version, places: &[u32; 64], a: u32, b: u32) -> Done
-    ensures { λ r. ⌜ ((bounds : Bounds) → (vt et t : List ℕ) → (m : Machine)
-        → Represents bounds x vt et t (now (places .entry)) m
-        → Follows (historyRule (capacityOf t) (call.Between a b)) m bounds (r .version) (r .code) (r .number) vt et t
-        (now (places .entry))) ⌝ }
+    ensures { λ r. ⌜ r ≡ betweenMarks x (now (places .entry)) a b ⌝ }
+    ensures { λ r. ⌜ ((bounds : Bounds) → (vt et t : List ℕ) → (m : Machine) → Represents bounds x vt et t (now (places .entry)) m → Follows (historyRule (capacityOf t) (call.Between a b)) m bounds (r .version) (r .code) (r .number) vt et t (now (places .entry))) ⌝ }
 {
     let c = named(x.set, a);
     let d = named(x.set, b);
@@ -354,8 +356,8 @@ fn between(x: Version, places: &[u32; 64], a: u32, b: u32) -> Done
 
 // Kind 50: how many marks stand.
 fn standing(x: Version) -> Done
-    ensures { λ r. ⌜ ((b : Bounds) → (vt et t places : List ℕ) → (m : Machine) → Represents b x vt et t places m
-        → Follows (historyRule (capacityOf t) call.Standing) m b (r .version) (r .code) (r .number) vt et t places) ⌝ }
+    ensures { λ r. ⌜ r ≡ marksStanding x ⌝ }
+    ensures { λ r. ⌜ ((b : Bounds) → (vt et t places : List ℕ) → (m : Machine) → Represents b x vt et t places m → Follows (historyRule (capacityOf t) call.Standing) m b (r .version) (r .code) (r .number) vt et t places) ⌝ }
 {
     let number = marks::count_marks(x.set);
     stay(x, 0, number)
@@ -364,17 +366,16 @@ fn standing(x: Version) -> Done
 // Kind 51: free changes.
 fn free_changes(x: Version, t: &[u32]) -> Done
     requires { ⌜ ((b : Bounds) × (vt et places : List ℕ) × (m : Machine) × Represents b x vt et (now t) places m) ⌝ }
-    ensures { λ r. ⌜ ((b : Bounds) → (vt et places : List ℕ) → (m : Machine)
-        → Represents b x vt et (now (t .entry)) places m
-        → Follows (historyRule (capacityOf (now (t .entry))) call.Free) m b (r .version) (r .code) (r .number) vt et
-        (now (t .entry)) places) ⌝ }
+    ensures { λ r. ⌜ r ≡ changesFree x (now (t .entry)) ⌝ }
+    ensures { λ r. ⌜ ((b : Bounds) → (vt et places : List ℕ) → (m : Machine) → Represents b x vt et (now (t .entry)) places m → Follows (historyRule (capacityOf (now (t .entry))) call.Free) m b (r .version) (r .code) (r .number) vt et (now (t .entry)) places) ⌝ }
 {
     let capacity = (t.len() / 12) as u32;
     let number = timeline::free_changes(x.current.position, capacity);
     stay(x, 0, number)
 }
 
-// Any history call.
+// Any history call. A refused one leaves every lent word; else those of the tables and places are left open, but for the
+// machine that they stand for.
 pub fn recall(
     x: Version,
     vt: &mut [u32],
@@ -384,10 +385,9 @@ pub fn recall(
     call: HistoryCall,
 ) -> Done
     requires { ⌜ ((b : Bounds) × (m : Machine) × Represents b x (now vt) (now et) (now t) (now places) m) ⌝ }
-    ensures { λ r. ⌜ ((b : Bounds) → (m : Machine)
-        → Represents b x (now (vt .entry)) (now (et .entry)) (now (t .entry)) (now (places .entry)) m
-        → Follows (historyRule (capacityOf (now (t .entry))) call) m b (r .version) (r .code) (r .number)
-        (now (vt .exit)) (now (et .exit)) (now (t .entry)) (now (places .exit))) ⌝ }
+    ensures { λ r. ⌜ Leaves x (now (vt .entry)) (now (et .entry)) r (now (vt .exit)) (now (et .exit)) ⌝ }
+    ensures { λ r. ⌜ (r .code ≢ 0 → now (places .exit) ≡ now (places .entry)) ⌝ }
+    ensures { λ r. ⌜ ((b : Bounds) → (m : Machine) → Represents b x (now (vt .entry)) (now (et .entry)) (now (t .entry)) (now (places .entry)) m → Follows (historyRule (capacityOf (now (t .entry))) call) m b (r .version) (r .code) (r .number) (now (vt .exit)) (now (et .exit)) (now (t .entry)) (now (places .exit))) ⌝ }
 {
     match call {
         HistoryCall::SetMark(a) => set_mark(x, places, a),

@@ -18,7 +18,7 @@ as-number-requires : tie.Need-as-number-requires
 as-number-requires c κs = search needs
 
 returns-3 : tie.Need-returns-3
-returns-3 c = λ g rows e i. record { coded = rw (lt-leb _ _ (c .before .before .before .if1 .left), lt-leb _ _ (c .before .before .if2 .left)); numbered = rw (lt-leb _ _ (c .before .before .before .if1 .left), lt-leb _ _ (c .before .before .if2 .left)) (c .as-number .ensures ∙ ap bit (c .before .is-below .ensures rows e i)) }
+returns-3 c = λ g rows e i. record { coded = rw (lt-leb _ _ (c .before .before .before .if1 .left), lt-leb _ _ (c .before .before .if2 .left)); numbered = rw (lt-leb _ _ (c .before .before .before .if1 .left), lt-leb _ _ (c .before .before .if2 .left)) (c .as-number .ensures ∙ ap bit (c .before .is-below .ensures .0 rows e i)) }
 
 pub below-of-spec : {M : Type 1} → statement M
 below-of-spec =

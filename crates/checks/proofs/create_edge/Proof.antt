@@ -27,13 +27,13 @@ vertices-code-requires : tie.Need-vertices-code-requires
 vertices-code-requires c κs = search needs
 
 returns-3 : tie.Need-returns-3
-returns-3 c = λ g h. rw (passes (not (within 1 (length (c .before .before .before .before .before .before .before .before .args .et .now) / 12) (c .before .before .before .before .before .before .before .before .args .n))) 2 _ (hasEdge g (c .before .before .before .before .before .before .before .before .args .n) ⇒ 3 else (lacksVertex g (c .before .before .before .before .before .before .before .before .args .x) || lacksVertex g (c .before .before .before .before .before .before .before .before .args .y)) ⇒ 4 else leb (c .before .before .before .before .before .before .before .before .args .types) (c .before .before .before .before .before .before .before .before .args .t) ⇒ 6 else 0) (c .before .before .before .before .before .number-code .ensures) (omega arith) (c .before .before .before .before .if1 .left), passes (hasEdge g (c .before .before .before .before .before .before .before .before .args .n)) 3 _ ((lacksVertex g (c .before .before .before .before .before .before .before .before .args .x) || lacksVertex g (c .before .before .before .before .before .before .before .before .args .y)) ⇒ 4 else leb (c .before .before .before .before .before .before .before .before .args .types) (c .before .before .before .before .before .before .before .before .args .t) ⇒ 6 else 0) (c .before .before .before .edge-used .ensures g (_, h)) (omega arith) (c .before .before .if2 .left)) (stops ((lacksVertex g (c .before .before .before .before .before .before .before .before .args .x) || lacksVertex g (c .before .before .before .before .before .before .before .before .args .y))) 4 _ (leb (c .before .before .before .before .before .before .before .before .args .types) (c .before .before .before .before .before .before .before .before .args .t) ⇒ 6 else 0) (c .before .vertices-code .ensures g (_, h)) (c .if3 .taken))
+returns-3 c = λ g h. rw (passes (not (within 1 (length (c .before .before .before .before .before .before .before .before .args .et .now) / 12) (c .before .before .before .before .before .before .before .before .args .n))) 2 _ (hasEdge g (c .before .before .before .before .before .before .before .before .args .n) ⇒ 3 else (lacksVertex g (c .before .before .before .before .before .before .before .before .args .x) || lacksVertex g (c .before .before .before .before .before .before .before .before .args .y)) ⇒ 4 else leb (c .before .before .before .before .before .before .before .before .args .types) (c .before .before .before .before .before .before .before .before .args .t) ⇒ 6 else 0) (c .before .before .before .before .before .number-code .ensures) (omega arith) (c .before .before .before .before .if1 .left), passes (hasEdge g (c .before .before .before .before .before .before .before .before .args .n)) 3 _ ((lacksVertex g (c .before .before .before .before .before .before .before .before .args .x) || lacksVertex g (c .before .before .before .before .before .before .before .before .args .y)) ⇒ 4 else leb (c .before .before .before .before .before .before .before .before .args .types) (c .before .before .before .before .before .before .before .before .args .t) ⇒ 6 else 0) (c .before .before .before .edge-used .ensures g (_, h)) (omega arith) (c .before .before .if2 .left)) (stops ((lacksVertex g (c .before .before .before .before .before .before .before .before .args .x) || lacksVertex g (c .before .before .before .before .before .before .before .before .args .y))) 4 _ (leb (c .before .before .before .before .before .before .before .before .args .types) (c .before .before .before .before .before .before .before .before .args .t) ⇒ 6 else 0) (c .before .vertices-code .ensures .0 g (_, h)) (c .if3 .taken))
 
 type-code-requires : tie.Need-type-code-requires
 type-code-requires c κs = search needs
 
 returns-4 : tie.Need-returns-4
-returns-4 c = λ g h. rw (passes (not (within 1 (length (c .before .before .before .before .before .before .before .before .before .args .et .now) / 12) (c .before .before .before .before .before .before .before .before .before .args .n))) 2 _ (hasEdge g (c .before .before .before .before .before .before .before .before .before .args .n) ⇒ 3 else (lacksVertex g (c .before .before .before .before .before .before .before .before .before .args .x) || lacksVertex g (c .before .before .before .before .before .before .before .before .before .args .y)) ⇒ 4 else leb (c .before .before .before .before .before .before .before .before .before .args .types) (c .before .before .before .before .before .before .before .before .before .args .t) ⇒ 6 else 0) (c .before .before .before .before .before .before .number-code .ensures) (omega arith) (c .before .before .before .before .before .if1 .left), passes (hasEdge g (c .before .before .before .before .before .before .before .before .before .args .n)) 3 _ ((lacksVertex g (c .before .before .before .before .before .before .before .before .before .args .x) || lacksVertex g (c .before .before .before .before .before .before .before .before .before .args .y)) ⇒ 4 else leb (c .before .before .before .before .before .before .before .before .before .args .types) (c .before .before .before .before .before .before .before .before .before .args .t) ⇒ 6 else 0) (c .before .before .before .before .edge-used .ensures g (_, h)) (omega arith) (c .before .before .before .if2 .left), passes ((lacksVertex g (c .before .before .before .before .before .before .before .before .before .args .x) || lacksVertex g (c .before .before .before .before .before .before .before .before .before .args .y))) 4 _ (leb (c .before .before .before .before .before .before .before .before .before .args .types) (c .before .before .before .before .before .before .before .before .before .args .t) ⇒ 6 else 0) (c .before .before .vertices-code .ensures g (_, h)) (omega arith) (c .before .if3 .left)) (c .type-code .ensures)
+returns-4 c = λ g h. rw (passes (not (within 1 (length (c .before .before .before .before .before .before .before .before .before .args .et .now) / 12) (c .before .before .before .before .before .before .before .before .before .args .n))) 2 _ (hasEdge g (c .before .before .before .before .before .before .before .before .before .args .n) ⇒ 3 else (lacksVertex g (c .before .before .before .before .before .before .before .before .before .args .x) || lacksVertex g (c .before .before .before .before .before .before .before .before .before .args .y)) ⇒ 4 else leb (c .before .before .before .before .before .before .before .before .before .args .types) (c .before .before .before .before .before .before .before .before .before .args .t) ⇒ 6 else 0) (c .before .before .before .before .before .before .number-code .ensures) (omega arith) (c .before .before .before .before .before .if1 .left), passes (hasEdge g (c .before .before .before .before .before .before .before .before .before .args .n)) 3 _ ((lacksVertex g (c .before .before .before .before .before .before .before .before .before .args .x) || lacksVertex g (c .before .before .before .before .before .before .before .before .before .args .y)) ⇒ 4 else leb (c .before .before .before .before .before .before .before .before .before .args .types) (c .before .before .before .before .before .before .before .before .before .args .t) ⇒ 6 else 0) (c .before .before .before .before .edge-used .ensures g (_, h)) (omega arith) (c .before .before .before .if2 .left), passes ((lacksVertex g (c .before .before .before .before .before .before .before .before .before .args .x) || lacksVertex g (c .before .before .before .before .before .before .before .before .before .args .y))) 4 _ (leb (c .before .before .before .before .before .before .before .before .before .args .types) (c .before .before .before .before .before .before .before .before .before .args .t) ⇒ 6 else 0) (c .before .before .vertices-code .ensures .0 g (_, h)) (omega arith) (c .before .if3 .left)) (c .type-code .ensures)
 
 pub create-edge-spec : {M : Type 1} → statement M
 create-edge-spec =

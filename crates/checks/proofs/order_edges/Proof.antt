@@ -11,13 +11,13 @@ edges-code-requires : tie.Need-edges-code-requires
 edges-code-requires c κs = search needs
 
 returns : tie.Need-returns
-returns c = λ g h. (stops ((lacksEdge g (c .before .before .before .args .x) || lacksEdge g (c .before .before .before .args .y))) 5 _ ((c .before .before .before .args .x == c .before .before .before .args .y) ⇒ 9 else 0) (c .before .edges-code .ensures g h) (c .if1 .taken))
+returns c = λ g h. (stops ((lacksEdge g (c .before .before .before .args .x) || lacksEdge g (c .before .before .before .args .y))) 5 _ ((c .before .before .before .args .x == c .before .before .before .args .y) ⇒ 9 else 0) (c .before .edges-code .ensures .0 g h) (c .if1 .taken))
 
 twice-code-requires : tie.Need-twice-code-requires
 twice-code-requires c κs = search needs
 
 returns-2 : tie.Need-returns-2
-returns-2 c = λ g h. rw (passes ((lacksEdge g (c .before .before .before .before .args .x) || lacksEdge g (c .before .before .before .before .args .y))) 5 _ ((c .before .before .before .before .args .x == c .before .before .before .before .args .y) ⇒ 9 else 0) (c .before .before .edges-code .ensures g h) (omega arith) (c .before .if1 .left)) (c .twice-code .ensures)
+returns-2 c = λ g h. rw (passes ((lacksEdge g (c .before .before .before .before .args .x) || lacksEdge g (c .before .before .before .before .args .y))) 5 _ ((c .before .before .before .before .args .x == c .before .before .before .before .args .y) ⇒ 9 else 0) (c .before .before .edges-code .ensures .0 g h) (omega arith) (c .before .if1 .left)) (c .twice-code .ensures)
 
 pub order-edges-spec : {M : Type 1} → statement M
 order-edges-spec = tie.close (tie.spec edges-code-requires returns twice-code-requires returns-2)

@@ -1,66 +1,54 @@
-use Prim.Native.Nat.{ℕ, _+_, _-_, _≤_}
-use mathlib.Core.Path.{refl}
+use Prim.Native.Nat.{ℕ, _+_, _/_, _^_}
+use mathlib.Core.Path.{_≡_, refl, sym, ap, subst, _∙_}
 use native.Mathlib.Omega.{arith}
+use native.Mathlib.Nat.{div-one, pow-zero}
 use borrow.Author.Needs.{needs}
-use Rattle.history.specs.Machine.{Standing}
-use Rattle.marks.specs.Marked.{Marked}
-use Rattle.marks.proofs.MarkLaws.{cutFirst, cut-turn, cut-end}
+use Rattle.history.specs.Machine.{cutMarks}
+use Rattle.marks.specs.Marked.{digits, Marked}
+use Rattle.marks.proofs.MarkLaws.{cutTo, cut-start, left-marks, left-half, cut-turn, cut-end, cut-marked}
 use Rattle.marks.proofs.cut_marks.Statement.{statement}
 use Rattle.marks.proofs.cut_marks.Tie as tie
 
 abbrev Inv-loop : tie.InvT-loop
-Inv-loop set places p s₀ a₀ s a = (a ≤ 64) × ((ms : ℕ → Standing) → Marked ms set places → Marked (cutFirst a p ms) s places)
+Inv-loop set places p s₀ left₀ a₀ s left a = (left ≡ set / 2 ^ a) × (s ≡ digits 64 1 (cutTo a p places set))
 
 abbrev μ-loop : tie.MeasureT-loop
-μ-loop set places p s₀ a₀ s a = 64 - a
+μ-loop set places p s₀ left₀ a₀ s left a = left
 
 loop-holds : tie.Need-loop-holds Inv-loop μ-loop
-loop-holds c = (omega arith, λ ms h. h)
-
-cast-q : tie.Need-cast-q Inv-loop μ-loop
-cast-q c = search needs
-
-mul-q : tie.Need-mul-q Inv-loop μ-loop
-mul-q c = search needs
-
-element-copy-out-q : tie.Need-element-copy-out-q Inv-loop μ-loop
-element-copy-out-q c = search needs
+loop-holds c =
+    let a = c .args in
+    (sym (ap (λ (x : ℕ). a .set / x) (pow-zero 2) ∙ div-one (a .set)), cut-start (a .set) (a .p) 0 (a .places .now) (c .fits .set .fits) refl)
 
 add-a : tie.Need-add-a Inv-loop μ-loop
-add-a c = omega (arith, c .before .loop-test .taken)
+add-a c =
+    let l = c .before .loop in
+    omega (arith, left-marks (c .before .before .args .set) (l .left) (l .a) (c .before .before .fits .set .fits) (l .inv .0) (c .loop-test .taken))
 
 cut-mark-requires : tie.Need-cut-mark-requires Inv-loop μ-loop
-cut-mark-requires c κs = (omega arith, omega (arith, c .before .loop-test .taken))
+cut-mark-requires c κs = search needs
 
 loop-less : tie.Need-loop-less Inv-loop μ-loop
-loop-less c = omega (arith, c .before .before .loop-test .taken)
+loop-less c = omega (arith, c .before .loop-test .taken)
 
 loop-again : tie.Need-loop-again Inv-loop μ-loop
 loop-again c =
-    let l = c .before .before .before .loop in
-    let a = c .before .before .before .before .args in (
-      omega (arith, c .before .before .loop-test .taken),
-      λ ms h. cut-turn ms (l .s) _ (a .p) _ (l .a) (l .a + 1) (a .places .now) (omega arith) refl (l .inv .1 ms h) (λ ns e m. c .cut-mark .ensures (a .places .now) ns e m),
+    let l = c .before .before .loop in
+    let s = c .before .before .before in
+    let a = s .args in
+    let u = left-marks (a .set) (l .left) (l .a) (s .fits .set .fits) (l .inv .0) (c .before .loop-test .taken) in (
+      left-half (a .set) (l .left) (l .a) (l .a + 1) (l .inv .0) refl,
+      cut-turn (a .set) (l .left) (l .a) (l .a + 1) (a .p) (l .s) _ (a .places .now) (l .inv .0) refl (omega (arith, u)) (l .inv .1) (c .cut-mark .ensures),
     )
 
 returns : tie.Need-returns Inv-loop μ-loop
 returns c =
     let l = c .before .loop in
     let a = c .before .before .args in
-    λ ms h. cut-end ms (a .set) (l .s) (a .p) (l .a) (a .places .now) h (omega (arith, c .loop-test .left, l .inv .0)) (l .inv .1 ms h)
+    let e = cut-end (a .set) (l .left) (l .a) (a .p) (l .s) (a .places .now) (l .inv .0) (c .loop-test .left) (l .inv .1) in
+    (e, λ ms h. subst (λ (n : ℕ). Marked (cutMarks (a .p) ms) n (a .places .now)) (sym e) (cut-marked ms (a .set) (a .p) (a .places .now) h))
 
 pub cut-marks-spec : {M : Type 1} → statement M
 cut-marks-spec =
     tie.close
-    (tie.spec
-    Inv-loop
-    μ-loop
-    loop-holds
-    cast-q
-    mul-q
-    element-copy-out-q
-    add-a
-    cut-mark-requires
-    loop-less
-    loop-again
-    returns)
+    (tie.spec Inv-loop μ-loop loop-holds add-a cut-mark-requires loop-less loop-again returns)

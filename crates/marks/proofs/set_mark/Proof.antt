@@ -1,11 +1,26 @@
 use mathlib.Core.Path.{refl, sym, _∙_}
-use Rattle.marks.proofs.MarkLaws.{in-set, mark-put}
+use native.Mathlib.Omega.{arith}
+use borrow.Author.Tests.{not-true, not-false}
+use Rattle.lists.proofs.Bools.{tf, within-range}
+use Rattle.marks.proofs.MarkLaws.{with-is, in-set, mark-put}
 use borrow.Author.Needs.{needs}
 use Rattle.marks.proofs.set_mark.Statement.{statement}
 use Rattle.marks.proofs.set_mark.Tie as tie
 
+is-mark-requires : tie.Need-is-mark-requires
+is-mark-requires c κs = search needs
+
+returns : tie.Need-returns
+returns c =
+    let no = sym (c .before .is-mark .ensures) ∙ not-true _ (c .if1 .taken) in (
+      rw no,
+      (rw no, λ ms yes n h. tf (sym yes ∙ no)),
+    )
+
 sub-k : tie.Need-sub-k
-sub-k c = search needs
+sub-k c =
+    let w = within-range 1 64 (c .before .before .args .a) (sym (c .before .is-mark .ensures) ∙ not-false _ (c .if1 .left)) in
+    omega (arith, w .0, w .1)
 
 cast-places : tie.Need-cast-places
 cast-places c = search needs
@@ -14,22 +29,40 @@ mul-places : tie.Need-mul-places
 mul-places c = search needs
 
 element-write-places : tie.Need-element-write-places
-element-write-places c = search needs
+element-write-places c =
+    let w = within-range 1 64 (c .before .before .args .a) (sym (c .before .is-mark .ensures) ∙ not-false _ (c .if1 .left)) in
+    omega (arith, w .0, w .1)
 
 cast-result : tie.Need-cast-result
 cast-result c = search needs
 
 shl-result : tie.Need-shl-result
-shl-result c = search needs
+shl-result c =
+    let w = within-range 1 64 (c .before .before .args .a) (sym (c .before .is-mark .ensures) ∙ not-false _ (c .if1 .left)) in
+    omega (arith, w .0, w .1)
 
-returns : tie.Need-returns
-returns c =
-    let a = c .args in (
-      λ ms h. mark-put ms (a .set) (a .places .now) h (a .a) (c .pre .0) (c .pre .1) (a .p) _ (sym (in-set ms (a .set) (a .places .now) h (a .a) (c .pre .0) (c .pre .1)) ∙ c .pre .2) refl,
-      refl,
+returns-2 : tie.Need-returns-2
+returns-2 c =
+    let a = c .before .before .args in
+    let yes = sym (c .before .is-mark .ensures) ∙ not-false _ (c .if1 .left) in
+    let w = within-range 1 64 (a .a) yes in (
+      with-is (a .set) (a .a) _ yes refl,
+      (
+        rw yes,
+        λ ms y n h. mark-put ms (a .set) (a .places .now) h (a .a) (w .0) (w .1) (a .p) _ (sym (in-set ms (a .set) (a .places .now) h (a .a) (w .0) (w .1)) ∙ n) refl,
+      ),
     )
 
 pub set-mark-spec : {M : Type 1} → statement M
 set-mark-spec =
     tie.close
-    (tie.spec sub-k cast-places mul-places element-write-places cast-result shl-result returns)
+    (tie.spec
+    is-mark-requires
+    returns
+    sub-k
+    cast-places
+    mul-places
+    element-write-places
+    cast-result
+    shl-result
+    returns-2)

@@ -4,8 +4,7 @@ use Rattle.timeline.proofs.begin.Statement.{statement}
 use Rattle.timeline.proofs.begin.Tie as tie
 
 returns : tie.Need-returns
-returns c =
-    λ b s t g z w h l. journal-begin b _ s t g z w h l refl refl refl
+returns c = (refl, λ b s t g z w h l. journal-begin b _ s t g z w h l refl refl refl)
 
 pub begin-spec : {M : Type 1} → statement M
 begin-spec = tie.close (tie.spec returns)

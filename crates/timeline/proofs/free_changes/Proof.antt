@@ -1,14 +1,20 @@
+use Prim.Native.Nat.{_-_}
+use mathlib.Core.Path.{_≡_, refl, _∙_}
+use native.Mathlib.Omega.{arith}
 use Rattle.timeline.proofs.Steps.{journal-free}
-use borrow.Author.Needs.{needs}
 use Rattle.timeline.proofs.free_changes.Statement.{statement}
 use Rattle.timeline.proofs.free_changes.Tie as tie
 
-sub-result : tie.Need-sub-result
-sub-result c = search needs
-
 returns : tie.Need-returns
 returns c =
-    λ b s t l k. journal-free b (c .before .args .pos) s t l (c .before .args .capacity) k
+    let a = c .before .before .args in
+    let e : 0 ≡ a .capacity - a .pos .used = omega (arith, c .if1 .taken) in
+    (e, λ b s t l k. e ∙ journal-free b (a .pos) s t l (a .capacity) k)
+
+returns-2 : tie.Need-returns-2
+returns-2 c =
+    let a = c .before .before .before .args in
+    (refl, λ b s t l k. journal-free b (a .pos) s t l (a .capacity) k)
 
 pub free-changes-spec : {M : Type 1} → statement M
-free-changes-spec = tie.close (tie.spec sub-result returns)
+free-changes-spec = tie.close (tie.spec returns returns-2)

@@ -2,16 +2,17 @@ use mathlib.Core.Path.{sym, _∙_}
 use mathlib.Core.Logic.{inl, inr}
 use native.Mathlib.Omega.{arith}
 use borrow.Author.Needs.{needs}
+use borrow.Author.Tests.{lt-ltb, le-ltb}
 use Rattle.types.proofs.RowLaws.{good-facts}
 use Rattle.types.proofs.Closing.{not-below, closed-below}
 use Rattle.types.proofs.is_below.Statement.{statement}
 use Rattle.types.proofs.is_below.Tie as tie
 
 returns : tie.Need-returns
-returns c = λ rows good e. sym (not-below rows _ _ (inl (omega (arith, good-facts rows good .few, c .if1 .taken))))
+returns c = (λ rows good e. sym (not-below rows _ _ (inl (omega (arith, good-facts rows good .few, c .if1 .taken)))), rw (lt-ltb _ _ (c .if1 .taken)))
 
 returns-2 : tie.Need-returns-2
-returns-2 c = λ rows good e. sym (not-below rows _ _ (inr (omega (arith, good-facts rows good .few, c .if2 .taken))))
+returns-2 c = (λ rows good e. sym (not-below rows _ _ (inr (omega (arith, good-facts rows good .few, c .if2 .taken)))), rw (le-ltb _ _ (c .before .if1 .left), lt-ltb _ _ (c .if2 .taken)))
 
 mul-has-bit : tie.Need-mul-has-bit
 mul-has-bit c = search needs
@@ -23,7 +24,7 @@ has-bit-requires : tie.Need-has-bit-requires
 has-bit-requires c κs = search needs
 
 returns-3 : tie.Need-returns-3
-returns-3 c = λ rows good e. c .has-bit .ensures ∙ closed-below rows _ _ _ e (omega (arith, c .before .before .before .if1 .left))
+returns-3 c = (λ rows good e. c .has-bit .ensures ∙ closed-below rows _ _ _ e (omega (arith, c .before .before .before .if1 .left)), rw (le-ltb _ _ (c .before .before .before .if1 .left), le-ltb _ _ (c .before .before .if2 .left)) (c .has-bit .ensures))
 
 pub is-below-spec : {M : Type 1} → statement M
 is-below-spec =

@@ -1,7 +1,7 @@
 use Rattle.versions.proofs.Following.{stayed}
-use mathlib.Core.Path.{refl, sym, _∙_}
-use Rattle.versions.proofs.Codes.{both-none, both-by, named-none}
+use Rattle.versions.proofs.Codes.{both-by}
 use Rattle.versions.proofs.Calls.{between-refused, between-done}
+use Rattle.versions.proofs.OutcomeLaws.{between-left, between-right}
 use borrow.Author.Needs.{needs}
 use Rattle.versions.proofs.between.Statement.{statement}
 use Rattle.versions.proofs.between.Tie as tie
@@ -20,24 +20,18 @@ stay-requires c κs = search needs
 
 returns : tie.Need-returns
 returns c =
-    λ bounds vt et t m h.
     let a = c .before .before .before .before .before .args in
-    stayed _ m bounds _ _ _ _ (c .stay .ensures)
-    (between-refused bounds (a .x) vt et t (a .places .now) m h (a .a) (a .b) _ (both-by (a .x .set) (a .a) (a .b) _ _ _ (c .before .before .both .ensures) (c .before .before .before .before .named .ensures) (c .before .before .before .named2 .ensures)) (c .before .if1 .taken))
+    let e = both-by (a .x .set) (a .a) (a .b) _ _ _ (c .before .before .both .ensures) (c .before .before .before .before .named .ensures) (c .before .before .before .named2 .ensures) in
+    let n = c .before .if1 .taken in (
+      between-left (a .x) (a .places .now) (a .a) (a .b) _ e _ (c .stay .ensures) n,
+      λ bounds vt et t m h. stayed _ m bounds _ _ _ _ (c .stay .ensures) (between-refused bounds (a .x) vt et t (a .places .now) m h (a .a) (a .b) _ e n),
+    )
 
 place-of-requires : tie.Need-place-of-requires
-place-of-requires c κs =
-    let a = c .before .before .before .before .args in
-    let s = both-none (a .x .set) (a .a) (a .b) (sym (both-by (a .x .set) (a .a) (a .b) _ _ _ (c .before .both .ensures) (c .before .before .before .named .ensures) (c .before .before .named2 .ensures)) ∙ c .if1 .left) in
-    let n = named-none (a .x .set) (a .a) _ refl (s .0) in
-    (n .low, n .high)
+place-of-requires c κs = search needs
 
 place-of-requires-2 : tie.Need-place-of-requires-2
-place-of-requires-2 c κs =
-    let a = c .before .before .before .before .before .args in
-    let s = both-none (a .x .set) (a .a) (a .b) (sym (both-by (a .x .set) (a .a) (a .b) _ _ _ (c .before .before .both .ensures) (c .before .before .before .before .named .ensures) (c .before .before .before .named2 .ensures)) ∙ c .before .if1 .left) in
-    let n = named-none (a .x .set) (a .b) _ refl (s .1) in
-    (n .low, n .high)
+place-of-requires-2 c κs = search needs
 
 between-requires : tie.Need-between-requires
 between-requires c κs = search needs
@@ -47,10 +41,16 @@ stay-requires-2 c κs = search needs
 
 returns-2 : tie.Need-returns-2
 returns-2 c =
-    λ bounds vt et t m h.
-    let a = c .before .before .before .before .before .before .before .before .args in
-    stayed _ m bounds _ _ _ _ (c .stay2 .ensures)
-    (between-done bounds (a .x) vt et t (a .places .now) m h (a .a) (a .b) _ (both-by (a .x .set) (a .a) (a .b) _ _ _ (c .before .before .before .before .before .both .ensures) (c .before .before .before .before .before .before .before .named .ensures) (c .before .before .before .before .before .before .named2 .ensures)) (c .before .before .before .before .if1 .left) _ _ _ (c .before .before .before .place-of .ensures) (c .before .before .place-of2 .ensures) (c .before .between .ensures))
+    let d = c .before .before .before .before in
+    let a = d .before .before .before .before .args in
+    let e = both-by (a .x .set) (a .a) (a .b) _ _ _ (d .before .both .ensures) (d .before .before .before .named .ensures) (d .before .before .named2 .ensures) in
+    let z = d .if1 .left in
+    let p = c .before .before .before .place-of .ensures in
+    let q = c .before .before .place-of2 .ensures in
+    let n = c .before .between .ensures in (
+      between-right (a .x) (a .places .now) (a .a) (a .b) _ e _ _ _ _ (c .stay2 .ensures) z p q n,
+      λ bounds vt et t m h. stayed _ m bounds _ _ _ _ (c .stay2 .ensures) (between-done bounds (a .x) vt et t (a .places .now) m h (a .a) (a .b) _ e z _ _ _ p q n),
+    )
 
 pub between-spec : {M : Type 1} → statement M
 between-spec =

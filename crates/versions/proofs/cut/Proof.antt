@@ -12,7 +12,7 @@ cut-marks-requires : tie.Need-cut-marks-requires
 cut-marks-requires c κs = search needs
 
 returns-2 : tie.Need-returns-2
-returns-2 c = λ ms h f. c .cut-marks .ensures ms h
+returns-2 c = λ ms h f. c .cut-marks .ensures .1 ms h
 
 pub cut-spec : {M : Type 1} → statement M
 cut-spec = tie.close (tie.spec returns cut-marks-requires returns-2)

@@ -38,7 +38,7 @@ returns c =
     let s₀ = st (a .x .current .head) (a .vt .now) (a .et .now) in
     λ b m i h.
     stayed _ m b _ _ _ _ (c .stay .ensures)
-    (change-refused b (a .x) (a .vt .now) (a .et .now) (a .t .now) (a .places .now) m h (DeleteVertex (a .a)) _ _ (c .before .before .before .cost-of .ensures b (present m) (holds-current b (a .x .current .position) s₀ (a .t .now) (m .line) (h .journal)) i) _ refl (c .before .before .free-changes .ensures b s₀ (a .t .now) (m .line) (h .journal)) (deletion-alters _ _) (c .before .if1 .taken))
+    (change-refused b (a .x) (a .vt .now) (a .et .now) (a .t .now) (a .places .now) m h (DeleteVertex (a .a)) _ _ (c .before .before .before .cost-of .ensures b (present m) (holds-current b (a .x .current .position) s₀ (a .t .now) (m .line) (h .journal)) i) _ refl (c .before .before .free-changes .ensures .1 b s₀ (a .t .now) (m .line) (h .journal)) (deletion-alters _ _) (c .before .if1 .taken))
 
 make-step-requires : tie.Need-make-step-requires
 make-step-requires c κs =
@@ -47,7 +47,7 @@ make-step-requires c κs =
     let p = s .pre in
     let s₀ = st (a .x .current .head) (a .vt .now) (a .et .now) in
     let e = c .before .before .before .before .before .cost-of .ensures (p .0) (present (p .1)) (holds-current (p .0) (a .x .current .position) s₀ (a .t .now) (p .1 .line) (p .3 .journal)) (p .2) in
-    (p .0, p .1 .line, p .2, e, change-room (p .0) (a .x) (a .vt .now) (a .et .now) (a .t .now) (a .places .now) (p .1) (p .3) (DeleteVertex (a .a)) _ _ e _ refl (c .before .before .before .before .free-changes .ensures (p .0) s₀ (a .t .now) (p .1 .line) (p .3 .journal)) (deletion-alters _ _) (c .before .before .before .if1 .left), p .3 .journal)
+    (p .0, p .1 .line, p .2, e, change-room (p .0) (a .x) (a .vt .now) (a .et .now) (a .t .now) (a .places .now) (p .1) (p .3) (DeleteVertex (a .a)) _ _ e _ refl (c .before .before .before .before .free-changes .ensures .1 (p .0) s₀ (a .t .now) (p .1 .line) (p .3 .journal)) (deletion-alters _ _) (c .before .before .before .if1 .left), p .3 .journal)
 
 cut-requires : tie.Need-cut-requires
 cut-requires c κs = search needs
@@ -66,7 +66,7 @@ returns-2 c =
     let a = c .before .before .before .before .before .before .before .before .before .before .before .before .before .before .before .before .before .before .before .before .args in
     let s₀ = st (a .x .current .head) (a .vt .now) (a .et .now) in
     λ b m i h.
-    change-done b (a .x) (a .vt .now) (a .et .now) (a .t .now) (a .places .now) m h (DeleteVertex (a .a)) _ _ (c .before .before .before .before .before .before .before .before .before .before .before .before .before .cost-of .ensures b (present m) (holds-current b (a .x .current .position) s₀ (a .t .now) (m .line) (h .journal)) i) _ refl (c .before .before .before .before .before .before .before .before .before .before .before .before .free-changes .ensures b s₀ (a .t .now) (m .line) (h .journal)) (deletion-alters _ _) (c .before .before .before .before .before .before .before .before .before .before .before .if1 .left) _ _ _ _ (c .before .before .before .before .before .before .before .make-step .ensures b (m .line) i (h .journal))
+    change-done b (a .x) (a .vt .now) (a .et .now) (a .t .now) (a .places .now) m h (DeleteVertex (a .a)) _ _ (c .before .before .before .before .before .before .before .before .before .before .before .before .before .cost-of .ensures b (present m) (holds-current b (a .x .current .position) s₀ (a .t .now) (m .line) (h .journal)) i) _ refl (c .before .before .before .before .before .before .before .before .before .before .before .before .free-changes .ensures .1 b s₀ (a .t .now) (m .line) (h .journal)) (deletion-alters _ _) (c .before .before .before .before .before .before .before .before .before .before .before .if1 .left) _ _ _ _ (c .before .before .before .before .before .before .before .make-step .ensures b (m .line) i (h .journal))
     (c .cut .ensures (m .marks) (h .marks) (mark-steps b (a .x) (a .vt .now) (a .et .now) (a .t .now) (a .places .now) m h))
 
 pub delete-vertex-spec : {M : Type 1} → statement M

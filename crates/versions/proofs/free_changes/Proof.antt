@@ -1,5 +1,5 @@
 use Rattle.versions.proofs.Following.{stayed}
-use mathlib.Core.Path.{refl}
+use mathlib.Core.Path.{refl, _∙_}
 use Rattle.versions.proofs.Calls.{free-done}
 use borrow.Author.Needs.{needs}
 use Rattle.versions.proofs.free_changes.Statement.{statement}
@@ -16,10 +16,11 @@ stay-requires c κs = search needs
 
 returns : tie.Need-returns
 returns c =
-    λ b vt et places m h.
     let a = c .before .before .before .args in
-    stayed _ m b _ _ _ _ (c .stay .ensures)
-    (free-done b (a .x) vt et (a .t .now) places m h _ _ refl (c .before .free-changes .ensures b _ (a .t .now) (m .line) (h .journal)))
+    let n = c .before .free-changes .ensures in (
+      c .stay .ensures ∙ (λ i. record { version = a .x; code = 0; number = n .0 i }),
+      λ b vt et places m h. stayed _ m b _ _ _ _ (c .stay .ensures) (free-done b (a .x) vt et (a .t .now) places m h _ _ refl (n .1 b _ (a .t .now) (m .line) (h .journal))),
+    )
 
 pub free-changes-spec : {M : Type 1} → statement M
 free-changes-spec = tie.close (tie.spec cast-capacity free-changes-requires stay-requires returns)

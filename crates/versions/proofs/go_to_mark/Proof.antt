@@ -1,8 +1,8 @@
 use Rattle.versions.proofs.Following.{stayed}
 use Prim.Native.Nat.{ℕ, _≤_}
-use mathlib.Core.Path.{refl, sym, subst}
-use Rattle.versions.proofs.Codes.{named-none}
+use mathlib.Core.Path.{refl, sym, ap, subst}
 use Rattle.versions.proofs.Calls.{go-refused, mark-inside, go-done}
+use Rattle.versions.specs.declared.Done.{Done}
 use borrow.Author.Needs.{needs}
 use Rattle.versions.proofs.go_to_mark.Statement.{statement}
 use Rattle.versions.proofs.go_to_mark.Tie as tie
@@ -15,16 +15,13 @@ stay-requires c κs = search needs
 
 returns : tie.Need-returns
 returns c =
-    λ b m h.
-    let a = c .before .before .before .before .before .before .args in
-    stayed _ m b _ _ _ _ (c .stay .ensures)
-    (go-refused b (a .x) (a .vt .now) (a .et .now) (a .t .now) (a .places .now) m h (a .a) _ (c .before .before .named .ensures) (c .before .if1 .taken))
+    let a = c .before .before .before .before .before .before .args in (
+      λ n. (ap (λ (d : Done). d .version) (c .stay .ensures), refl, refl),
+      λ b m h. stayed _ m b _ _ _ _ (c .stay .ensures) (go-refused b (a .x) (a .vt .now) (a .et .now) (a .t .now) (a .places .now) m h (a .a) _ (c .before .before .named .ensures) (c .before .if1 .taken)),
+    )
 
 place-of-requires : tie.Need-place-of-requires
-place-of-requires c κs =
-    let a = c .before .before .before .before .before .args in
-    let n = named-none (a .x .set) (a .a) _ (c .before .named .ensures) (c .if1 .left) in
-    (n .low, n .high)
+place-of-requires c κs = search needs
 
 go-to-requires : tie.Need-go-to-requires
 go-to-requires c κs =
@@ -41,10 +38,11 @@ same-length-2 c = search needs
 
 returns-2 : tie.Need-returns-2
 returns-2 c =
-    λ b m h.
     let a = c .before .before .before .before .before .before .before .before .before .before .before .before .before .before .args in
-    let e = c .before .before .before .before .before .go-to .ensures in
-    go-done b (a .x) (a .vt .now) (a .et .now) (a .t .now) (a .places .now) m h (a .a) _ (c .before .before .before .before .before .before .before .before .before .before .named .ensures) (c .before .before .before .before .before .before .before .before .before .if1 .left) _ _ (c .before .before .before .before .before .before .before .before .place-of .ensures) (e .1) _ _ _ refl (e .0 b (m .line) (h .journal))
+    let e = c .before .before .before .before .before .go-to .ensures in (
+      λ n. absurd (n refl),
+      λ b m h. go-done b (a .x) (a .vt .now) (a .et .now) (a .t .now) (a .places .now) m h (a .a) _ (c .before .before .before .before .before .before .before .before .before .before .named .ensures) (c .before .before .before .before .before .before .before .before .before .if1 .left) _ _ (c .before .before .before .before .before .before .before .before .place-of .ensures) (e .1) _ _ _ refl (e .0 b (m .line) (h .journal)),
+    )
 
 pub go-to-mark-spec : {M : Type 1} → statement M
 go-to-mark-spec =

@@ -11,8 +11,11 @@ no-marks-requires c κs = search needs
 
 returns : tie.Need-returns
 returns c =
-    λ b vt et t places g z w h l r.
-    version-start b _ vt et t places g (c .before .begin .ensures b _ t g z w h l) (c .no-marks .ensures places r)
+    let p = c .before .begin .ensures in
+    let n = c .no-marks .ensures in (
+      λ i. record { current = record { head = c .before .before .args .head; position = p .0 i }; set = n .0 i },
+      λ b vt et t places g z w h l r. version-start b _ vt et t places g (p .1 b _ t g z w h l) (n .1 places r),
+    )
 
 pub start-spec : {M : Type 1} → statement M
 start-spec = tie.close (tie.spec begin-requires no-marks-requires returns)

@@ -36,7 +36,7 @@ each-requires c κs =
     let load = d .before .before .before .before .before .before .before .before .before .before .before .load in
     let start = d .before .before .before .before .before .before .start in
     let closure = d .before .before .before .before .before .before .before .before .before .before .before .before .before .before .closure in
-    ((_, _, running (a .start .now) (a .rows .now) (a .calls .now) (a .vertices .now) (a .edges .now) (a .journal .now) (a .answers .now) (a .image .now) e (closure .result) _ (closure .ensures) refl (load .result) (start .result) _ _ _ (load .kept .1 .0) (load .kept .1 .1 .0) refl (load .ensures) (start .ensures)), past (a .start .now) (a .rows .now) (a .calls .now) (a .vertices .now) (a .edges .now) (a .journal .now) (a .answers .now) (a .image .now) e .answers-room)
+    ((_, _, running (a .start .now) (a .rows .now) (a .calls .now) (a .vertices .now) (a .edges .now) (a .journal .now) (a .answers .now) (a .image .now) e (closure .result) _ (closure .ensures) refl (load .result) (start .result) _ _ _ (load .kept .1 .0) (load .kept .1 .1 .0) refl (load .ensures) (start .ensures .1)), past (a .start .now) (a .rows .now) (a .calls .now) (a .vertices .now) (a .edges .now) (a .journal .now) (a .answers .now) (a .image .now) e .answers-room)
 
 save-requires : tie.Need-save-requires
 save-requires c κs =
@@ -48,7 +48,7 @@ save-requires c κs =
     let start = d .before .before .before .before .before .before .start in
     let closure = d .before .before .before .before .before .before .before .before .before .before .before .before .before .before .closure in
     let each = c .before .before .before .before .before .before .before .before .before .before .before .before .each in
-    can-save-present (a .start .now) (a .rows .now) (a .calls .now) (a .vertices .now) (a .edges .now) (a .journal .now) (a .answers .now) (a .image .now) e (closure .result) _ (closure .ensures) refl _ (each .result) _ _ _ _ (each .ensures _ _ (running (a .start .now) (a .rows .now) (a .calls .now) (a .vertices .now) (a .edges .now) (a .journal .now) (a .answers .now) (a .image .now) e (closure .result) _ (closure .ensures) refl (load .result) (start .result) _ _ _ (load .kept .1 .0) (load .kept .1 .1 .0) refl (load .ensures) (start .ensures)) .stands)
+    can-save-present (a .start .now) (a .rows .now) (a .calls .now) (a .vertices .now) (a .edges .now) (a .journal .now) (a .answers .now) (a .image .now) e (closure .result) _ (closure .ensures) refl _ (each .result) _ _ _ _ (each .ensures _ _ (running (a .start .now) (a .rows .now) (a .calls .now) (a .vertices .now) (a .edges .now) (a .journal .now) (a .answers .now) (a .image .now) e (closure .result) _ (closure .ensures) refl (load .result) (start .result) _ _ _ (load .kept .1 .0) (load .kept .1 .1 .0) refl (load .ensures) (start .ensures .1)) .stands)
 
 same-length : tie.Need-same-length
 same-length c = c .before .before .before .before .before .before .before .before .before .before .before .before .before .before .before .each .kept .1 .0 ∙ c .before .before .before .before .before .before .before .before .before .before .before .before .before .before .before .before .before .before .before .before .before .before .before .before .before .before .before .load .kept .1 .0
@@ -76,7 +76,7 @@ returns c =
     let closure = d .before .before .before .before .before .before .before .before .before .before .before .before .before .before .closure in
     let each = c .before .before .before .before .before .before .before .before .before .before .before .before .before .before .before .each in
     let save = c .before .before .save in
-    ends (a .start .now) (a .rows .now) (a .calls .now) (a .vertices .now) (a .edges .now) (a .journal .now) (a .answers .now) (a .image .now) e (closure .result) _ (closure .ensures) refl (each .result) _ _ _ _ _ _ (save .result) (each .ensures _ _ (running (a .start .now) (a .rows .now) (a .calls .now) (a .vertices .now) (a .edges .now) (a .journal .now) (a .answers .now) (a .image .now) e (closure .result) _ (closure .ensures) refl (load .result) (start .result) _ _ _ (load .kept .1 .0) (load .kept .1 .1 .0) refl (load .ensures) (start .ensures))) (save .ensures)
+    ends (a .start .now) (a .rows .now) (a .calls .now) (a .vertices .now) (a .edges .now) (a .journal .now) (a .answers .now) (a .image .now) e (closure .result) _ (closure .ensures) refl (each .result) _ _ _ _ _ _ (save .result) (each .ensures _ _ (running (a .start .now) (a .rows .now) (a .calls .now) (a .vertices .now) (a .edges .now) (a .journal .now) (a .answers .now) (a .image .now) e (closure .result) _ (closure .ensures) refl (load .result) (start .result) _ _ _ (load .kept .1 .0) (load .kept .1 .1 .0) refl (load .ensures) (start .ensures .1))) (save .ensures)
 
 pub accepted-spec : {M : Type 1} → statement M
 accepted-spec =

@@ -57,7 +57,7 @@ same-length-6 : tie.Need-same-length-6
 same-length-6 c = search needs
 
 returns-2 : tie.Need-returns-2
-returns-2 c = λ w m h. rw (c .before .before .before .before .before .before .before .before .before .before .command2 .given .1) (recall-answers w m _ _ _ _ _ _ _ h _ _ _ _ _ _ _ _ refl (c .before .before .before .before .recall .ensures (boundsIn w) m (h .represents)))
+returns-2 c = λ w m h. rw (c .before .before .before .before .before .before .before .before .before .before .command2 .given .1) (recall-answers w m _ _ _ _ _ _ _ h _ _ _ _ _ _ _ _ refl (c .before .before .before .before .recall .ensures .1 .1 (boundsIn w) m (h .represents)))
 
 same-length-7 : tie.Need-same-length-7
 same-length-7 c = search needs

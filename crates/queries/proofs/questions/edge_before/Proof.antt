@@ -1,7 +1,3 @@
-use Rattle.queries.proofs.ListWalks.{before-read}
-use Rattle.tables.proofs.Frames.{valid-e}
-use Rattle.tables.specs.Tables.{elane}
-use mathlib.Core.Path.{refl}
 use borrow.Author.Needs.{needs}
 use Rattle.queries.proofs.questions.edge_before.Statement.{statement}
 use Rattle.queries.proofs.questions.edge_before.Tie as tie
@@ -10,7 +6,7 @@ before-requires : tie.Need-before-requires
 before-requires c κs = search needs
 
 returns : tie.Need-returns
-returns c = let s = c .before .before in before-read elane (s .args .et .now) valid-e (s .args .a) (s .args .b) refl (s .pre) (c .before2 .ensures)
+returns c = c .before2 .ensures
 
 pub edge-before-spec : {M : Type 1} → statement M
 edge-before-spec = tie.close (tie.spec before-requires returns)

@@ -28,14 +28,14 @@ returns-2 : tie.Need-returns-2
 returns-2 c =
     let t = c .before .before .before .before .before .before .args .t in (
       omega arith,
-      λ rows good e. bit-both _ _ (ap (λ (k : ℕ). below rows k t) (sym (c .before .before .edge-type .ensures)) ∙ sym (c .before .is-below .ensures rows good e) ∙ c .if2 .taken) (sym (c .before .before .before .before .on-side .ensures) ∙ not-false (c .before .before .before .before .on-side .result) (c .before .before .before .if1 .left)),
+      λ rows good e. bit-both _ _ (ap (λ (k : ℕ). below rows k t) (sym (c .before .before .edge-type .ensures)) ∙ sym (c .before .is-below .ensures .0 rows good e) ∙ c .if2 .taken) (sym (c .before .before .before .before .on-side .ensures) ∙ not-false (c .before .before .before .before .on-side .result) (c .before .before .before .if1 .left)),
     )
 
 returns-3 : tie.Need-returns-3
 returns-3 c =
     let t = c .before .before .before .before .before .before .args .t in (
       omega arith,
-      λ rows good e. bit-left _ _ (ap (λ (k : ℕ). below rows k t) (sym (c .before .before .edge-type .ensures)) ∙ sym (c .before .is-below .ensures rows good e) ∙ c .if2 .left),
+      λ rows good e. bit-left _ _ (ap (λ (k : ℕ). below rows k t) (sym (c .before .before .edge-type .ensures)) ∙ sym (c .before .is-below .ensures .0 rows good e) ∙ c .if2 .left),
     )
 
 pub in-degree-spec : {M : Type 1} → statement M

@@ -20,7 +20,7 @@ before-requires c κs =
 returns : tie.Need-returns
 returns c =
     let s = c .before .before .before .before .before in
-    before-read ilane (s .args .et .now) valid-i (s .args .a) (s .args .b) (c .before .ends-of .ensures ∙ ap (endsAt (s .args .vt .now)) (c .before .before .this .ensures)) (s .pre .2)
+    before-read ilane (s .args .et .now) valid-i (s .args .a) (s .args .b) (c .before .ends-of .ensures ∙ ap (endsAt (s .args .vt .now)) (c .before .before .this .ensures))
     (c .before2 .ensures)
 
 pub word-before-spec : {M : Type 1} → statement M
