@@ -31,7 +31,8 @@ pub fn vertex_code(vt: &[u32], v: u32) -> u32
 
 // Code 4: two vertices that are named.
 pub fn vertices_code(vt: &[u32], a: u32, b: u32) -> u32
-    ensures { λ r. ⌜ ((g : Graph) → HoldsV (now (vt .entry)) g → r ≡ ((lacksVertex g a || lacksVertex g b) ⇒ 4 else 0)) ⌝ }
+    ensures { λ r. ⌜ ((g : Graph) → HoldsV (now (vt .entry)) g
+        → r ≡ ((lacksVertex g a || lacksVertex g b) ⇒ 4 else 0)) ⌝ }
     ensures { λ r. ⌜ r ≡ verticesCode (now (vt .entry)) a b ⌝ }
 {
     let c = vertex_code(vt, a);
@@ -141,7 +142,9 @@ fn edge_used(et: &[u32], n: u32) -> u32
 
 // Codes 5 and 8: two words whose edges are there and that are seen from one vertex.
 pub fn words_code(et: &[u32], a: u32, b: u32) -> u32
-    ensures { λ r. ⌜ ((g : Graph) → HoldsE (now (et .entry)) g → r ≡ ((lacksEdge g (edgeOf a) || lacksEdge g (edgeOf b)) ⇒ 5 else not (chart.this g a == chart.this g b) ⇒ 8 else 0)) ⌝ }
+    ensures { λ r. ⌜ ((g : Graph) → HoldsE (now (et .entry)) g
+        → r ≡ ((lacksEdge g (edgeOf a) || lacksEdge g (edgeOf b)) ⇒ 5 else not
+        (chart.this g a == chart.this g b) ⇒ 8 else 0)) ⌝ }
     ensures { λ r. ⌜ r ≡ wordsCode (now (et .entry)) a b ⌝ }
 {
     let f = find_word(et, a);

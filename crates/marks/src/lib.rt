@@ -89,7 +89,8 @@ fn cut_mark(set: u64, left: u64, places: &[u32; 64], a: u32, p: u32) -> u64
 // `left`; only the places of standing marks are read.
 pub fn cut_marks(set: u64, places: &[u32; 64], p: u32) -> u64
     ensures { λ r. ⌜ r ≡ cutSet p (now (places .entry)) set ⌝ }
-    ensures { λ r. ⌜ ((ms : ℕ → Standing) → Marked ms set (now (places .entry)) → Marked (cutMarks p ms) r (now (places .entry))) ⌝ }
+    ensures { λ r. ⌜ ((ms : ℕ → Standing) → Marked ms set (now (places .entry))
+        → Marked (cutMarks p ms) r (now (places .entry))) ⌝ }
 {
     let mut s = set;
     let mut left = set;

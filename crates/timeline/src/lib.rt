@@ -226,7 +226,8 @@ pub fn go_to(x: Current, vt: &mut [u32], et: &mut [u32], t: &[u32], place: u32) 
 // Kind 22: the present graph is the start.
 pub fn commit(pos: Position) -> Position
     ensures { λ r. ⌜ r ≡ noSteps ⌝ }
-    ensures { λ r. ⌜ ((b : Bounds) → (s : State) → (t : List ℕ) → (l : Timeline) → Journal b pos s t l → Journal b r s t (begun (current l))) ⌝ }
+    ensures { λ r. ⌜ ((b : Bounds) → (s : State) → (t : List ℕ) → (l : Timeline) → Journal b pos s t l
+        → Journal b r s t (begun (current l))) ⌝ }
 {
     Position {
         place: 0,
@@ -238,7 +239,8 @@ pub fn commit(pos: Position) -> Position
 // Kind 51: free changes, of a capacity; 0 where more rows are used than it has.
 pub fn free_changes(pos: Position, capacity: u32) -> u32
     ensures { λ r. ⌜ r ≡ capacity - pos .used ⌝ }
-    ensures { λ r. ⌜ ((b : Bounds) → (s : State) → (t : List ℕ) → (l : Timeline) → Journal b pos s t l → r ≡ freeOf capacity l) ⌝ }
+    ensures { λ r. ⌜ ((b : Bounds) → (s : State) → (t : List ℕ) → (l : Timeline) → Journal b pos s t l
+        → r ≡ freeOf capacity l) ⌝ }
 {
     if capacity < pos.used {
         return 0;
@@ -249,7 +251,8 @@ pub fn free_changes(pos: Position, capacity: u32) -> u32
 // No step yet.
 pub fn begin() -> Position
     ensures { λ r. ⌜ r ≡ noSteps ⌝ }
-    ensures { λ r. ⌜ ((b : Bounds) → (s : State) → (t : List ℕ) → (g : Graph) → Sized b s → Within b g → Holds s g → length t < 2 ^ 32 → Journal b r s t (begun g)) ⌝ }
+    ensures { λ r. ⌜ ((b : Bounds) → (s : State) → (t : List ℕ) → (g : Graph) → Sized b s → Within b g → Holds s g
+        → length t < 2 ^ 32 → Journal b r s t (begun g)) ⌝ }
 {
     Position {
         place: 0,

@@ -82,7 +82,9 @@ pub fn stay(x: Version, code: u32, number: u32) -> Done
 // No step yet, and no mark.
 pub fn start(head: Head) -> Version
     ensures { λ r. ⌜ r ≡ begunAt head ⌝ }
-    ensures { λ r. ⌜ ((b : Bounds) → (vt et t places : List ℕ) → (g : Graph) → Sized b (st head vt et) → Within b g → Holds (st head vt et) g → length t < 2 ^ 32 → length places ≡ 64 → Represents b r vt et t places (fresh g)) ⌝ }
+    ensures { λ r. ⌜ ((b : Bounds) → (vt et t places : List ℕ) → (g : Graph) → Sized b (st head vt et) → Within b g
+        → Holds (st head vt et) g → length t < 2 ^ 32 → length places ≡ 64
+        → Represents b r vt et t places (fresh g)) ⌝ }
 {
     let position = timeline::begin();
     let set = marks::no_marks();
@@ -163,9 +165,13 @@ pub fn made(x: Version, places: &[u32; 64], head: Head, cost: u32) -> Done
 // Kind 19: one step back. Refused, it leaves every word; else those of the tables are left open, but for the
 // graph that they hold.
 fn undo(x: Version, vt: &mut [u32], et: &mut [u32], t: &[u32]) -> Done
-    requires { ⌜ ((b : Bounds) × (places : List ℕ) × (m : Machine) × Represents b x (now vt) (now et) (now t) places m) ⌝ }
+    requires { ⌜ ((b : Bounds) × (places : List ℕ) × (m : Machine)
+        × Represents b x (now vt) (now et) (now t) places m) ⌝ }
     ensures { λ r. ⌜ Leaves x (now (vt .entry)) (now (et .entry)) r (now (vt .exit)) (now (et .exit)) ⌝ }
-    ensures { λ r. ⌜ ((b : Bounds) → (places : List ℕ) → (m : Machine) → Represents b x (now (vt .entry)) (now (et .entry)) (now (t .entry)) places m → Follows (historyRule (capacityOf (now (t .entry))) call.Undo) m b (r .version) (r .code) (r .number) (now (vt .exit)) (now (et .exit)) (now (t .entry)) places) ⌝ }
+    ensures { λ r. ⌜ ((b : Bounds) → (places : List ℕ) → (m : Machine)
+        → Represents b x (now (vt .entry)) (now (et .entry)) (now (t .entry)) places m
+        → Follows (historyRule (capacityOf (now (t .entry))) call.Undo) m b (r .version) (r .code) (r .number)
+        (now (vt .exit)) (now (et .exit)) (now (t .entry)) places) ⌝ }
 {
     let position = x.current.position;
     if position.place == 0 {
@@ -184,9 +190,13 @@ fn undo(x: Version, vt: &mut [u32], et: &mut [u32], t: &[u32]) -> Done
 
 // Kind 20: one step on. Words as in `undo`.
 fn redo(x: Version, vt: &mut [u32], et: &mut [u32], t: &[u32]) -> Done
-    requires { ⌜ ((b : Bounds) × (places : List ℕ) × (m : Machine) × Represents b x (now vt) (now et) (now t) places m) ⌝ }
+    requires { ⌜ ((b : Bounds) × (places : List ℕ) × (m : Machine)
+        × Represents b x (now vt) (now et) (now t) places m) ⌝ }
     ensures { λ r. ⌜ Leaves x (now (vt .entry)) (now (et .entry)) r (now (vt .exit)) (now (et .exit)) ⌝ }
-    ensures { λ r. ⌜ ((b : Bounds) → (places : List ℕ) → (m : Machine) → Represents b x (now (vt .entry)) (now (et .entry)) (now (t .entry)) places m → Follows (historyRule (capacityOf (now (t .entry))) call.Redo) m b (r .version) (r .code) (r .number) (now (vt .exit)) (now (et .exit)) (now (t .entry)) places) ⌝ }
+    ensures { λ r. ⌜ ((b : Bounds) → (places : List ℕ) → (m : Machine)
+        → Represents b x (now (vt .entry)) (now (et .entry)) (now (t .entry)) places m
+        → Follows (historyRule (capacityOf (now (t .entry))) call.Redo) m b (r .version) (r .code) (r .number)
+        (now (vt .exit)) (now (et .exit)) (now (t .entry)) places) ⌝ }
 {
     let position = x.current.position;
     if position.place == position.steps {
@@ -262,7 +272,10 @@ fn go_to_mark(
 ) -> Done
     requires { ⌜ ((b : Bounds) × (m : Machine) × Represents b x (now vt) (now et) (now t) (now places) m) ⌝ }
     ensures { λ r. ⌜ Leaves x (now (vt .entry)) (now (et .entry)) r (now (vt .exit)) (now (et .exit)) ⌝ }
-    ensures { λ r. ⌜ ((b : Bounds) → (m : Machine) → Represents b x (now (vt .entry)) (now (et .entry)) (now (t .entry)) (now (places .entry)) m → Follows (historyRule (capacityOf (now (t .entry))) (call.GoTo a)) m b (r .version) (r .code) (r .number) (now (vt .exit)) (now (et .exit)) (now (t .entry)) (now (places .entry))) ⌝ }
+    ensures { λ r. ⌜ ((b : Bounds) → (m : Machine)
+        → Represents b x (now (vt .entry)) (now (et .entry)) (now (t .entry)) (now (places .entry)) m
+        → Follows (historyRule (capacityOf (now (t .entry))) (call.GoTo a)) m b (r .version) (r .code) (r .number)
+        (now (vt .exit)) (now (et .exit)) (now (t .entry)) (now (places .entry))) ⌝ }
 {
     let code = named(x.set, a);
     if code != 0 {
@@ -285,7 +298,9 @@ fn go_to_mark(
 fn set_mark(x: Version, places: &mut [u32; 64], a: u32) -> Done
     ensures { λ r. ⌜ r ≡ markSet x a ⌝ }
     ensures { λ r. ⌜ now (places .exit) ≡ placesSet x a (now (places .entry)) ⌝ }
-    ensures { λ r. ⌜ ((b : Bounds) → (vt et t : List ℕ) → (m : Machine) → Represents b x vt et t (now (places .entry)) m → Follows (historyRule (capacityOf t) (call.SetMark a)) m b (r .version) (r .code) (r .number) vt et t (now (places .exit))) ⌝ }
+    ensures { λ r. ⌜ ((b : Bounds) → (vt et t : List ℕ) → (m : Machine) → Represents b x vt et t (now (places .entry)) m
+        → Follows (historyRule (capacityOf t) (call.SetMark a)) m b (r .version) (r .code) (r .number) vt et t
+        (now (places .exit))) ⌝ }
 {
     let current = x.current;
     let code = unnamed(x.set, a);
@@ -303,7 +318,9 @@ fn set_mark(x: Version, places: &mut [u32; 64], a: u32) -> Done
 // Kind 18: mark a goes.
 fn drop_mark(x: Version, a: u32) -> Done
     ensures { λ r. ⌜ r ≡ markDropped x a ⌝ }
-    ensures { λ r. ⌜ ((b : Bounds) → (vt et t places : List ℕ) → (m : Machine) → Represents b x vt et t places m → Follows (historyRule (capacityOf t) (call.DropMark a)) m b (r .version) (r .code) (r .number) vt et t places) ⌝ }
+    ensures { λ r. ⌜ ((b : Bounds) → (vt et t places : List ℕ) → (m : Machine) → Represents b x vt et t places m
+        → Follows (historyRule (capacityOf t) (call.DropMark a)) m b (r .version) (r .code)
+        (r .number) vt et t places) ⌝ }
 {
     let current = x.current;
     let code = named(x.set, a);
@@ -321,7 +338,8 @@ fn drop_mark(x: Version, a: u32) -> Done
 // Kind 22: the present graph is the start, and no mark stands.
 fn commit(x: Version) -> Done
     ensures { λ r. ⌜ r ≡ committed x ⌝ }
-    ensures { λ r. ⌜ ((b : Bounds) → (vt et t places : List ℕ) → (m : Machine) → Represents b x vt et t places m → Follows (historyRule (capacityOf t) call.Commit) m b (r .version) (r .code) (r .number) vt et t places) ⌝ }
+    ensures { λ r. ⌜ ((b : Bounds) → (vt et t places : List ℕ) → (m : Machine) → Represents b x vt et t places m
+        → Follows (historyRule (capacityOf t) call.Commit) m b (r .version) (r .code) (r .number) vt et t places) ⌝ }
 {
     let head = x.current.head;
     let old = x.current.position;
@@ -340,7 +358,10 @@ fn commit(x: Version) -> Done
 // Kind 49: the steps between marks a and b.
 fn between(x: Version, places: &[u32; 64], a: u32, b: u32) -> Done
     ensures { λ r. ⌜ r ≡ betweenMarks x (now (places .entry)) a b ⌝ }
-    ensures { λ r. ⌜ ((bounds : Bounds) → (vt et t : List ℕ) → (m : Machine) → Represents bounds x vt et t (now (places .entry)) m → Follows (historyRule (capacityOf t) (call.Between a b)) m bounds (r .version) (r .code) (r .number) vt et t (now (places .entry))) ⌝ }
+    ensures { λ r. ⌜ ((bounds : Bounds) → (vt et t : List ℕ) → (m : Machine)
+        → Represents bounds x vt et t (now (places .entry)) m
+        → Follows (historyRule (capacityOf t) (call.Between a b)) m bounds (r .version) (r .code) (r .number) vt et t
+        (now (places .entry))) ⌝ }
 {
     let c = named(x.set, a);
     let d = named(x.set, b);
@@ -357,7 +378,8 @@ fn between(x: Version, places: &[u32; 64], a: u32, b: u32) -> Done
 // Kind 50: how many marks stand.
 fn standing(x: Version) -> Done
     ensures { λ r. ⌜ r ≡ marksStanding x ⌝ }
-    ensures { λ r. ⌜ ((b : Bounds) → (vt et t places : List ℕ) → (m : Machine) → Represents b x vt et t places m → Follows (historyRule (capacityOf t) call.Standing) m b (r .version) (r .code) (r .number) vt et t places) ⌝ }
+    ensures { λ r. ⌜ ((b : Bounds) → (vt et t places : List ℕ) → (m : Machine) → Represents b x vt et t places m
+        → Follows (historyRule (capacityOf t) call.Standing) m b (r .version) (r .code) (r .number) vt et t places) ⌝ }
 {
     let number = marks::count_marks(x.set);
     stay(x, 0, number)
@@ -367,14 +389,18 @@ fn standing(x: Version) -> Done
 fn free_changes(x: Version, t: &[u32]) -> Done
     requires { ⌜ ((b : Bounds) × (vt et places : List ℕ) × (m : Machine) × Represents b x vt et (now t) places m) ⌝ }
     ensures { λ r. ⌜ r ≡ changesFree x (now (t .entry)) ⌝ }
-    ensures { λ r. ⌜ ((b : Bounds) → (vt et places : List ℕ) → (m : Machine) → Represents b x vt et (now (t .entry)) places m → Follows (historyRule (capacityOf (now (t .entry))) call.Free) m b (r .version) (r .code) (r .number) vt et (now (t .entry)) places) ⌝ }
+    ensures { λ r. ⌜ ((b : Bounds) → (vt et places : List ℕ) → (m : Machine)
+        → Represents b x vt et (now (t .entry)) places m
+        → Follows (historyRule (capacityOf (now (t .entry))) call.Free) m b (r .version) (r .code) (r .number) vt et
+        (now (t .entry)) places) ⌝ }
 {
     let capacity = (t.len() / 12) as u32;
     let number = timeline::free_changes(x.current.position, capacity);
     stay(x, 0, number)
 }
 
-// Any history call. A refused one leaves every lent word; else those of the tables and places are left open, but for the
+// Any history call. A refused one leaves every lent word; else those of the tables and places are left open, but for
+// the
 // machine that they stand for.
 pub fn recall(
     x: Version,
@@ -387,7 +413,10 @@ pub fn recall(
     requires { ⌜ ((b : Bounds) × (m : Machine) × Represents b x (now vt) (now et) (now t) (now places) m) ⌝ }
     ensures { λ r. ⌜ Leaves x (now (vt .entry)) (now (et .entry)) r (now (vt .exit)) (now (et .exit)) ⌝ }
     ensures { λ r. ⌜ (r .code ≢ 0 → now (places .exit) ≡ now (places .entry)) ⌝ }
-    ensures { λ r. ⌜ ((b : Bounds) → (m : Machine) → Represents b x (now (vt .entry)) (now (et .entry)) (now (t .entry)) (now (places .entry)) m → Follows (historyRule (capacityOf (now (t .entry))) call) m b (r .version) (r .code) (r .number) (now (vt .exit)) (now (et .exit)) (now (t .entry)) (now (places .exit))) ⌝ }
+    ensures { λ r. ⌜ ((b : Bounds) → (m : Machine)
+        → Represents b x (now (vt .entry)) (now (et .entry)) (now (t .entry)) (now (places .entry)) m
+        → Follows (historyRule (capacityOf (now (t .entry))) call) m b (r .version) (r .code) (r .number)
+        (now (vt .exit)) (now (et .exit)) (now (t .entry)) (now (places .exit))) ⌝ }
 {
     match call {
         HistoryCall::SetMark(a) => set_mark(x, places, a),
