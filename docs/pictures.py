@@ -84,8 +84,8 @@ def graph():
     p.chain(390, 80, "Eseq", [(str(e), INK) for e in edges])
     for i, v in enumerate(vseq):
         p.chain(390, 150 + 45 * i, f"list of {v}", [(str(w), IN if w % 2 else OUT) for w in lists[v]])
-    p.text(390, 300, "out word 2e, seen from alpha", "start", OUT, 13)
-    p.text(580, 300, "in word 2e + 1, seen from omega", "start", IN, 13)
+    p.text(390, 292, "out word 2e, seen from alpha", "start", OUT, 13)
+    p.text(390, 312, "in word 2e + 1, seen from omega", "start", IN, 13)
     return p.whole()
 
 

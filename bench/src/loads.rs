@@ -1,4 +1,4 @@
-//! The four loads: lists of calls on a full graph, all of them accepted.
+//! The loads: lists of calls, most of them on a full graph, all of them accepted.
 
 use outside::gen::{self, Random};
 use outside::image;
@@ -18,20 +18,83 @@ pub struct Load {
 
 pub fn all() -> Vec<Load> {
     let start = gen::graph(&mut Random::new(1), CAPACITIES, ROWS.len() as u32, (1_000, 4_000), true);
-    let case = |calls: Vec<Call>| {
-        let mut case = Case::new(CAPACITIES, &ROWS, &calls);
-        case.start = image::save(&start);
+    let at = |capacities: Capacities, graph: &Graph, calls: Vec<Call>| {
+        let mut case = Case::new(capacities, &ROWS, &calls);
+        case.start = image::save(graph);
         case
     };
-    let load = |name, calls: Vec<Call>, short: Vec<Call>| Load { name, case: case(calls), short: case(short) };
+    // The short list is the first so many calls.
+    let load_at = |name, capacities: Capacities, graph: &Graph, calls: Vec<Call>, short: usize| {
+        let first = calls[..short.min(calls.len())].to_vec();
+        Load { name, case: at(capacities, graph, calls), short: at(capacities, graph, first) }
+    };
+    let load = |name, calls: Vec<Call>, short: usize| load_at(name, CAPACITIES, &start, calls, short);
+    let empty = Graph::default();
+    let least = Capacities { vertices: 1, edges: 1, changes: 1 };
     let edits = edits(&start, 20_000);
-    let questions = questions(&start, 100_000);
+    let mut marked = load("64 marks over 19,200 steps", marks(&edits, 64, 300, 128), 0);
+    marked.short = at(CAPACITIES, &start, marks(&edits, 16, 60, 128));
     vec![
-        load("20,000 edits", edits.clone(), edits[..1_000].to_vec()),
-        load("64 marks over 19,200 steps", marks(&edits, 64, 300, 128), marks(&edits, 16, 60, 128)),
-        load("100,000 questions", questions.clone(), questions[..5_000].to_vec()),
-        load("load and save", vec![], vec![]),
+        load("20,000 edits", edits.clone(), 1_000),
+        load("20,000 changes that alter nothing", idle(&start, 20_000), 1_000),
+        load("20,000 undos and redos in turn", in_turn(&edits[..100], [19, 0, 0, 0, 0], [20, 0, 0, 0, 0], 10_000), 1_000),
+        load("20,000 changes and undos in turn", in_turn(&[], edits[0], [19, 0, 0, 0, 0], 10_000), 1_000),
+        load("2,000 deletions of a vertex with 8 edges, each undone", deletions(&start, 2_000), 100),
+        load_at("1,000 vertices and 4,000 edges made from nothing", CAPACITIES, &empty, making(&start), 500),
+        marked,
+        load("100,000 questions", questions(&start, 100_000), 5_000),
+        load_at("one call at capacities 1, 1, 1", least, &empty, vec![[30, 0, 0, 0, 0]], 1),
+        load_at("one call at the limits, no graph", CAPACITIES, &empty, vec![[30, 0, 0, 0, 0]], 1),
+        load("load and save", vec![], 0),
     ]
+}
+
+/// Two calls in turn, after some others.
+fn in_turn(first: &[Call], one: Call, other: Call, times: usize) -> Vec<Call> {
+    let mut calls = first.to_vec();
+    for _ in 0..times {
+        calls.extend([one, other]);
+    }
+    calls
+}
+
+/// Changes of kinds 5 to 16 to what is there already.
+fn idle(g: &Graph, count: usize) -> Vec<Call> {
+    let mut r = Random::new(5);
+    let mut calls = Vec::new();
+    while calls.len() < count {
+        let (i, j) = (r.under(g.vertices.len() - 1), r.under(g.edges.len() - 1));
+        let (v, e) = (&g.vertices[i], &g.edges[j]);
+        let n = v.list.len();
+        calls.push(match r.between(5, 16) as u32 {
+            5 => [5, v.number, v.ty, 0, 0],
+            6 => [6, e.number, e.ty, 0, 0],
+            7 => [7, v.number, v.value, 0, 0],
+            8 => [8, e.number, e.reading.kind(), e.reading.decimetres(), 0],
+            9 | 10 if n > 0 => [9 + v.list[n - 1] % 2, v.list[n - 1] / 2, v.number, 0, 0],
+            11 => [11, v.number, g.vertices[i + 1].number, 0, 0],
+            12 => [12, g.vertices[i + 1].number, v.number, 0, 0],
+            13 => [13, e.number, g.edges[j + 1].number, 0, 0],
+            14 => [14, g.edges[j + 1].number, e.number, 0, 0],
+            15 if n > 1 => [15, v.list[n - 2], v.list[n - 1], 0, 0],
+            16 if n > 1 => [16, v.list[1], v.list[0], 0, 0],
+            _ => continue,
+        });
+    }
+    calls
+}
+
+/// Vertices with 8 distinct edges, each deleted and brought back.
+fn deletions(g: &Graph, count: usize) -> Vec<Call> {
+    let found: Vec<u32> = g.vertices.iter().map(|v| v.number).filter(|v| g.edges_at(*v).len() == 8).collect();
+    found.iter().cycle().take(count).flat_map(|v| [[2, *v, 0, 0, 0], [19, 0, 0, 0, 0]]).collect()
+}
+
+/// The vertices and edges of a graph, made in their order.
+fn making(g: &Graph) -> Vec<Call> {
+    let vertices = g.vertices.iter().map(|v| [1, v.number, v.ty, v.value, 0]);
+    let edges = g.edges.iter().map(|e| [3, e.number, e.alpha, e.omega, e.ty]);
+    vertices.chain(edges).collect()
 }
 
 /// Changes of every kind that keeps the graph full, each of which alters it; an edge deleted is made again by the next call.

@@ -1,4 +1,4 @@
-//! Times the engine, the same data structure by hand in C, and the plain machine on four loads.
+//! Times the engine, the same data structure by hand in C, and the plain machine on some loads.
 //! Answers and images are compared before anything is timed.
 
 mod loads;
@@ -155,7 +155,27 @@ fn micros(time: Duration) -> f64 {
     time.as_nanos() as f64 / 1_000.0
 }
 
+/// A load as a file for bench/count.c: eight lengths of 64 bits (start, rows, calls, vertices, edges, journal, answers,
+/// image), then the words of start, rows and calls. Prints the load's name.
+fn save(load: &loads::Load, path: &str) {
+    let case = &load.case;
+    let lengths = [case.start.len(), case.rows.len(), case.calls.len(), case.vertices, case.edges, case.journal, case.answers, case.image];
+    let mut bytes: Vec<u8> = lengths.iter().flat_map(|n| (*n as u64).to_le_bytes()).collect();
+    bytes.extend(case.start.iter().flat_map(|w| w.to_le_bytes()));
+    bytes.extend(case.rows.iter().flat_map(|w| w.to_le_bytes()));
+    bytes.extend(case.calls.iter().flat_map(|w| w.to_le_bytes()));
+    std::fs::write(path, bytes).expect("a file for the load");
+    println!("{}", load.name);
+}
+
 fn main() {
+    let words: Vec<String> = std::env::args().skip(1).collect();
+    if words.first().is_some_and(|w| w == "--save") {
+        for (i, load) in loads::all().iter().enumerate() {
+            save(load, &format!("{}/{i}.load", words[1]));
+        }
+        return;
+    }
     let seconds: u64 = std::env::args().nth(1).map_or(4, |s| s.parse().expect("seconds a load"));
     let all = loads::all();
     compare(&all);

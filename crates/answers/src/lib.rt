@@ -52,7 +52,8 @@ pub struct Answer {
 // Kind 31.
 fn next_vertex(vt: &[u32], a: u32) -> Answer
     requires { ⌜ ((g : Graph) × HoldsV (now vt) g) ⌝ }
-    ensures { λ r. ⌜ ((g : Graph) → (n : ℕ) → (rows : List ℕ) → HoldsV (now (vt .entry)) g → AnswerIs r (questionCode n g (ask.NextVertex a)) (questionNumber rows g (ask.NextVertex a))) ⌝ }
+    ensures { λ r. ⌜ ((g : Graph) → (n : ℕ) → (rows : List ℕ) → HoldsV (now (vt .entry)) g
+        → AnswerIs r (questionCode n g (ask.NextVertex a)) (questionNumber rows g (ask.NextVertex a))) ⌝ }
 {
     let code = vertex_code(vt, a);
     if code != 0 {
@@ -65,7 +66,8 @@ fn next_vertex(vt: &[u32], a: u32) -> Answer
 // Kind 34.
 fn first_word_of(vt: &[u32], a: u32) -> Answer
     requires { ⌜ ((g : Graph) × HoldsV (now vt) g) ⌝ }
-    ensures { λ r. ⌜ ((g : Graph) → (n : ℕ) → (rows : List ℕ) → HoldsV (now (vt .entry)) g → AnswerIs r (questionCode n g (ask.FirstWord a)) (questionNumber rows g (ask.FirstWord a))) ⌝ }
+    ensures { λ r. ⌜ ((g : Graph) → (n : ℕ) → (rows : List ℕ) → HoldsV (now (vt .entry)) g
+        → AnswerIs r (questionCode n g (ask.FirstWord a)) (questionNumber rows g (ask.FirstWord a))) ⌝ }
 {
     let code = vertex_code(vt, a);
     if code != 0 {
@@ -78,7 +80,8 @@ fn first_word_of(vt: &[u32], a: u32) -> Answer
 // Kind 40.
 fn type_of_vertex(vt: &[u32], a: u32) -> Answer
     requires { ⌜ ((g : Graph) × HoldsV (now vt) g) ⌝ }
-    ensures { λ r. ⌜ ((g : Graph) → (n : ℕ) → (rows : List ℕ) → HoldsV (now (vt .entry)) g → AnswerIs r (questionCode n g (ask.VertexType a)) (questionNumber rows g (ask.VertexType a))) ⌝ }
+    ensures { λ r. ⌜ ((g : Graph) → (n : ℕ) → (rows : List ℕ) → HoldsV (now (vt .entry)) g
+        → AnswerIs r (questionCode n g (ask.VertexType a)) (questionNumber rows g (ask.VertexType a))) ⌝ }
 {
     let code = vertex_code(vt, a);
     if code != 0 {
@@ -91,7 +94,8 @@ fn type_of_vertex(vt: &[u32], a: u32) -> Answer
 // Kind 42.
 fn value_of(vt: &[u32], a: u32) -> Answer
     requires { ⌜ ((g : Graph) × HoldsV (now vt) g) ⌝ }
-    ensures { λ r. ⌜ ((g : Graph) → (n : ℕ) → (rows : List ℕ) → HoldsV (now (vt .entry)) g → AnswerIs r (questionCode n g (ask.Value a)) (questionNumber rows g (ask.Value a))) ⌝ }
+    ensures { λ r. ⌜ ((g : Graph) → (n : ℕ) → (rows : List ℕ) → HoldsV (now (vt .entry)) g
+        → AnswerIs r (questionCode n g (ask.Value a)) (questionNumber rows g (ask.Value a))) ⌝ }
 {
     let code = vertex_code(vt, a);
     if code != 0 {
@@ -104,7 +108,8 @@ fn value_of(vt: &[u32], a: u32) -> Answer
 // Kind 33.
 fn next_edge(et: &[u32], a: u32) -> Answer
     requires { ⌜ ((g : Graph) × HoldsE (now et) g) ⌝ }
-    ensures { λ r. ⌜ ((g : Graph) → (n : ℕ) → (rows : List ℕ) → HoldsE (now (et .entry)) g → AnswerIs r (questionCode n g (ask.NextEdge a)) (questionNumber rows g (ask.NextEdge a))) ⌝ }
+    ensures { λ r. ⌜ ((g : Graph) → (n : ℕ) → (rows : List ℕ) → HoldsE (now (et .entry)) g
+        → AnswerIs r (questionCode n g (ask.NextEdge a)) (questionNumber rows g (ask.NextEdge a))) ⌝ }
 {
     let code = edge_code(et, a);
     if code != 0 {
@@ -118,7 +123,8 @@ fn next_edge(et: &[u32], a: u32) -> Answer
 fn alpha_of(et: &[u32], a: u32) -> Answer
     requires { ⌜ ((g : Graph) × HoldsE (now et) g) ⌝ }
     requires { ⌜ EdgeLimit (now et) ⌝ }
-    ensures { λ r. ⌜ ((g : Graph) → (n : ℕ) → (rows : List ℕ) → HoldsE (now (et .entry)) g → AnswerIs r (questionCode n g (ask.Alpha a)) (questionNumber rows g (ask.Alpha a))) ⌝ }
+    ensures { λ r. ⌜ ((g : Graph) → (n : ℕ) → (rows : List ℕ) → HoldsE (now (et .entry)) g
+        → AnswerIs r (questionCode n g (ask.Alpha a)) (questionNumber rows g (ask.Alpha a))) ⌝ }
 {
     let code = edge_code(et, a);
     if code != 0 {
@@ -132,7 +138,8 @@ fn alpha_of(et: &[u32], a: u32) -> Answer
 fn omega_of(et: &[u32], a: u32) -> Answer
     requires { ⌜ ((g : Graph) × HoldsE (now et) g) ⌝ }
     requires { ⌜ EdgeLimit (now et) ⌝ }
-    ensures { λ r. ⌜ ((g : Graph) → (n : ℕ) → (rows : List ℕ) → HoldsE (now (et .entry)) g → AnswerIs r (questionCode n g (ask.Omega a)) (questionNumber rows g (ask.Omega a))) ⌝ }
+    ensures { λ r. ⌜ ((g : Graph) → (n : ℕ) → (rows : List ℕ) → HoldsE (now (et .entry)) g
+        → AnswerIs r (questionCode n g (ask.Omega a)) (questionNumber rows g (ask.Omega a))) ⌝ }
 {
     let code = edge_code(et, a);
     if code != 0 {
@@ -145,7 +152,8 @@ fn omega_of(et: &[u32], a: u32) -> Answer
 // Kind 41.
 fn type_of_edge(et: &[u32], a: u32) -> Answer
     requires { ⌜ ((g : Graph) × HoldsE (now et) g) ⌝ }
-    ensures { λ r. ⌜ ((g : Graph) → (n : ℕ) → (rows : List ℕ) → HoldsE (now (et .entry)) g → AnswerIs r (questionCode n g (ask.EdgeType a)) (questionNumber rows g (ask.EdgeType a))) ⌝ }
+    ensures { λ r. ⌜ ((g : Graph) → (n : ℕ) → (rows : List ℕ) → HoldsE (now (et .entry)) g
+        → AnswerIs r (questionCode n g (ask.EdgeType a)) (questionNumber rows g (ask.EdgeType a))) ⌝ }
 {
     let code = edge_code(et, a);
     if code != 0 {
@@ -158,7 +166,8 @@ fn type_of_edge(et: &[u32], a: u32) -> Answer
 // Kind 43.
 fn kind_of_reading(et: &[u32], a: u32) -> Answer
     requires { ⌜ ((g : Graph) × HoldsE (now et) g) ⌝ }
-    ensures { λ r. ⌜ ((g : Graph) → (n : ℕ) → (rows : List ℕ) → HoldsE (now (et .entry)) g → AnswerIs r (questionCode n g (ask.ReadingKind a)) (questionNumber rows g (ask.ReadingKind a))) ⌝ }
+    ensures { λ r. ⌜ ((g : Graph) → (n : ℕ) → (rows : List ℕ) → HoldsE (now (et .entry)) g
+        → AnswerIs r (questionCode n g (ask.ReadingKind a)) (questionNumber rows g (ask.ReadingKind a))) ⌝ }
 {
     let code = edge_code(et, a);
     if code != 0 {
@@ -171,7 +180,8 @@ fn kind_of_reading(et: &[u32], a: u32) -> Answer
 // Kind 44.
 fn decimetres_of_reading(et: &[u32], a: u32) -> Answer
     requires { ⌜ ((g : Graph) × HoldsE (now et) g) ⌝ }
-    ensures { λ r. ⌜ ((g : Graph) → (n : ℕ) → (rows : List ℕ) → HoldsE (now (et .entry)) g → AnswerIs r (questionCode n g (ask.Decimetres a)) (questionNumber rows g (ask.Decimetres a))) ⌝ }
+    ensures { λ r. ⌜ ((g : Graph) → (n : ℕ) → (rows : List ℕ) → HoldsE (now (et .entry)) g
+        → AnswerIs r (questionCode n g (ask.Decimetres a)) (questionNumber rows g (ask.Decimetres a))) ⌝ }
 {
     let code = edge_code(et, a);
     if code != 0 {
@@ -184,7 +194,8 @@ fn decimetres_of_reading(et: &[u32], a: u32) -> Answer
 // Kind 35.
 fn next_word(et: &[u32], a: u32) -> Answer
     requires { ⌜ ((g : Graph) × HoldsE (now et) g) ⌝ }
-    ensures { λ r. ⌜ ((g : Graph) → (n : ℕ) → (rows : List ℕ) → HoldsE (now (et .entry)) g → AnswerIs r (questionCode n g (ask.NextWord a)) (questionNumber rows g (ask.NextWord a))) ⌝ }
+    ensures { λ r. ⌜ ((g : Graph) → (n : ℕ) → (rows : List ℕ) → HoldsE (now (et .entry)) g
+        → AnswerIs r (questionCode n g (ask.NextWord a)) (questionNumber rows g (ask.NextWord a))) ⌝ }
 {
     let code = edge_code(et, a / 2);
     if code != 0 {
@@ -197,7 +208,8 @@ fn next_word(et: &[u32], a: u32) -> Answer
 // Kind 38.
 fn this_of(et: &[u32], a: u32) -> Answer
     requires { ⌜ ((g : Graph) × HoldsE (now et) g) ⌝ }
-    ensures { λ r. ⌜ ((g : Graph) → (n : ℕ) → (rows : List ℕ) → HoldsE (now (et .entry)) g → AnswerIs r (questionCode n g (ask.This a)) (questionNumber rows g (ask.This a))) ⌝ }
+    ensures { λ r. ⌜ ((g : Graph) → (n : ℕ) → (rows : List ℕ) → HoldsE (now (et .entry)) g
+        → AnswerIs r (questionCode n g (ask.This a)) (questionNumber rows g (ask.This a))) ⌝ }
 {
     let code = edge_code(et, a / 2);
     if code != 0 {
@@ -210,7 +222,8 @@ fn this_of(et: &[u32], a: u32) -> Answer
 // Kind 39.
 fn that_of(et: &[u32], a: u32) -> Answer
     requires { ⌜ ((g : Graph) × HoldsE (now et) g) ⌝ }
-    ensures { λ r. ⌜ ((g : Graph) → (n : ℕ) → (rows : List ℕ) → HoldsE (now (et .entry)) g → AnswerIs r (questionCode n g (ask.That a)) (questionNumber rows g (ask.That a))) ⌝ }
+    ensures { λ r. ⌜ ((g : Graph) → (n : ℕ) → (rows : List ℕ) → HoldsE (now (et .entry)) g
+        → AnswerIs r (questionCode n g (ask.That a)) (questionNumber rows g (ask.That a))) ⌝ }
 {
     let code = edge_code(et, a / 2);
     if code != 0 {
@@ -232,7 +245,8 @@ fn as_number(b: bool) -> u32
 
 // Kind 30.
 fn first_vertex(head: Head) -> Answer
-    ensures { λ r. ⌜ ((g : Graph) → (n : ℕ) → (rows vt et : List ℕ) → Holds (st head vt et) g → AnswerIs r (questionCode n g ask.FirstVertex) (questionNumber rows g ask.FirstVertex)) ⌝ }
+    ensures { λ r. ⌜ ((g : Graph) → (n : ℕ) → (rows vt et : List ℕ) → Holds (st head vt et) g
+        → AnswerIs r (questionCode n g ask.FirstVertex) (questionNumber rows g ask.FirstVertex)) ⌝ }
 {
     Answer {
         code: 0,
@@ -242,7 +256,8 @@ fn first_vertex(head: Head) -> Answer
 
 // Kind 32.
 fn first_edge(head: Head) -> Answer
-    ensures { λ r. ⌜ ((g : Graph) → (n : ℕ) → (rows vt et : List ℕ) → Holds (st head vt et) g → AnswerIs r (questionCode n g ask.FirstEdge) (questionNumber rows g ask.FirstEdge)) ⌝ }
+    ensures { λ r. ⌜ ((g : Graph) → (n : ℕ) → (rows vt et : List ℕ) → Holds (st head vt et) g
+        → AnswerIs r (questionCode n g ask.FirstEdge) (questionNumber rows g ask.FirstEdge)) ⌝ }
 {
     Answer {
         code: 0,
@@ -253,7 +268,8 @@ fn first_edge(head: Head) -> Answer
 // Kind 46.
 fn order_of_vertices(head: Head, vt: &[u32], a: u32, b: u32) -> Answer
     requires { ⌜ ((et : List ℕ) × (g : Graph) × Holds (st head (now vt) et) g) ⌝ }
-    ensures { λ r. ⌜ ((g : Graph) → (n : ℕ) → (rows et : List ℕ) → Holds (st head (now (vt .entry)) et) g → AnswerIs r (questionCode n g (ask.VertexOrder a b)) (questionNumber rows g (ask.VertexOrder a b))) ⌝ }
+    ensures { λ r. ⌜ ((g : Graph) → (n : ℕ) → (rows et : List ℕ) → Holds (st head (now (vt .entry)) et) g
+        → AnswerIs r (questionCode n g (ask.VertexOrder a b)) (questionNumber rows g (ask.VertexOrder a b))) ⌝ }
 {
     let code = vertices_code(vt, a, b);
     if code != 0 {
@@ -267,7 +283,8 @@ fn order_of_vertices(head: Head, vt: &[u32], a: u32, b: u32) -> Answer
 // Kind 47.
 fn order_of_edges(head: Head, et: &[u32], a: u32, b: u32) -> Answer
     requires { ⌜ ((vt : List ℕ) × (g : Graph) × Holds (st head vt (now et)) g) ⌝ }
-    ensures { λ r. ⌜ ((g : Graph) → (n : ℕ) → (rows vt : List ℕ) → Holds (st head vt (now (et .entry))) g → AnswerIs r (questionCode n g (ask.EdgeOrder a b)) (questionNumber rows g (ask.EdgeOrder a b))) ⌝ }
+    ensures { λ r. ⌜ ((g : Graph) → (n : ℕ) → (rows vt : List ℕ) → Holds (st head vt (now (et .entry))) g
+        → AnswerIs r (questionCode n g (ask.EdgeOrder a b)) (questionNumber rows g (ask.EdgeOrder a b))) ⌝ }
 {
     let code = edges_code(et, a, b);
     if code != 0 {
@@ -281,7 +298,9 @@ fn order_of_edges(head: Head, et: &[u32], a: u32, b: u32) -> Answer
 // Kind 48.
 fn order_of_words(vt: &[u32], et: &[u32], a: u32, b: u32) -> Answer
     requires { ⌜ ((head : Head) × (g : Graph) × Holds (st head (now vt) (now et)) g) ⌝ }
-    ensures { λ r. ⌜ ((g : Graph) → (n : ℕ) → (rows : List ℕ) → (head : Head) → Holds (st head (now (vt .entry)) (now (et .entry))) g → AnswerIs r (questionCode n g (ask.WordOrder a b)) (questionNumber rows g (ask.WordOrder a b))) ⌝ }
+    ensures { λ r. ⌜ ((g : Graph) → (n : ℕ) → (rows : List ℕ) → (head : Head)
+        → Holds (st head (now (vt .entry)) (now (et .entry))) g
+        → AnswerIs r (questionCode n g (ask.WordOrder a b)) (questionNumber rows g (ask.WordOrder a b))) ⌝ }
 {
     let code = words_code(et, a, b);
     if code != 0 {
@@ -319,8 +338,12 @@ fn degree_of(
     t: u32,
     c: u32,
 ) -> Answer
-    requires { ⌜ ((b : Bounds) × (head : Head) × (g : Graph) × Sized b (st head (now vt) (now et)) × Holds (st head (now vt) (now et)) g) ⌝ }
-    ensures { λ r. ⌜ ((g : Graph) → (rows : List ℕ) → (b : Bounds) → (head : Head) → Sized b (st head (now (vt .entry)) (now (et .entry))) → Holds (st head (now (vt .entry)) (now (et .entry))) g → goodRows rows ≡ true → now (closed .entry) ≡ closureWords rows → AnswerIs r (questionCode types g (ask.Degree a t c)) (questionNumber rows g (ask.Degree a t c))) ⌝ }
+    requires { ⌜ ((b : Bounds) × (head : Head) × (g : Graph) × Sized b (st head (now vt) (now et))
+        × Holds (st head (now vt) (now et)) g) ⌝ }
+    ensures { λ r. ⌜ ((g : Graph) → (rows : List ℕ) → (b : Bounds) → (head : Head)
+        → Sized b (st head (now (vt .entry)) (now (et .entry))) → Holds (st head (now (vt .entry)) (now (et .entry))) g
+        → goodRows rows ≡ true → now (closed .entry) ≡ closureWords rows
+        → AnswerIs r (questionCode types g (ask.Degree a t c)) (questionNumber rows g (ask.Degree a t c))) ⌝ }
 {
     let code = degree_code(vt, types, a, t, c);
     if code != 0 {
@@ -332,7 +355,8 @@ fn degree_of(
 
 // Kind 52.
 fn below_of(closed: &[u64; 64], types: u32, s: u32, t: u32) -> Answer
-    ensures { λ r. ⌜ ((g : Graph) → (rows : List ℕ) → goodRows rows ≡ true → now (closed .entry) ≡ closureWords rows → AnswerIs r (questionCode types g (ask.Below s t)) (questionNumber rows g (ask.Below s t))) ⌝ }
+    ensures { λ r. ⌜ ((g : Graph) → (rows : List ℕ) → goodRows rows ≡ true → now (closed .entry) ≡ closureWords rows
+        → AnswerIs r (questionCode types g (ask.Below s t)) (questionNumber rows g (ask.Below s t))) ⌝ }
 {
     if types <= s {
         return Answer { code: 6, number: 0 };
@@ -354,8 +378,12 @@ pub fn reply(
     types: u32,
     question: Question,
 ) -> Answer
-    requires { ⌜ ((b : Bounds) × (g : Graph) × Sized b (st head (now vt) (now et)) × Holds (st head (now vt) (now et)) g) ⌝ }
-    ensures { λ r. ⌜ ((g : Graph) → (rows : List ℕ) → (b : Bounds) → Sized b (st head (now (vt .entry)) (now (et .entry))) → Holds (st head (now (vt .entry)) (now (et .entry))) g → goodRows rows ≡ true → now (closed .entry) ≡ closureWords rows → AnswerIs r (questionCode types g question) (questionNumber rows g question)) ⌝ }
+    requires { ⌜ ((b : Bounds) × (g : Graph) × Sized b (st head (now vt) (now et))
+        × Holds (st head (now vt) (now et)) g) ⌝ }
+    ensures { λ r. ⌜ ((g : Graph) → (rows : List ℕ) → (b : Bounds)
+        → Sized b (st head (now (vt .entry)) (now (et .entry))) → Holds (st head (now (vt .entry)) (now (et .entry))) g
+        → goodRows rows ≡ true → now (closed .entry) ≡ closureWords rows
+        → AnswerIs r (questionCode types g question) (questionNumber rows g question)) ⌝ }
 {
     match question {
         Question::FirstVertex => first_vertex(head),

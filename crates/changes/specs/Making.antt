@@ -36,7 +36,8 @@ pub record First (x : Change) (b : Bounds) (g : Graph) (e : Edit) : Type 0 where
   pub rest : Rest x b (apply e g) edits
 
 -- between the rows of the change: what is left makes the step's graph of the one that the tables hold, a row an edit
-pub record Making (x : Change) (b : Bounds) (j : Position) (s₀ : State) (t₀ : List ℕ) (l : Timeline) (c : ℕ) (s : State) (t : List ℕ) (u : ℕ) : Type 0 where
+pub record Making (x : Change) (b : Bounds) (j : Position) (s₀ : State) (t₀ : List ℕ) (l : Timeline) (c : ℕ) (s : State)
+    (t : List ℕ) (u : ℕ) : Type 0 where
   pub graph : Graph
   pub holds : Holds s graph
   pub opened : Open b j s₀ t₀ l c s t u

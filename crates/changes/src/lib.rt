@@ -19,8 +19,10 @@ ghost use Rattle.changes.specs.Making.{Word, First, Making};
 
 // What a change costs: 1, and for the deletion of a vertex one more for each distinct edge at it.
 pub fn cost_of(head: Head, vt: &[u32], et: &[u32], change: Change) -> u32
-    requires { ⌜ ((b : Bounds) × (g : Graph) × Sized b (st head (now vt) (now et)) × Holds (st head (now vt) (now et)) g × Allowed b g change) ⌝ }
-    ensures { λ r. ⌜ ((b : Bounds) → (g : Graph) → Holds (st head (now (vt .entry)) (now (et .entry))) g → Allowed b g change → r ≡ cost change g) ⌝ }
+    requires { ⌜ ((b : Bounds) × (g : Graph) × Sized b (st head (now vt) (now et)) × Holds (st head (now vt) (now et)) g
+        × Allowed b g change) ⌝ }
+    ensures { λ r. ⌜ ((b : Bounds) → (g : Graph) → Holds (st head (now (vt .entry)) (now (et .entry))) g
+        → Allowed b g change → r ≡ cost change g) ⌝ }
 {
     match change {
         Change::DeleteVertex(a) => queries::questions::count_edges(vt, et, a) + 1,
@@ -31,7 +33,8 @@ pub fn cost_of(head: Head, vt: &[u32], et: &[u32], change: Change) -> u32
 // The first word in the list of a vertex that is to go; 0 where no edge has to go first.
 fn word_left(head: Head, vt: &[u32], et: &[u32], change: Change) -> u32
     requires { ⌜ ((b : Bounds) × (g : Graph) × Holds (st head (now vt) (now et)) g × Allowed b g change) ⌝ }
-    ensures { λ r. ⌜ ((b : Bounds) → (g : Graph) → Holds (st head (now (vt .entry)) (now (et .entry))) g → Allowed b g change → Word change g r) ⌝ }
+    ensures { λ r. ⌜ ((b : Bounds) → (g : Graph) → Holds (st head (now (vt .entry)) (now (et .entry))) g
+        → Allowed b g change → Word change g r) ⌝ }
 {
     match change {
         Change::DeleteVertex(a) => tables::rows::first_word(vt, a),
@@ -41,8 +44,10 @@ fn word_left(head: Head, vt: &[u32], et: &[u32], change: Change) -> u32
 
 // The first edit of a change, or of what is left of it.
 fn next_edit(head: Head, vt: &[u32], et: &[u32], change: Change) -> Edit
-    requires { ⌜ ((b : Bounds) × (g : Graph) × Sized b (st head (now vt) (now et)) × Holds (st head (now vt) (now et)) g × Allowed b g change) ⌝ }
-    ensures { λ r. ⌜ ((b : Bounds) → (g : Graph) → Holds (st head (now (vt .entry)) (now (et .entry))) g → Allowed b g change → First change b g r) ⌝ }
+    requires { ⌜ ((b : Bounds) × (g : Graph) × Sized b (st head (now vt) (now et)) × Holds (st head (now vt) (now et)) g
+        × Allowed b g change) ⌝ }
+    ensures { λ r. ⌜ ((b : Bounds) → (g : Graph) → Holds (st head (now (vt .entry)) (now (et .entry))) g
+        → Allowed b g change → First change b g r) ⌝ }
 {
     let w = word_left(head, vt, et, change);
     if w != 0 {
@@ -60,8 +65,13 @@ fn make_rows(
     change: Change,
     rows: u32,
 ) -> Head
-    requires { ⌜ ((b : Bounds) × (l : Timeline) × Allowed b (current l) change × (rows ≡ cost change (current l)) × (12 * (x .position .used + rows) ≤ length (now t)) × Journal b (x .position) (st (x .head) (now vt) (now et)) (now t) l) ⌝ }
-    ensures { λ r. ⌜ ((b : Bounds) → (l : Timeline) → Allowed b (current l) change → Journal b (x .position) (st (x .head) (now (vt .entry)) (now (et .entry))) (now (t .entry)) l → Making change b (x .position) (st (x .head) (now (vt .entry)) (now (et .entry))) (now (t .entry)) l rows (st r (now (vt .exit)) (now (et .exit))) (now (t .exit)) (x .position .used + rows)) ⌝ }
+    requires { ⌜ ((b : Bounds) × (l : Timeline) × Allowed b (current l) change × (rows ≡ cost change (current l))
+        × (12 * (x .position .used + rows) ≤ length (now t))
+        × Journal b (x .position) (st (x .head) (now vt) (now et)) (now t) l) ⌝ }
+    ensures { λ r. ⌜ ((b : Bounds) → (l : Timeline) → Allowed b (current l) change
+        → Journal b (x .position) (st (x .head) (now (vt .entry)) (now (et .entry))) (now (t .entry)) l
+        → Making change b (x .position) (st (x .head) (now (vt .entry)) (now (et .entry))) (now (t .entry)) l rows
+        (st r (now (vt .exit)) (now (et .exit))) (now (t .exit)) (x .position .used + rows)) ⌝ }
 {
     let mut h = x.head;
     let mut u = x.position.used;
@@ -84,8 +94,13 @@ pub fn make_step(
     change: Change,
     rows: u32,
 ) -> Current
-    requires { ⌜ ((b : Bounds) × (l : Timeline) × Allowed b (current l) change × (rows ≡ cost change (current l)) × (12 * (x .position .used + rows) ≤ length (now t)) × Journal b (x .position) (st (x .head) (now vt) (now et)) (now t) l) ⌝ }
-    ensures { λ r. ⌜ ((b : Bounds) → (l : Timeline) → Allowed b (current l) change → Journal b (x .position) (st (x .head) (now (vt .entry)) (now (et .entry))) (now (t .entry)) l → Journal b (r .position) (st (r .head) (now (vt .exit)) (now (et .exit))) (now (t .exit)) (extended (stepOf change (current l)) l)) ⌝ }
+    requires { ⌜ ((b : Bounds) × (l : Timeline) × Allowed b (current l) change × (rows ≡ cost change (current l))
+        × (12 * (x .position .used + rows) ≤ length (now t))
+        × Journal b (x .position) (st (x .head) (now vt) (now et)) (now t) l) ⌝ }
+    ensures { λ r. ⌜ ((b : Bounds) → (l : Timeline) → Allowed b (current l) change
+        → Journal b (x .position) (st (x .head) (now (vt .entry)) (now (et .entry))) (now (t .entry)) l
+        → Journal b (r .position) (st (r .head) (now (vt .exit)) (now (et .exit))) (now (t .exit))
+        (extended (stepOf change (current l)) l)) ⌝ }
 {
     let h = make_rows(x, vt, et, t, change, rows);
     timeline::lent::stepped(x, h, rows)

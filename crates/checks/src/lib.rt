@@ -30,7 +30,8 @@ pub fn vertex_code(vt: &[u32], v: u32) -> u32
 
 // Code 4: two vertices that are named.
 pub fn vertices_code(vt: &[u32], a: u32, b: u32) -> u32
-    ensures { λ r. ⌜ ((g : Graph) → HoldsV (now (vt .entry)) g → r ≡ ((lacksVertex g a || lacksVertex g b) ⇒ 4 else 0)) ⌝ }
+    ensures { λ r. ⌜ ((g : Graph) → HoldsV (now (vt .entry)) g
+        → r ≡ ((lacksVertex g a || lacksVertex g b) ⇒ 4 else 0)) ⌝ }
 {
     let c = vertex_code(vt, a);
     if c != 0 {
@@ -138,7 +139,9 @@ fn edge_used(et: &[u32], n: u32) -> u32
 
 // Codes 5 and 8: two words whose edges are there and that are seen from one vertex.
 pub fn words_code(et: &[u32], a: u32, b: u32) -> u32
-    ensures { λ r. ⌜ ((g : Graph) → HoldsE (now (et .entry)) g → r ≡ ((lacksEdge g (edgeOf a) || lacksEdge g (edgeOf b)) ⇒ 5 else not (chart.this g a == chart.this g b) ⇒ 8 else 0)) ⌝ }
+    ensures { λ r. ⌜ ((g : Graph) → HoldsE (now (et .entry)) g
+        → r ≡ ((lacksEdge g (edgeOf a) || lacksEdge g (edgeOf b)) ⇒ 5 else not
+        (chart.this g a == chart.this g b) ⇒ 8 else 0)) ⌝ }
 {
     let f = find_word(et, a);
     let Lookup::Found(_) = f else {
@@ -158,7 +161,9 @@ pub fn words_code(et: &[u32], a: u32, b: u32) -> u32
 
 // Kind 1: codes 2, 3, 6.
 pub fn create_vertex(vt: &[u32], types: u32, n: u32, t: u32) -> u32
-    ensures { λ r. ⌜ ((g : Graph) → HoldsV (now (vt .entry)) g → r ≡ (not (within 1 (length (now (vt .entry)) / 8) n) ⇒ 2 else hasVertex g n ⇒ 3 else leb types t ⇒ 6 else 0)) ⌝ }
+    ensures { λ r. ⌜ ((g : Graph) → HoldsV (now (vt .entry)) g
+        → r ≡ (not
+        (within 1 (length (now (vt .entry)) / 8) n) ⇒ 2 else hasVertex g n ⇒ 3 else leb types t ⇒ 6 else 0)) ⌝ }
 {
     let code1 = number_code(vt.len() / 8, n);
     if code1 != 0 {
@@ -173,7 +178,9 @@ pub fn create_vertex(vt: &[u32], types: u32, n: u32, t: u32) -> u32
 
 // Kind 3: codes 2, 3, 4, 6.
 pub fn create_edge(vt: &[u32], et: &[u32], types: u32, n: u32, x: u32, y: u32, t: u32) -> u32
-    ensures { λ r. ⌜ ((g : Graph) → HoldsVE (now (vt .entry)) (now (et .entry)) g → r ≡ (not (within 1 (length (now (et .entry)) / 12) n) ⇒ 2 else hasEdge g n ⇒ 3 else (lacksVertex g x || lacksVertex g y) ⇒ 4 else leb types t ⇒ 6 else 0)) ⌝ }
+    ensures { λ r. ⌜ ((g : Graph) → HoldsVE (now (vt .entry)) (now (et .entry)) g
+        → r ≡ (not (within 1 (length (now (et .entry)) / 12) n) ⇒ 2 else hasEdge g n ⇒ 3 else
+        (lacksVertex g x || lacksVertex g y) ⇒ 4 else leb types t ⇒ 6 else 0)) ⌝ }
 {
     let code1 = number_code(et.len() / 12, n);
     if code1 != 0 {
@@ -192,7 +199,8 @@ pub fn create_edge(vt: &[u32], et: &[u32], types: u32, n: u32, x: u32, y: u32, t
 
 // Kind 5: codes 4, 6.
 pub fn retype_vertex(vt: &[u32], types: u32, n: u32, t: u32) -> u32
-    ensures { λ r. ⌜ ((g : Graph) → HoldsV (now (vt .entry)) g → r ≡ (lacksVertex g n ⇒ 4 else leb types t ⇒ 6 else 0)) ⌝ }
+    ensures { λ r. ⌜ ((g : Graph) → HoldsV (now (vt .entry)) g
+        → r ≡ (lacksVertex g n ⇒ 4 else leb types t ⇒ 6 else 0)) ⌝ }
 {
     let code1 = vertex_code(vt, n);
     if code1 != 0 {
@@ -203,7 +211,8 @@ pub fn retype_vertex(vt: &[u32], types: u32, n: u32, t: u32) -> u32
 
 // Kind 6: codes 5, 6.
 pub fn retype_edge(et: &[u32], types: u32, n: u32, t: u32) -> u32
-    ensures { λ r. ⌜ ((g : Graph) → HoldsE (now (et .entry)) g → r ≡ (lacksEdge g n ⇒ 5 else leb types t ⇒ 6 else 0)) ⌝ }
+    ensures { λ r. ⌜ ((g : Graph) → HoldsE (now (et .entry)) g
+        → r ≡ (lacksEdge g n ⇒ 5 else leb types t ⇒ 6 else 0)) ⌝ }
 {
     let code1 = edge_code(et, n);
     if code1 != 0 {
@@ -214,7 +223,8 @@ pub fn retype_edge(et: &[u32], types: u32, n: u32, t: u32) -> u32
 
 // Kind 8: codes 5, 7.
 pub fn set_reading(et: &[u32], n: u32, k: u32, d: u32) -> u32
-    ensures { λ r. ⌜ ((g : Graph) → HoldsE (now (et .entry)) g → r ≡ (lacksEdge g n ⇒ 5 else not (isReading k d) ⇒ 7 else 0)) ⌝ }
+    ensures { λ r. ⌜ ((g : Graph) → HoldsE (now (et .entry)) g
+        → r ≡ (lacksEdge g n ⇒ 5 else not (isReading k d) ⇒ 7 else 0)) ⌝ }
 {
     let code1 = edge_code(et, n);
     if code1 != 0 {
@@ -225,7 +235,8 @@ pub fn set_reading(et: &[u32], n: u32, k: u32, d: u32) -> u32
 
 // Kinds 9 and 10: codes 4, 5.
 pub fn set_end(vt: &[u32], et: &[u32], n: u32, v: u32) -> u32
-    ensures { λ r. ⌜ ((g : Graph) → HoldsVE (now (vt .entry)) (now (et .entry)) g → r ≡ (lacksVertex g v ⇒ 4 else lacksEdge g n ⇒ 5 else 0)) ⌝ }
+    ensures { λ r. ⌜ ((g : Graph) → HoldsVE (now (vt .entry)) (now (et .entry)) g
+        → r ≡ (lacksVertex g v ⇒ 4 else lacksEdge g n ⇒ 5 else 0)) ⌝ }
 {
     let code1 = vertex_code(vt, v);
     if code1 != 0 {
@@ -236,7 +247,8 @@ pub fn set_end(vt: &[u32], et: &[u32], n: u32, v: u32) -> u32
 
 // Kinds 11 and 12: codes 4, 9.
 pub fn order_vertices(vt: &[u32], x: u32, y: u32) -> u32
-    ensures { λ r. ⌜ ((g : Graph) → HoldsV (now (vt .entry)) g → r ≡ ((lacksVertex g x || lacksVertex g y) ⇒ 4 else (x == y) ⇒ 9 else 0)) ⌝ }
+    ensures { λ r. ⌜ ((g : Graph) → HoldsV (now (vt .entry)) g
+        → r ≡ ((lacksVertex g x || lacksVertex g y) ⇒ 4 else (x == y) ⇒ 9 else 0)) ⌝ }
 {
     let code1 = vertices_code(vt, x, y);
     if code1 != 0 {
@@ -247,7 +259,8 @@ pub fn order_vertices(vt: &[u32], x: u32, y: u32) -> u32
 
 // Kinds 13 and 14: codes 5, 9.
 pub fn order_edges(et: &[u32], x: u32, y: u32) -> u32
-    ensures { λ r. ⌜ ((g : Graph) → HoldsE (now (et .entry)) g → r ≡ ((lacksEdge g x || lacksEdge g y) ⇒ 5 else (x == y) ⇒ 9 else 0)) ⌝ }
+    ensures { λ r. ⌜ ((g : Graph) → HoldsE (now (et .entry)) g
+        → r ≡ ((lacksEdge g x || lacksEdge g y) ⇒ 5 else (x == y) ⇒ 9 else 0)) ⌝ }
 {
     let code1 = edges_code(et, x, y);
     if code1 != 0 {
@@ -258,7 +271,9 @@ pub fn order_edges(et: &[u32], x: u32, y: u32) -> u32
 
 // Kinds 15 and 16: codes 5, 8, 9.
 pub fn order_words(et: &[u32], x: u32, y: u32) -> u32
-    ensures { λ r. ⌜ ((g : Graph) → HoldsE (now (et .entry)) g → r ≡ ((lacksEdge g (edgeOf x) || lacksEdge g (edgeOf y)) ⇒ 5 else not (chart.this g x == chart.this g y) ⇒ 8 else (x == y) ⇒ 9 else 0)) ⌝ }
+    ensures { λ r. ⌜ ((g : Graph) → HoldsE (now (et .entry)) g
+        → r ≡ ((lacksEdge g (edgeOf x) || lacksEdge g (edgeOf y)) ⇒ 5 else not
+        (chart.this g x == chart.this g y) ⇒ 8 else (x == y) ⇒ 9 else 0)) ⌝ }
 {
     let code1 = words_code(et, x, y);
     if code1 != 0 {

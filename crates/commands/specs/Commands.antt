@@ -23,7 +23,17 @@ use Rattle.graph.specs.declared.Change.the-variants.{
 }
 use Rattle.commands.specs.Calls.{Call, five}
 use Rattle.commands.specs.declared.HistoryCall.{HistoryCall}
-use Rattle.commands.specs.declared.HistoryCall.the-variants.{SetMark, DropMark, Undo, Redo, GoTo, Commit, Between, Standing, Free}
+use Rattle.commands.specs.declared.HistoryCall.the-variants.{
+  SetMark,
+  DropMark,
+  Undo,
+  Redo,
+  GoTo,
+  Commit,
+  Between,
+  Standing,
+  Free,
+}
 use Rattle.commands.specs.declared.Question.{Question}
 use Rattle.commands.specs.declared.Question.the-variants.{
   FirstVertex,

@@ -1,7 +1,24 @@
 -- The words that a graph may keep have 32 bits.
 use Prim.Native.Nat.{ℕ, _^_, _<_}
 use Rattle.graph.specs.declared.Change.{Change}
-use Rattle.graph.specs.declared.Change.the-variants.{CreateVertex, DeleteVertex, CreateEdge, DeleteEdge, RetypeVertex, RetypeEdge, SetValue, SetReading, SetAlpha, SetOmega, VertexBefore, VertexAfter, EdgeBefore, EdgeAfter, WordBefore, WordAfter}
+use Rattle.graph.specs.declared.Change.the-variants.{
+  CreateVertex,
+  DeleteVertex,
+  CreateEdge,
+  DeleteEdge,
+  RetypeVertex,
+  RetypeEdge,
+  SetValue,
+  SetReading,
+  SetAlpha,
+  SetOmega,
+  VertexBefore,
+  VertexAfter,
+  EdgeBefore,
+  EdgeAfter,
+  WordBefore,
+  WordAfter,
+}
 use Rattle.commands.specs.declared.Command.{Command}
 use Rattle.commands.specs.declared.Command.the-variants.{Alter, Recall, Ask, Quote, Unknown}
 use Rattle.commands.specs.Calls.{Call}

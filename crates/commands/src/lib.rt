@@ -48,7 +48,8 @@ pub enum PriceCall {
     Grade(u32, u32, u32),
 }
 
-// A call by what answers it: a change, a history call, a question, a call of the price list, or a kind that is not named.
+// A call by what answers it: a change, a history call, a question, a call of the price list, or a kind that is not
+// named.
 pub enum Command {
     Alter(Change),
     Recall(HistoryCall),

@@ -1,5 +1,6 @@
 // A cursor in a vertex's incidence list, thin over `tables::rows::word_next`.
-// A function over a struct that holds a reference is proved by a walk by hand. `following` has plain parameters, so its callers are not.
+// A function over a struct that holds a reference is proved by a walk by hand. `following` has plain parameters, so its
+// callers are not.
 use tables::rows::word_next;
 ghost use mathlib.Core.Path.{_≡_};
 ghost use Rattle.tables.specs.Tables.{WIn, wnext};

@@ -12,6 +12,7 @@ use Rattle.machine.specs.Run.{answerWords}
 use Rattle.engine.specs.Running.{Running}
 
 -- after the calls xs: what stands is the machine's, and so are the words written over the slice of answers
-pub record AfterCalls (w : Parameters) (m : Machine) (xs : List Call) (x : Version) (vt et t places closed : List ℕ) (types : ℕ) (slice slice′ : List ℕ) : Type 0 where
+pub record AfterCalls (w : Parameters) (m : Machine) (xs : List Call) (x : Version) (vt et t places closed : List ℕ)
+    (types : ℕ) (slice slice′ : List ℕ) : Type 0 where
   pub stands : Running w x vt et t places closed types (last w m xs)
   pub answered : slice′ ≡ over (answerWords (answers w m xs)) slice

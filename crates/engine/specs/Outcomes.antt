@@ -31,7 +31,8 @@ runResult r answers image = record { code = r .code; done = r .done; words = r .
 -- what is lent as the run begins
 abbrev pub given : Slice → Slice → Slice → Slice → Slice → Slice → Slice → Slice → Lent
 given start rows calls vertices edges journal answers image =
-    lent (now (start .entry)) (now (rows .entry)) (now (calls .entry)) (now (vertices .entry)) (now (edges .entry)) (now (journal .entry)) (now (answers .entry)) (now (image .entry))
+    lent (now (start .entry)) (now (rows .entry)) (now (calls .entry)) (now (vertices .entry)) (now (edges .entry))
+    (now (journal .entry)) (now (answers .entry)) (now (image .entry))
 
 -- the result with the two slices as the run leaves them
 abbrev pub left : Outcome → Slice → Slice → RunResult

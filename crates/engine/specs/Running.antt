@@ -28,18 +28,21 @@ pub record Setting (w : Parameters) (vt et t : List ℕ) (closed : List ℕ) (ty
   pub types-in : types ≡ length (w .rows)
 
 -- a run with parameters w whose machine is m
-pub record Running (w : Parameters) (x : Version) (vt et t places closed : List ℕ) (types : ℕ) (m : Machine) : Type 0 where
+pub record Running (w : Parameters) (x : Version) (vt et t places closed : List ℕ) (types : ℕ)
+    (m : Machine) : Type 0 where
   pub setting : Setting w vt et t closed types
   pub represents : Represents (boundsIn w) x vt et t places m
 
 -- the answer is the machine's to the command, and so is what stands afterwards
-pub record Answered (w : Parameters) (m : Machine) (c : Command) (x : Version) (code number : ℕ) (vt et t places closed : List ℕ) (types : ℕ) : Type 0 where
+pub record Answered (w : Parameters) (m : Machine) (c : Command) (x : Version) (code number : ℕ)
+    (vt et t places closed : List ℕ) (types : ℕ) : Type 0 where
   pub coded : code ≡ answerTo w m c .code
   pub numbered : number ≡ answerTo w m c .number
   pub stands : Running w x vt et t places closed types (stepTo w m c)
 
 -- the answer is the machine's to a command that changes nothing
-abbrev pub Stays : Parameters → Machine → Command → Version → Done → List ℕ → List ℕ → List ℕ → List ℕ → List ℕ → ℕ → Type 0
+abbrev pub Stays : Parameters → Machine → Command → Version → Done → List ℕ → List ℕ → List ℕ → List ℕ → List ℕ → ℕ
+    → Type 0
 Stays w m c x r vt et t places closed types =
     (r .version ≡ x) × Answered w m c (r .version) (r .code) (r .number) vt et t places closed types
 
@@ -48,10 +51,14 @@ Stays w m c x r vt et t places closed types =
 -- some run stands at the lent words
 abbrev pub Stands : Version → RefT (List ℕ) → RefT (List ℕ) → RefT (List ℕ) → RefT (List ℕ) → RefT (List ℕ) → ℕ → Type 0
 Stands x vertices edges journal places closed types =
-    (w : Parameters) × (m : Machine) × Running w x (now vertices) (now edges) (now journal) (now places) (now closed) types m
+    (w : Parameters) × (m : Machine)
+    × Running w x (now vertices) (now edges) (now journal) (now places) (now closed) types m
 
 -- whatever run stood there, the answer is its machine's to the command, and so is what stands afterwards
 abbrev pub Performs : Command → Version → Done → Slice → Slice → Slice → Slice → Slice → ℕ → Type 0
 Performs c x r vertices edges journal places closed types =
-    (w : Parameters) → (m : Machine) → Running w x (now (vertices .entry)) (now (edges .entry)) (now (journal .entry)) (now (places .entry)) (now (closed .entry)) types m
-    → Answered w m c (r .version) (r .code) (r .number) (now (vertices .exit)) (now (edges .exit)) (now (journal .exit)) (now (places .exit)) (now (closed .entry)) types
+    (w : Parameters) → (m : Machine)
+    → Running w x (now (vertices .entry)) (now (edges .entry)) (now (journal .entry)) (now (places .entry))
+    (now (closed .entry)) types m
+    → Answered w m c (r .version) (r .code) (r .number) (now (vertices .exit)) (now (edges .exit)) (now (journal .exit))
+    (now (places .exit)) (now (closed .entry)) types

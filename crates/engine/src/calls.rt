@@ -24,8 +24,11 @@ pub fn each(
 ) -> Version
     requires { ⌜ Stands x vt et t places closed types ⌝ }
     requires { ⌜ 2 * (length (now calls) / 5) ≤ length (now answers) ⌝ }
-    ensures { λ r. ⌜ ((w : Parameters) → (m : Machine) → Running w x (now (vt .entry)) (now (et .entry)) (now (t .entry)) (now (places .entry)) (now (closed .entry)) types m
-        → AfterCalls w m (callsOf (now (calls .entry))) r (now (vt .exit)) (now (et .exit)) (now (t .exit)) (now (places .exit)) (now (closed .entry)) types (now (answers .entry)) (now (answers .exit))) ⌝ }
+    ensures { λ r. ⌜ ((w : Parameters) → (m : Machine)
+        → Running w x (now (vt .entry)) (now (et .entry)) (now (t .entry)) (now (places .entry))
+        (now (closed .entry)) types m
+        → AfterCalls w m (callsOf (now (calls .entry))) r (now (vt .exit)) (now (et .exit)) (now (t .exit))
+        (now (places .exit)) (now (closed .entry)) types (now (answers .entry)) (now (answers .exit))) ⌝ }
 {
     let n = calls.len() / 5;
     let mut y = x;

@@ -25,9 +25,12 @@ fn alter(
     types: u32,
     change: Change,
 ) -> Done
-    requires { ⌜ ((w : Parameters) × (m : Machine) × (closed : List ℕ) × Running w x (now vt) (now et) (now t) (now places) closed types m) ⌝ }
-    ensures { λ r. ⌜ ((w : Parameters) → (m : Machine) → (closed : List ℕ) → Running w x (now (vt .entry)) (now (et .entry)) (now (t .entry)) (now (places .entry)) closed types m
-        → Answered w m (the.Alter change) (r .version) (r .code) (r .number) (now (vt .exit)) (now (et .exit)) (now (t .exit)) (now (places .entry)) closed types) ⌝ }
+    requires { ⌜ ((w : Parameters) × (m : Machine) × (closed : List ℕ)
+        × Running w x (now vt) (now et) (now t) (now places) closed types m) ⌝ }
+    ensures { λ r. ⌜ ((w : Parameters) → (m : Machine) → (closed : List ℕ)
+        → Running w x (now (vt .entry)) (now (et .entry)) (now (t .entry)) (now (places .entry)) closed types m
+        → Answered w m (the.Alter change) (r .version) (r .code) (r .number) (now (vt .exit)) (now (et .exit))
+        (now (t .exit)) (now (places .entry)) closed types) ⌝ }
 {
     match change {
         Change::DeleteVertex(a) => delete_vertex(x, vt, et, t, places, a),
@@ -35,7 +38,8 @@ fn alter(
     }
 }
 
-// A change of one edit: its kind is chosen once, and codes, row and tables go together. Cost 0 says that nothing was written:
+// A change of one edit: its kind is chosen once, and codes, row and tables go together. Cost 0 says that nothing was
+// written:
 // it is refused, or alters nothing.
 fn single(
     x: Version,
@@ -46,9 +50,13 @@ fn single(
     types: u32,
     change: Change,
 ) -> Done
-    requires { ⌜ OneEdit change × ((w : Parameters) × (m : Machine) × (closed : List ℕ) × Running w x (now vt) (now et) (now t) (now places) closed types m) ⌝ }
-    ensures { λ r. ⌜ ((w : Parameters) → (m : Machine) → (closed : List ℕ) → Running w x (now (vt .entry)) (now (et .entry)) (now (t .entry)) (now (places .entry)) closed types m
-        → Answered w m (the.Alter change) (r .version) (r .code) (r .number) (now (vt .exit)) (now (et .exit)) (now (t .exit)) (now (places .entry)) closed types) ⌝ }
+    requires { ⌜ OneEdit change
+        × ((w : Parameters) × (m : Machine) × (closed : List ℕ)
+        × Running w x (now vt) (now et) (now t) (now places) closed types m) ⌝ }
+    ensures { λ r. ⌜ ((w : Parameters) → (m : Machine) → (closed : List ℕ)
+        → Running w x (now (vt .entry)) (now (et .entry)) (now (t .entry)) (now (places .entry)) closed types m
+        → Answered w m (the.Alter change) (r .version) (r .code) (r .number) (now (vt .exit)) (now (et .exit))
+        (now (t .exit)) (now (places .entry)) closed types) ⌝ }
 {
     let capacity = (t.len() / 12) as u32;
     let used = x.current.position.used;
@@ -70,9 +78,12 @@ fn delete_vertex(
     places: &[u32; 64],
     a: u32,
 ) -> Done
-    requires { ⌜ ((w : Parameters) × (m : Machine) × (closed : List ℕ) × (types : ℕ) × Running w x (now vt) (now et) (now t) (now places) closed types m) ⌝ }
-    ensures { λ r. ⌜ ((w : Parameters) → (m : Machine) → (closed : List ℕ) → (types : ℕ) → Running w x (now (vt .entry)) (now (et .entry)) (now (t .entry)) (now (places .entry)) closed types m
-        → Answered w m (the.Alter (Change.DeleteVertex a)) (r .version) (r .code) (r .number) (now (vt .exit)) (now (et .exit)) (now (t .exit)) (now (places .entry)) closed types) ⌝ }
+    requires { ⌜ ((w : Parameters) × (m : Machine) × (closed : List ℕ) × (types : ℕ)
+        × Running w x (now vt) (now et) (now t) (now places) closed types m) ⌝ }
+    ensures { λ r. ⌜ ((w : Parameters) → (m : Machine) → (closed : List ℕ) → (types : ℕ)
+        → Running w x (now (vt .entry)) (now (et .entry)) (now (t .entry)) (now (places .entry)) closed types m
+        → Answered w m (the.Alter (Change.DeleteVertex a)) (r .version) (r .code) (r .number) (now (vt .exit))
+        (now (et .exit)) (now (t .exit)) (now (places .entry)) closed types) ⌝ }
 {
     let code = vertex_code(vt, a);
     if code != 0 {
@@ -90,8 +101,10 @@ fn ask(
     types: u32,
     question: Question,
 ) -> Done
-    requires { ⌜ ((w : Parameters) × (m : Machine) × (t : List ℕ) × (places : List ℕ) × Running w x (now vt) (now et) t places (now closed) types m) ⌝ }
-    ensures { λ r. ⌜ ((w : Parameters) → (m : Machine) → (t places : List ℕ) → Running w x (now (vt .entry)) (now (et .entry)) t places (now (closed .entry)) types m
+    requires { ⌜ ((w : Parameters) × (m : Machine) × (t : List ℕ) × (places : List ℕ)
+        × Running w x (now vt) (now et) t places (now closed) types m) ⌝ }
+    ensures { λ r. ⌜ ((w : Parameters) → (m : Machine) → (t places : List ℕ)
+        → Running w x (now (vt .entry)) (now (et .entry)) t places (now (closed .entry)) types m
         → Stays w m (the.Ask question) x r (now (vt .entry)) (now (et .entry)) t places (now (closed .entry)) types) ⌝ }
 {
     let head = x.current.head;
@@ -101,8 +114,10 @@ fn ask(
 
 // A call of the price list.
 fn quote(x: Version, vt: &[u32], et: &[u32], call: PriceCall) -> Done
-    requires { ⌜ ((w : Parameters) × (m : Machine) × (t : List ℕ) × (places : List ℕ) × (closed : List ℕ) × (types : ℕ) × Running w x (now vt) (now et) t places closed types m) ⌝ }
-    ensures { λ r. ⌜ ((w : Parameters) → (m : Machine) → (t places closed : List ℕ) → (types : ℕ) → Running w x (now (vt .entry)) (now (et .entry)) t places closed types m
+    requires { ⌜ ((w : Parameters) × (m : Machine) × (t : List ℕ) × (places : List ℕ) × (closed : List ℕ) × (types : ℕ)
+        × Running w x (now vt) (now et) t places closed types m) ⌝ }
+    ensures { λ r. ⌜ ((w : Parameters) → (m : Machine) → (t places closed : List ℕ) → (types : ℕ)
+        → Running w x (now (vt .entry)) (now (et .entry)) t places closed types m
         → Stays w m (the.Quote call) x r (now (vt .entry)) (now (et .entry)) t places closed types) ⌝ }
 {
     let r = prices::quote(vt, et, call);
@@ -111,7 +126,8 @@ fn quote(x: Version, vt: &[u32], et: &[u32], call: PriceCall) -> Done
 
 // Code 1: a kind that is not named.
 fn unknown(x: Version) -> Done
-    ensures { λ r. ⌜ ((w : Parameters) → (m : Machine) → (vt et t places closed : List ℕ) → (types : ℕ) → Running w x vt et t places closed types m → Stays w m the.Unknown x r vt et t places closed types) ⌝ }
+    ensures { λ r. ⌜ ((w : Parameters) → (m : Machine) → (vt et t places closed : List ℕ) → (types : ℕ)
+        → Running w x vt et t places closed types m → Stays w m the.Unknown x r vt et t places closed types) ⌝ }
 {
     versions::stay(x, 1, 0)
 }

@@ -28,7 +28,25 @@ use Rattle.graph.specs.declared.Change.the-variants.{
   WordBefore,
   WordAfter,
 }
-use Rattle.graph.specs.Graph.{Vertex, Edge, Graph, vn, en, wd, noVertex, noEdge, edge, outWord, inWord, edgeOf, bySide, this, listOf, readingOf, isReading}
+use Rattle.graph.specs.Graph.{
+  Vertex,
+  Edge,
+  Graph,
+  vn,
+  en,
+  wd,
+  noVertex,
+  noEdge,
+  edge,
+  outWord,
+  inWord,
+  edgeOf,
+  bySide,
+  this,
+  listOf,
+  readingOf,
+  isReading,
+}
 use Rattle.graph.specs.WellFormed.{Bounds}
 
 -- ---- one part of a record replaced
@@ -44,7 +62,14 @@ withEdge t r e = record { number = e .number; alpha = e .alpha; omega = e .omega
 
 -- the end that the oriented word w is seen from becomes u
 abbrev pub withEnd : ℕ → ℕ → Edge → Edge
-withEnd w u e = record { number = e .number; alpha = bySide w u (e .alpha); omega = bySide w (e .omega) u; type = e .type; reading = e .reading }
+withEnd w u e = record {
+  number = e .number;
+  alpha = bySide w u (e .alpha);
+  omega = bySide w
+      (e .omega) u;
+  type = e .type;
+  reading = e .reading;
+}
 
 -- word w last in the list of v; out of it
 abbrev pub append : List Vertex → ℕ → ℕ → List Vertex
@@ -179,7 +204,8 @@ abbrev pub EdgeThere : Graph → ℕ → Type 0
 EdgeThere g n = countBy en n (g .eseq) ≡ 1
 
 abbrev pub Allowed : Bounds → Graph → Change → Type 0
-Allowed b g (CreateVertex n t x) = (1 ≤ n) × (n ≤ b .vertices) × (countBy vn n (g .vseq) ≡ 0) × (t < b .types) × (x < 2 ^ 32)
+Allowed b g (CreateVertex n t x) = (1 ≤ n) × (n ≤ b .vertices) × (countBy vn n (g .vseq) ≡ 0) × (t < b .types)
+    × (x < 2 ^ 32)
 Allowed b g (DeleteVertex a) = VertexThere g a
 Allowed b g (CreateEdge n a o t) =
     (1 ≤ n) × (n ≤ b .edges) × (countBy en n (g .eseq) ≡ 0) × VertexThere g a × VertexThere g o × (t < b .types)

@@ -5,8 +5,31 @@ use Prim.Native.Nat.{ℕ, _+_, _≤_}
 use Rattle.lists.specs.Choice.{is}
 use Rattle.lists.specs.Keyed.{countBy, ins, rem, prev, upd}
 use Rattle.graph.specs.declared.Edit.{Edit}
-use Rattle.graph.specs.declared.Edit.the-variants.{InsertVertex, RemoveVertex, InsertEdge, RemoveEdge, SetVertex, SetEdge, MoveVertex, MoveEdge, MoveWord}
-use Rattle.graph.specs.Graph.{Vertex, Graph, vn, en, wd, vertexIn, edgeIn, listIn, thisIn, outWord, inWord, edgeOf}
+use Rattle.graph.specs.declared.Edit.the-variants.{
+  InsertVertex,
+  RemoveVertex,
+  InsertEdge,
+  RemoveEdge,
+  SetVertex,
+  SetEdge,
+  MoveVertex,
+  MoveEdge,
+  MoveWord,
+}
+use Rattle.graph.specs.Graph.{
+  Vertex,
+  Graph,
+  vn,
+  en,
+  wd,
+  vertexIn,
+  edgeIn,
+  listIn,
+  thisIn,
+  outWord,
+  inWord,
+  edgeOf,
+}
 use Rattle.graph.specs.WellFormed.{Bounds, VertexFits, EdgeFits}
 use Rattle.graph.specs.Changes.{withVertex, onList, withEdge, withEnd, detach}
 
@@ -27,7 +50,11 @@ attach vs v p w = upd vn v (onList (ins wd 0 p w)) vs
 
 -- the out word enters first and leaves last, so the words of a loop come back in their order
 abbrev pub apply : Edit → Graph → Graph
-apply (InsertVertex n t v p) g = record { vseq = ins vn 0 p (record { number = n; type = t; value = v; incidences = [] }) g.vseq; eseq = g.eseq }
+apply (InsertVertex n t v p) g = record {
+  vseq = ins vn 0 p
+      (record { number = n; type = t; value = v; incidences = [] }) g.vseq;
+  eseq = g.eseq;
+}
 apply (RemoveVertex n t v p) g = record { vseq = rem vn n g.vseq; eseq = g.eseq }
 apply (InsertEdge n a z t r p o i) g = record {
   vseq = attach (attach g.vseq a o (outWord n)) z i (inWord n);
@@ -60,15 +87,19 @@ pub record Fits {A : Type 0} (key : A → ℕ) (l : List A) (n p : ℕ) : Type 0
 -- the edit's old values are those of the graph, and its new places are there
 abbrev pub Applies : Edit → Graph → Type 0
 Applies (InsertVertex n t v p) g = Fits vn g.vseq n p
-Applies (RemoveVertex n t v p) g = Placed vn g.vseq n p × (vertexIn g.vseq n ≡ record { number = n; type = t; value = v; incidences = [] })
+Applies (RemoveVertex n t v p) g = Placed vn g.vseq n p
+    × (vertexIn g.vseq n ≡ record { number = n; type = t; value = v; incidences = [] })
 Applies (InsertEdge n a z t r p o i) g =
     Fits en g.eseq n p × (countBy vn a g.vseq ≡ 1) × (countBy vn z g.vseq ≡ 1)
-    × (1 ≤ is 0 o + countBy wd o (listIn g.vseq a)) × (1 ≤ is 0 i + countBy wd i (listIn (attach g.vseq a o (outWord n)) z))
+    × (1 ≤ is 0 o + countBy wd o (listIn g.vseq a))
+    × (1 ≤ is 0 i + countBy wd i (listIn (attach g.vseq a o (outWord n)) z))
 Applies (RemoveEdge n a z t r p o i) g =
     Placed en g.eseq n p × (edgeIn g.eseq n ≡ record { number = n; alpha = a; omega = z; type = t; reading = r })
     × (prev wd 0 (inWord n) (listIn g.vseq z) ≡ i) × (prev wd 0 (outWord n) (listIn (detach g.vseq z (inWord n)) a) ≡ o)
-Applies (SetVertex n t v t′ v′) g = (countBy vn n g.vseq ≡ 1) × (vertexIn g.vseq n .type ≡ t) × (vertexIn g.vseq n .value ≡ v)
-Applies (SetEdge n t r t′ r′) g = (countBy en n g.eseq ≡ 1) × (edgeIn g.eseq n .type ≡ t) × (edgeIn g.eseq n .reading ≡ r)
+Applies (SetVertex n t v t′ v′) g = (countBy vn n g.vseq ≡ 1) × (vertexIn g.vseq n .type ≡ t)
+    × (vertexIn g.vseq n .value ≡ v)
+Applies (SetEdge n t r t′ r′) g = (countBy en n g.eseq ≡ 1) × (edgeIn g.eseq n .type ≡ t)
+    × (edgeIn g.eseq n .reading ≡ r)
 Applies (MoveVertex n old new) g = Placed vn g.vseq n old × (1 ≤ is 0 new + countBy vn new (rem vn n g.vseq))
 Applies (MoveEdge n old new) g = Placed en g.eseq n old × (1 ≤ is 0 new + countBy en new (rem en n g.eseq))
 Applies (MoveWord w v old u new) g =

@@ -4,7 +4,17 @@ use Prim.Native.Nat.{ℕ}
 use Rattle.lists.specs.Keyed.{rem, prev, lastBy}
 use Rattle.graph.specs.declared.Reading.the-variants.{Untested}
 use Rattle.graph.specs.declared.Edit.{Edit}
-use Rattle.graph.specs.declared.Edit.the-variants.{InsertVertex, RemoveVertex, InsertEdge, RemoveEdge, SetVertex, SetEdge, MoveVertex, MoveEdge, MoveWord}
+use Rattle.graph.specs.declared.Edit.the-variants.{
+  InsertVertex,
+  RemoveVertex,
+  InsertEdge,
+  RemoveEdge,
+  SetVertex,
+  SetEdge,
+  MoveVertex,
+  MoveEdge,
+  MoveWord,
+}
 use Rattle.graph.specs.declared.Change.{Change}
 use Rattle.graph.specs.declared.Change.the-variants.{
   CreateVertex,
@@ -57,7 +67,8 @@ unfolding removal vertexRemoval wordMove
 plan (CreateVertex n t x) g = InsertVertex n t x (lastBy vn 0 (g .vseq))
 plan (DeleteVertex a) g = vertexRemoval a g
 plan (CreateEdge n a o t) g =
-    InsertEdge n a o t Untested (lastBy en 0 (g .eseq)) (lastBy wd 0 (listOf g a)) (lastBy wd 0 (listIn (append (g .vseq) a (outWord n)) o))
+    InsertEdge n a o t Untested (lastBy en 0 (g .eseq)) (lastBy wd 0 (listOf g a))
+    (lastBy wd 0 (listIn (append (g .vseq) a (outWord n)) o))
 plan (DeleteEdge a) g = removal a g
 plan (RetypeVertex a t) g = SetVertex a (vertex g a .type) (vertex g a .value) t (vertex g a .value)
 plan (RetypeEdge a t) g = SetEdge a (edge g a .type) (edge g a .reading) t (edge g a .reading)

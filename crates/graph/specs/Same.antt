@@ -6,9 +6,36 @@ use Rattle.lists.specs.Choice.{_==_}
 use Rattle.lists.specs.Lists.{same}
 use Rattle.graph.specs.declared.Reading.{Reading}
 use Rattle.graph.specs.declared.Change.{Change}
-use Rattle.graph.specs.declared.Change.the-variants.{CreateVertex, DeleteVertex, CreateEdge, DeleteEdge, RetypeVertex, RetypeEdge, SetValue, SetReading, SetAlpha, SetOmega, VertexBefore, VertexAfter, EdgeBefore, EdgeAfter, WordBefore, WordAfter}
+use Rattle.graph.specs.declared.Change.the-variants.{
+  CreateVertex,
+  DeleteVertex,
+  CreateEdge,
+  DeleteEdge,
+  RetypeVertex,
+  RetypeEdge,
+  SetValue,
+  SetReading,
+  SetAlpha,
+  SetOmega,
+  VertexBefore,
+  VertexAfter,
+  EdgeBefore,
+  EdgeAfter,
+  WordBefore,
+  WordAfter,
+}
 use Rattle.graph.specs.declared.Edit.{Edit}
-use Rattle.graph.specs.declared.Edit.the-variants.{InsertVertex, RemoveVertex, InsertEdge, RemoveEdge, SetVertex, SetEdge, MoveVertex, MoveEdge, MoveWord}
+use Rattle.graph.specs.declared.Edit.the-variants.{
+  InsertVertex,
+  RemoveVertex,
+  InsertEdge,
+  RemoveEdge,
+  SetVertex,
+  SetEdge,
+  MoveVertex,
+  MoveEdge,
+  MoveWord,
+}
 use Rattle.graph.specs.Graph.{Vertex, Edge, Graph, readingKind, decimetres}
 use Rattle.graph.specs.Changes.{changed}
 
@@ -16,11 +43,14 @@ abbrev pub sameReading : Reading → Reading → Bool
 sameReading r s = (readingKind r == readingKind s) && (decimetres r == decimetres s)
 
 abbrev pub sameVertex : Vertex → Vertex → Bool
-sameVertex v u = (v .number == u .number) && ((v .type == u .type) && ((v .value == u .value) && same (v .incidences) (u .incidences)))
+sameVertex v u = (v .number == u .number)
+    && ((v .type == u .type) && ((v .value == u .value) && same (v .incidences) (u .incidences)))
 
 abbrev pub sameEdge : Edge → Edge → Bool
 sameEdge e f =
-    (e .number == f .number) && ((e .alpha == f .alpha) && ((e .omega == f .omega) && ((e .type == f .type) && sameReading (e .reading) (f .reading))))
+    (e .number == f .number)
+    && ((e .alpha == f .alpha)
+    && ((e .omega == f .omega) && ((e .type == f .type) && sameReading (e .reading) (f .reading))))
 
 -- element by element
 abbrev pub sameBy : {A : Type 0} → (A → A → Bool) → List A → List A → Bool

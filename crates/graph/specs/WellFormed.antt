@@ -8,7 +8,25 @@ use Rattle.lists.specs.Choice.{_⇒_else_, _==_, pick, is, within}
 use Rattle.lists.specs.Lists.{all, All, distinct, count}
 use Rattle.lists.specs.Keyed.{countBy}
 use Rattle.graph.specs.declared.Reading.{Reading}
-use Rattle.graph.specs.Graph.{Vertex, Edge, Graph, vn, en, wd, hasVertex, vertexNumbers, edgeNumbers, outWord, inWord, edgeOf, listIn, thisIn, readingKind, decimetres, isReading}
+use Rattle.graph.specs.Graph.{
+  Vertex,
+  Edge,
+  Graph,
+  vn,
+  en,
+  wd,
+  hasVertex,
+  vertexNumbers,
+  edgeNumbers,
+  outWord,
+  inWord,
+  edgeOf,
+  listIn,
+  thisIn,
+  readingKind,
+  decimetres,
+  isReading,
+}
 
 -- capacities of vertices and edges, and the number of types
 pub record Bounds : Type 0 where
@@ -18,7 +36,8 @@ pub record Bounds : Type 0 where
 
 -- the oriented words of an edge, of edges, whose this is v: both, of a loop at v (REFERENCE 1.8)
 abbrev pub wordsOf : ℕ → Edge → List ℕ
-wordsOf v e = ((v == e .alpha) ⇒ (outWord (e .number) ∷ []) else []) ++ ((v == e .omega) ⇒ (inWord (e .number) ∷ []) else [])
+wordsOf v e = ((v == e .alpha) ⇒ (outWord (e .number) ∷ []) else [])
+    ++ ((v == e .omega) ⇒ (inWord (e .number) ∷ []) else [])
 
 unfoldable pub wordsAt : List Edge → ℕ → List ℕ
 wordsAt [] v = []
@@ -43,7 +62,8 @@ soundEdge b g e =
 unfoldable pub wellFormed : Bounds → Graph → Bool
 unfolding wordsAt
 wellFormed b g =
-    distinct (vertexNumbers g) && distinct (edgeNumbers g) && all (soundVertex b g) (g .vseq) && all (soundEdge b g) (g .eseq)
+    distinct (vertexNumbers g) && distinct (edgeNumbers g) && all (soundVertex b g) (g .vseq)
+    && all (soundEdge b g) (g .eseq)
 
 -- ---- the same as facts: proofs/Facts shows that the test holds exactly where both records do
 
@@ -55,7 +75,8 @@ Ordered key l = (n : ℕ) → is 0 n + countBy key n l ≤ 1
 pub record WellFormed (g : Graph) : Type 0 where
   pub vorder : Ordered vn (g .vseq)
   pub eorder : Ordered en (g .eseq)
-  pub lists : (u k : ℕ) → countBy wd k (listIn (g .vseq) u) ≡ pick (thisIn (g .eseq) k) u (countBy en (edgeOf k) (g .eseq)) 0
+  pub lists : (u k : ℕ)
+      → countBy wd k (listIn (g .vseq) u) ≡ pick (thisIn (g .eseq) k) u (countBy en (edgeOf k) (g .eseq)) 0
   pub ends : (k : ℕ) → countBy en (edgeOf k) (g .eseq) ≡ 1 → countBy vn (thisIn (g .eseq) k) (g .vseq) ≡ 1
 
 -- the number, type and value of a vertex; the number, type and reading of an edge

@@ -6,7 +6,17 @@ use mathlib.Core.List.{List, [], _∷_}
 use lib.ListN.{getD, set}
 use Rattle.lists.specs.Choice.{_⇒_else_, _==_}
 use Rattle.graph.specs.declared.Edit.{Edit}
-use Rattle.graph.specs.declared.Edit.the-variants.{InsertVertex, RemoveVertex, InsertEdge, RemoveEdge, SetVertex, SetEdge, MoveVertex, MoveEdge, MoveWord}
+use Rattle.graph.specs.declared.Edit.the-variants.{
+  InsertVertex,
+  RemoveVertex,
+  InsertEdge,
+  RemoveEdge,
+  SetVertex,
+  SetEdge,
+  MoveVertex,
+  MoveEdge,
+  MoveWord,
+}
 use Rattle.graph.specs.Edits.{inverse}
 use Rattle.graph.specs.Graph.{readingKind, decimetres, readingOf}
 
@@ -17,7 +27,8 @@ wordsOf (RemoveVertex n t v p) = 2 ∷ n ∷ t ∷ v ∷ p ∷ 0 ∷ 0 ∷ 0 ∷
 wordsOf (InsertEdge n a z t r p o i) = 3 ∷ n ∷ a ∷ z ∷ t ∷ readingKind r ∷ decimetres r ∷ p ∷ o ∷ i ∷ []
 wordsOf (RemoveEdge n a z t r p o i) = 4 ∷ n ∷ a ∷ z ∷ t ∷ readingKind r ∷ decimetres r ∷ p ∷ o ∷ i ∷ []
 wordsOf (SetVertex n t v t′ v′) = 5 ∷ n ∷ t ∷ v ∷ t′ ∷ v′ ∷ 0 ∷ 0 ∷ 0 ∷ 0 ∷ []
-wordsOf (SetEdge n t r t′ r′) = 6 ∷ n ∷ t ∷ readingKind r ∷ decimetres r ∷ t′ ∷ readingKind r′ ∷ decimetres r′ ∷ 0 ∷ 0 ∷ []
+wordsOf (SetEdge n t r t′ r′) =
+    6 ∷ n ∷ t ∷ readingKind r ∷ decimetres r ∷ t′ ∷ readingKind r′ ∷ decimetres r′ ∷ 0 ∷ 0 ∷ []
 wordsOf (MoveVertex n old new) = 7 ∷ n ∷ old ∷ new ∷ 0 ∷ 0 ∷ 0 ∷ 0 ∷ 0 ∷ 0 ∷ []
 wordsOf (MoveEdge n old new) = 8 ∷ n ∷ old ∷ new ∷ 0 ∷ 0 ∷ 0 ∷ 0 ∷ 0 ∷ 0 ∷ []
 wordsOf (MoveWord w v old u new) = 9 ∷ w ∷ v ∷ old ∷ u ∷ new ∷ 0 ∷ 0 ∷ 0 ∷ 0 ∷ []

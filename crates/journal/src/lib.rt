@@ -34,7 +34,8 @@ fn put_five(t: &mut [u32], q: usize, x: Five)
 
 fn put_ten(t: &mut [u32], q: usize, x: Five, y: Five)
     requires { ⌜ q + 10 ≤ length (now t) ⌝ }
-    ensures { λ _. ⌜ now (t .exit) ≡ storeFrom q (x .a ∷ x .b ∷ x .c ∷ x .d ∷ x .e ∷ y .a ∷ y .b ∷ y .c ∷ y .d ∷ y .e ∷ []) (now (t .entry)) ⌝ }
+    ensures { λ _. ⌜ now (t .exit) ≡ storeFrom q
+        (x .a ∷ x .b ∷ x .c ∷ x .d ∷ x .e ∷ y .a ∷ y .b ∷ y .c ∷ y .d ∷ y .e ∷ []) (now (t .entry)) ⌝ }
 {
     put_five(t, q, x);
     put_five(t, q + 1 + 1 + 1 + 1 + 1, y);

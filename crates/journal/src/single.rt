@@ -14,7 +14,9 @@ ghost use Rattle.journal.specs.Rows.{storeFrom, rowed, IsWords};
 // Ten words and the cost of their step as row i.
 fn put_words(t: &mut [u32], i: u32, cost: u32, x: Five, y: Five)
     requires { ⌜ 12 * i + 12 ≤ length (now t) ⌝ }
-    ensures { λ _. ⌜ now (t .exit) ≡ set (storeFrom (12 * i) (x .a ∷ x .b ∷ x .c ∷ x .d ∷ x .e ∷ y .a ∷ y .b ∷ y .c ∷ y .d ∷ y .e ∷ []) (now (t .entry))) (12 * i + 10) cost ⌝ }
+    ensures { λ _. ⌜ now (t .exit) ≡ set
+        (storeFrom (12 * i) (x .a ∷ x .b ∷ x .c ∷ x .d ∷ x .e ∷ y .a ∷ y .b ∷ y .c ∷ y .d ∷ y .e ∷ []) (now (t .entry)))
+        (12 * i + 10) cost ⌝ }
 {
     let q = 12 * wide(i);
     put_ten(t, q, x, y);
@@ -83,7 +85,8 @@ pub fn insert_edge(
     into: u32,
 )
     requires { ⌜ 12 * i + 12 ≤ length (now t) ⌝ }
-    ensures { λ _. ⌜ now (t .exit) ≡ rowed i (Edit.InsertEdge n a z s Reading.Untested p out into) 1 (now (t .entry)) ⌝ }
+    ensures { λ _. ⌜ now (t .exit) ≡ rowed i (Edit.InsertEdge n a z s Reading.Untested p out into) 1
+        (now (t .entry)) ⌝ }
 {
     put_words(
         t,
@@ -121,7 +124,8 @@ pub fn remove_edge(
     into: u32,
 )
     requires { ⌜ (12 * i + 12 ≤ length (now t)) × IsWords k d ⌝ }
-    ensures { λ _. ⌜ now (t .exit) ≡ rowed i (Edit.RemoveEdge n a z s (readingOf k d) p out into) cost (now (t .entry)) ⌝ }
+    ensures { λ _. ⌜ now (t .exit) ≡ rowed i (Edit.RemoveEdge n a z s (readingOf k d) p out into) cost
+        (now (t .entry)) ⌝ }
 {
     put_words(
         t,
@@ -171,7 +175,8 @@ pub fn set_vertex(t: &mut [u32], i: u32, n: u32, s: u32, x: u32, s2: u32, x2: u3
 
 pub fn set_edge(t: &mut [u32], i: u32, n: u32, s: u32, k: u32, d: u32, s2: u32, k2: u32, d2: u32)
     requires { ⌜ (12 * i + 12 ≤ length (now t)) × IsWords k d × IsWords k2 d2 ⌝ }
-    ensures { λ _. ⌜ now (t .exit) ≡ rowed i (Edit.SetEdge n s (readingOf k d) s2 (readingOf k2 d2)) 1 (now (t .entry)) ⌝ }
+    ensures { λ _. ⌜ now (t .exit) ≡ rowed i (Edit.SetEdge n s (readingOf k d) s2 (readingOf k2 d2)) 1
+        (now (t .entry)) ⌝ }
 {
     put_words(
         t,

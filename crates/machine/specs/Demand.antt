@@ -31,7 +31,12 @@ pub record Demand3 (l : Lent) (r : RunResult) : Type 0 where
   -- REFERENCE 2.3
   pub each-call : (xs ys : List Call) (x : Call) → xs ++ (x ∷ ys) ≡ callsOf (l .calls) →
       answers (parametersOf l) (begins l) (callsOf (l .calls)) ≡
-      answers (parametersOf l) (begins l) xs ++ (answer (parametersOf l) (after l xs) x ∷ answers (parametersOf l) (step (parametersOf l) (after l xs) x) ys)
+      answers (parametersOf l) (begins l) xs
+      ++ (answer (parametersOf l) (after l xs) x ∷ answers (parametersOf l)
+      (step (parametersOf l) (after l xs) x) ys)
   -- at each point, also after the last call: the events are the calls with the codes answered
-  pub event-codes : (xs : List Call) → map (λ (e : Event). e .code) (events (parametersOf l) (begins l) xs) ≡ map (λ (a : Answer). a .code) (answers (parametersOf l) (begins l) xs)
-  pub every-point : (xs ys : List Call) → xs ++ ys ≡ callsOf (l .calls) → MarkSentence (parametersOf l) (load (l .start)) xs
+  pub event-codes : (xs : List Call)
+      → map (λ (e : Event). e .code) (events (parametersOf l) (begins l) xs) ≡ map (λ (a : Answer). a .code)
+      (answers (parametersOf l) (begins l) xs)
+  pub every-point : (xs ys : List Call) → xs ++ ys ≡ callsOf (l .calls)
+      → MarkSentence (parametersOf l) (load (l .start)) xs

@@ -1,4 +1,5 @@
--- Demands 1 and 2 as claims about the result of any list. What the tables hold is no part of a result, so demand 1 takes the
+-- Demands 1 and 2 as claims about the result of any list. What the tables hold is no part of a result, so demand 1
+-- takes the
 -- claim that they are as they were.
 use Prim.Native.Nat.{ℕ, suc}
 use mathlib.Core.Path.{_≡_}
@@ -31,7 +32,8 @@ Each P w m [] (a ∷ bs) = ⊥
 Each P w m (x ∷ xs) [] = ⊥
 Each P w m (x ∷ xs) (a ∷ bs) = P m x a × Each P w (step w m x) xs bs
 
--- the code of a call is the lowest of the table on its five words; a refused call answers 0 and leaves graph, marks and history
+-- the code of a call is the lowest of the table on its five words; a refused call answers 0 and leaves graph, marks and
+-- history
 pub record ByTable (w : Parameters) (m : Machine) (x : Call) (a : Answer) : Type 0 where
   pub refused-by : (k : ℕ) → (a .code ≡ suc k) ↔ First (suc k) (codeTable w m x)
   pub accepted : (a .code ≡ 0) ↔ NoneApplies (codeTable w m x)
@@ -44,7 +46,8 @@ pub record Demand1 (l : Lent) (r : RunResult) (tables-stay : Type 0) : Type 0 wh
   -- else each call has its answer
   pub answered : NoneApplies (listTable l) →
       (r .code ≡ 0) × (r .done ≡ length (callsOf (l .calls)))
-      × ((bs : List Answer) × (r .answers ≡ over (answerWords bs) (l .answers)) × Each (ByTable (parametersOf l)) (parametersOf l) (begins l) (callsOf (l .calls)) bs)
+      × ((bs : List Answer) × (r .answers ≡ over (answerWords bs) (l .answers))
+      × Each (ByTable (parametersOf l)) (parametersOf l) (begins l) (callsOf (l .calls)) bs)
 
 -- the number of an accepted question or price is that of the graph held then
 pub record OfTheGraph (w : Parameters) (m : Machine) (x : Call) (a : Answer) : Type 0 where
@@ -53,9 +56,12 @@ pub record OfTheGraph (w : Parameters) (m : Machine) (x : Call) (a : Answer) : T
 
 pub record Demand2 (l : Lent) (r : RunResult) : Type 0 where
   pub answered : NoneApplies (listTable l) →
-      ((bs : List Answer) × (r .answers ≡ over (answerWords bs) (l .answers)) × Each (OfTheGraph (parametersOf l)) (parametersOf l) (begins l) (callsOf (l .calls)) bs)
+      ((bs : List Answer) × (r .answers ≡ over (answerWords bs) (l .answers))
+      × Each (OfTheGraph (parametersOf l)) (parametersOf l) (begins l) (callsOf (l .calls)) bs)
   -- words load exactly where some graph within the capacities saves as them, and then they are that graph
-  pub loads : (ws : List ℕ) → (loadable (boundsIn (parametersOf l)) ws ≡ true) ↔ ((g : Graph) × (wellFormed (boundsIn (parametersOf l)) g ≡ true) × (save g ≡ ws))
+  pub loads : (ws : List ℕ)
+      → (loadable (boundsIn (parametersOf l)) ws ≡ true) ↔ ((g : Graph)
+      × (wellFormed (boundsIn (parametersOf l)) g ≡ true) × (save g ≡ ws))
   pub same : (g : Graph) → wellFormed (boundsIn (parametersOf l)) g ≡ true → load (save g) ≡ g
   -- and so is the end image of this list
   pub ends : NoneApplies (listTable l) → All Words (callsOf (l .calls)) →

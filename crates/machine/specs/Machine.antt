@@ -4,7 +4,18 @@ use mathlib.Core.List.{List, [], _∷_}
 use Rattle.lists.specs.Choice.{bit}
 use Rattle.lists.specs.Lists.{first, after, before}
 use Rattle.types.specs.Types.{below}
-use Rattle.graph.specs.Graph.{Graph, vertex, edge, vertexNumbers, edgeNumbers, this, that, listOf, readingKind, decimetres}
+use Rattle.graph.specs.Graph.{
+  Graph,
+  vertex,
+  edge,
+  vertexNumbers,
+  edgeNumbers,
+  this,
+  that,
+  listOf,
+  readingKind,
+  decimetres,
+}
 use Rattle.graph.specs.Questions.{degree}
 use Rattle.history.specs.Machine.{Machine, present}
 use Rattle.machine.specs.Rules.{Effect, nothing, Deed, deed, changeDeed, historyDeed, Rule, answered, followed}

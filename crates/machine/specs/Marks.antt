@@ -49,7 +49,8 @@ setsBy nothing k = false
 abbrev pub setsMark : ℕ → Event → Bool
 setsMark k e = (e .code == 0) && setsBy (e .effect) k
 
--- whether an accepted call at place p ends mark k, which stands at q: k set anew or dropped, a commit, a change with p below q
+-- whether an accepted call at place p ends mark k, which stands at q: k set anew or dropped, a commit, a change with p
+-- below q
 abbrev pub endsBy : Effect → ℕ → ℕ → ℕ → Bool
 endsBy (steps s) k q p = ltb p q
 endsBy (marks n) k q p = k == n
@@ -74,8 +75,10 @@ goTo k b c d = five 21 k b c d
 -- at the point after the calls xs
 pub record MarkSentence (w : Parameters) (g : Graph) (xs : List Call) : Type 0 where
   -- a mark stands, with place q, exactly when a call set it there and it was kept since
-  pub stands-iff : (k q : ℕ) → (last w (fresh g) xs .marks k ≡ at q) ↔ ((h : Graph) × Kept k q h (events w (fresh g) xs))
-  -- going to it is accepted, gives the graph held when it was last set, and moves as many steps as lie between the places
+  pub stands-iff : (k q : ℕ)
+      → (last w (fresh g) xs .marks k ≡ at q) ↔ ((h : Graph) × Kept k q h (events w (fresh g) xs))
+  -- going to it is accepted, gives the graph held when it was last set, and moves as many steps as lie between the
+  -- places
   pub going : (k q : ℕ) (h : Graph) (b c d : ℕ) → Kept k q h (events w (fresh g) xs) →
       (answer w (last w (fresh g) xs) (goTo k b c d) .code ≡ 0)
       × (present (step w (last w (fresh g) xs) (goTo k b c d)) ≡ h)

@@ -1,4 +1,5 @@
--- What an accepted change and an accepted history call do, and the rule of each: its code, its number and the state after it.
+-- What an accepted change and an accepted history call do, and the rule of each: its code, its number and the state
+-- after it.
 use Prim.Native.Nat.{ℕ, suc, _-_}
 use mathlib.Core.Path.{_≡_}
 use Rattle.lists.specs.Choice.{_⇒_else_, _==_}
@@ -6,10 +7,34 @@ use Rattle.graph.specs.declared.Change.{Change}
 use Rattle.graph.specs.Changes.{cost}
 use Rattle.graph.specs.Same.{alters}
 use Rattle.commands.specs.declared.HistoryCall.{HistoryCall}
-use Rattle.commands.specs.declared.HistoryCall.the-variants.{SetMark, DropMark, Undo, Redo, GoTo, Commit, Between, Standing, Free}
+use Rattle.commands.specs.declared.HistoryCall.the-variants.{
+  SetMark,
+  DropMark,
+  Undo,
+  Redo,
+  GoTo,
+  Commit,
+  Between,
+  Standing,
+  Free,
+}
 use Rattle.commands.specs.Tables.{lowest}
 use Rattle.commands.specs.Commands.{historyCall}
-use Rattle.history.specs.Machine.{Step, stepOf, Machine, freeOf, distance, placeOr, standing, present, changes, moves, sets, drops, commits}
+use Rattle.history.specs.Machine.{
+  Step,
+  stepOf,
+  Machine,
+  freeOf,
+  distance,
+  placeOr,
+  standing,
+  present,
+  changes,
+  moves,
+  sets,
+  drops,
+  commits,
+}
 use Rattle.machine.specs.HistoryCodes.{tooDear, historyTable}
 
 -- what an accepted call does: a step, a mark set or dropped, another place, a commit, or nothing
@@ -45,7 +70,8 @@ historyDeed capacity (DropMark k) m = deed 0 (unmarks k)
 historyDeed capacity Undo m = deed 1 (goes (m .line .place - 1))
 historyDeed capacity Redo m = deed 1 (goes (suc (m .line .place)))
 historyDeed capacity (GoTo k) m =
-    deed (distance (m .line .place) (placeOr (m .line .place) (m .marks k))) (goes (placeOr (m .line .place) (m .marks k)))
+    deed (distance (m .line .place) (placeOr (m .line .place) (m .marks k)))
+    (goes (placeOr (m .line .place) (m .marks k)))
 historyDeed capacity Commit m = deed (m .line .place) clears
 historyDeed capacity (Between j k) m = deed (distance (placeOr 0 (m .marks j)) (placeOr 0 (m .marks k))) nothing
 historyDeed capacity Standing m = deed (standing (m .marks)) nothing
@@ -76,4 +102,8 @@ abbrev pub changeRule : ℕ → Change → Rule
 changeRule capacity c = record { code = λ m. tooDear capacity m c ⇒ 10 else 0; deed = changeDeed c }
 
 abbrev pub historyRule : ℕ → HistoryCall → Rule
-historyRule capacity h = record { code = λ m. lowest (historyTable capacity m (historyCall h)); deed = historyDeed capacity h }
+historyRule capacity h = record {
+  code = λ m. lowest
+      (historyTable capacity m (historyCall h));
+  deed = historyDeed capacity h;
+}

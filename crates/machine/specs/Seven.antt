@@ -34,15 +34,20 @@ untested n a o = record { number = n; alpha = a; omega = o; type = 0; reading = 
 -- as a literal
 abbrev pub seven : Graph
 seven = record {
-  vseq = plainVertex 1 (2 ∷ 3 ∷ 4 ∷ 6 ∷ 9 ∷ 11 ∷ []) ∷ plainVertex 2 (5 ∷ 7 ∷ 8 ∷ 13 ∷ []) ∷ plainVertex 3 [] ∷ plainVertex 4 (10 ∷ 12 ∷ 14 ∷ 15 ∷ []) ∷ [];
-  eseq = untested 1 1 1 ∷ untested 2 1 2 ∷ untested 3 1 2 ∷ untested 4 2 1 ∷ untested 5 4 1 ∷ untested 6 4 2 ∷ untested 7 4 4 ∷ [];
+  vseq =
+      plainVertex 1 (2 ∷ 3 ∷ 4 ∷ 6 ∷ 9 ∷ 11 ∷ []) ∷ plainVertex 2 (5 ∷ 7 ∷ 8 ∷ 13 ∷ []) ∷
+      plainVertex 3 [] ∷ plainVertex 4 (10 ∷ 12 ∷ 14 ∷ 15 ∷ []) ∷ [];
+  eseq =
+      untested 1 1 1 ∷ untested 2 1 2 ∷ untested 3 1 2 ∷ untested 4 2 1 ∷
+      untested 5 4 1 ∷ untested 6 4 2 ∷ untested 7 4 4 ∷ [];
 }
 
 -- proofs/Cases shows that these calls make it from the empty graph
 abbrev pub making : List Call
 making =
     call 1 1 0 0 0 ∷ call 1 2 0 0 0 ∷ call 1 3 0 0 0 ∷ call 1 4 0 0 0 ∷
-    call 3 1 1 1 0 ∷ call 3 2 1 2 0 ∷ call 3 3 1 2 0 ∷ call 3 4 2 1 0 ∷ call 3 5 4 1 0 ∷ call 3 6 4 2 0 ∷ call 3 7 4 4 0 ∷ []
+    call 3 1 1 1 0 ∷ call 3 2 1 2 0 ∷ call 3 3 1 2 0 ∷ call 3 4 2 1 0 ∷
+    call 3 5 4 1 0 ∷ call 3 6 4 2 0 ∷ call 3 7 4 4 0 ∷ []
 
 -- the list of v as the calls build it from the empty graph
 unfoldable pub builtList : ℕ → List ℕ

@@ -28,7 +28,8 @@ pub fn place_of(places: &[u32; 64], a: u32) -> u32
 // Kind 17: mark a, which does not stand, at place p.
 pub fn set_mark(set: u64, places: &mut [u32; 64], a: u32, p: u32) -> u64
     requires { ⌜ (1 ≤ a) × (a ≤ 64) × (inSet set a ≡ false) ⌝ }
-    ensures { λ r. ⌜ ((ms : ℕ → Standing) → Marked ms set (now (places .entry)) → Marked (marked a (at p) ms) r (now (places .exit))) ⌝ }
+    ensures { λ r. ⌜ ((ms : ℕ → Standing) → Marked ms set (now (places .entry))
+        → Marked (marked a (at p) ms) r (now (places .exit))) ⌝ }
     ensures { λ r. ⌜ now (places .exit) ≡ setAt (now (places .entry)) (a - 1) p ⌝ }
 {
     let k = a - 1;
@@ -39,7 +40,8 @@ pub fn set_mark(set: u64, places: &mut [u32; 64], a: u32, p: u32) -> u64
 // Kind 18: mark a, which stands, goes.
 pub fn drop_mark(set: u64, a: u32) -> u64
     requires { ⌜ (1 ≤ a) × (a ≤ 64) × (inSet set a ≡ true) ⌝ }
-    ensures { λ r. ⌜ ((places : List ℕ) → (ms : ℕ → Standing) → Marked ms set places → Marked (marked a gone ms) r places) ⌝ }
+    ensures { λ r. ⌜ ((places : List ℕ) → (ms : ℕ → Standing) → Marked ms set places
+        → Marked (marked a gone ms) r places) ⌝ }
 {
     let k = a - 1;
     set ^ (1u64 << k)
@@ -48,7 +50,8 @@ pub fn drop_mark(set: u64, a: u32) -> u64
 // Mark a, which has place q, goes where q is above p.
 fn cut_mark(set: u64, a: u32, q: u32, p: u32) -> u64
     requires { ⌜ (1 ≤ a) × (a ≤ 64) ⌝ }
-    ensures { λ r. ⌜ ((places : List ℕ) → (ms : ℕ → Standing) → q ≡ getD places (a - 1) 0 → Marked ms set places → Marked (marked a (cut p (ms a)) ms) r places) ⌝ }
+    ensures { λ r. ⌜ ((places : List ℕ) → (ms : ℕ → Standing) → q ≡ getD places (a - 1) 0 → Marked ms set places
+        → Marked (marked a (cut p (ms a)) ms) r places) ⌝ }
 {
     if p < q {
         if stands(set, a) {
@@ -61,7 +64,8 @@ fn cut_mark(set: u64, a: u32, q: u32, p: u32) -> u64
 
 // A change at place p: the marks whose place is above p go.
 pub fn cut_marks(set: u64, places: &[u32; 64], p: u32) -> u64
-    ensures { λ r. ⌜ ((ms : ℕ → Standing) → Marked ms set (now (places .entry)) → Marked (cutMarks p ms) r (now (places .entry))) ⌝ }
+    ensures { λ r. ⌜ ((ms : ℕ → Standing) → Marked ms set (now (places .entry))
+        → Marked (cutMarks p ms) r (now (places .entry))) ⌝ }
 {
     let mut s = set;
     let mut a: u32 = 0;

@@ -4,12 +4,53 @@ use mathlib.Core.List.{List}
 use Rattle.lists.specs.Choice.{pick}
 use Rattle.graph.specs.declared.Reading.the-variants.{Untested}
 use Rattle.graph.specs.declared.Edit.{Edit}
-use Rattle.graph.specs.declared.Edit.the-variants.{InsertVertex, RemoveVertex, InsertEdge, RemoveEdge, SetVertex, SetEdge, MoveVertex, MoveEdge, MoveWord}
+use Rattle.graph.specs.declared.Edit.the-variants.{
+  InsertVertex,
+  RemoveVertex,
+  InsertEdge,
+  RemoveEdge,
+  SetVertex,
+  SetEdge,
+  MoveVertex,
+  MoveEdge,
+  MoveWord,
+}
 use Rattle.graph.specs.declared.Change.{Change}
-use Rattle.graph.specs.declared.Change.the-variants.{CreateVertex, DeleteVertex, CreateEdge, DeleteEdge, RetypeVertex, RetypeEdge, SetValue, SetReading, SetAlpha, SetOmega, VertexBefore, VertexAfter, EdgeBefore, EdgeAfter, WordBefore, WordAfter}
+use Rattle.graph.specs.declared.Change.the-variants.{
+  CreateVertex,
+  DeleteVertex,
+  CreateEdge,
+  DeleteEdge,
+  RetypeVertex,
+  RetypeEdge,
+  SetValue,
+  SetReading,
+  SetAlpha,
+  SetOmega,
+  VertexBefore,
+  VertexAfter,
+  EdgeBefore,
+  EdgeAfter,
+  WordBefore,
+  WordAfter,
+}
 use Rattle.graph.specs.Graph.{readingOf}
 use Rattle.tables.specs.declared.Head.{Head}
-use Rattle.tables.specs.Tables.{State, VIn, EIn, WIn, vtype, vvalue, vlast, vprev, etype, eprev, wprev, wthis, readingAt}
+use Rattle.tables.specs.Tables.{
+  State,
+  VIn,
+  EIn,
+  WIn,
+  vtype,
+  vvalue,
+  vlast,
+  vprev,
+  etype,
+  eprev,
+  wprev,
+  wthis,
+  readingAt,
+}
 
 -- x; where x is a itself, which leaves its list first, the place p of a
 abbrev pub unless : ℕ → ℕ → ℕ → ℕ

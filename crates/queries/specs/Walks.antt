@@ -33,4 +33,5 @@ degreeOne inClass c et w = bit (inClass (etype et (w / 2)) && onSide c w)
 
 -- how many words of the list of v are on the side c, with an edge whose type is in the class
 unfoldable pub degreeAt : (ℕ → Bool) → ℕ → List ℕ → List ℕ → ℕ → ℕ
-degreeAt inClass c vt et v = length (keep (λ w. inClass (etype et (w / 2)) && onSide c w) (nodes ilane et (endsAt vt v)))
+degreeAt inClass c vt et v = length (keep (λ w. inClass (etype et (w / 2))
+    && onSide c w) (nodes ilane et (endsAt vt v)))

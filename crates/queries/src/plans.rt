@@ -16,7 +16,10 @@ use tables::rows::word_prev;
 ghost use mathlib.Core.Path.{_≡_};
 ghost use Rattle.lists.specs.Choice.{pick};
 ghost use Rattle.tables.specs.Tables.{st, VIn, EIn, WIn};
-ghost use Rattle.queries.specs.Plans.{Short, CanPlan, planS, planCreateVertex, planRemoveVertex, planCreateEdge, planRemoveEdge, planRetypeVertex, planSetValue, planRetypeEdge, planSetReading, planWordLast, planVertexBefore, planVertexAfter, planEdgeBefore, planEdgeAfter, planWordBefore, planWordAfter};
+ghost use Rattle.queries.specs.Plans.{Short, CanPlan, planS, planCreateVertex, planRemoveVertex, planCreateEdge};
+ghost use Rattle.queries.specs.Plans.{planRemoveEdge, planRetypeVertex, planSetValue, planRetypeEdge};
+ghost use Rattle.queries.specs.Plans.{planSetReading, planWordLast, planVertexBefore, planVertexAfter};
+ghost use Rattle.queries.specs.Plans.{planEdgeBefore, planEdgeAfter, planWordBefore, planWordAfter};
 
 // x where m and n are the same, else y.
 pub fn choose(m: u32, n: u32, x: u32, y: u32) -> u32

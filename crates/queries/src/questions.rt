@@ -89,8 +89,10 @@ pub fn edge_before(head: Head, et: &[u32], a: u32, b: u32) -> bool
 
 // Is word a before b in a's list: a walk from a.
 pub fn word_before(vt: &[u32], et: &[u32], a: u32, b: u32) -> bool
-    requires { ⌜ WIn (now et) a × VIn (now vt) (wthis (now et) a) × HeldAt ilane (now et) (endsAt (now vt) (wthis (now et) a)) a ⌝ }
-    ensures { λ r. ⌜ r ≡ before a b (nodes ilane (now (et .entry)) (endsAt (now (vt .entry)) (wthis (now (et .entry)) a))) ⌝ }
+    requires { ⌜ WIn (now et) a × VIn (now vt) (wthis (now et) a)
+        × HeldAt ilane (now et) (endsAt (now vt) (wthis (now et) a)) a ⌝ }
+    ensures { λ r. ⌜ r ≡ before a b
+        (nodes ilane (now (et .entry)) (endsAt (now (vt .entry)) (wthis (now (et .entry)) a))) ⌝ }
 {
     let v = this(et, a);
     let e = ends_of(vt, v);
@@ -152,7 +154,9 @@ fn on_side(c: u32, w: u32) -> bool
 // 1 where word w is on the side c and its edge is in class t, else 0.
 fn in_degree(words: &[u64; 64], et: &[u32], w: u32, t: u32, c: u32) -> u32
     requires { ⌜ EIn (now et) (w / 2) ⌝ }
-    ensures { λ r. ⌜ (r ≤ 1) × ((rows : List ℕ) → goodRows rows ≡ true → now (words .entry) ≡ closureWords rows → r ≡ degreeOne (λ s. below rows s t) c (now (et .entry)) w) ⌝ }
+    ensures { λ r. ⌜ (r ≤ 1)
+        × ((rows : List ℕ) → goodRows rows ≡ true → now (words .entry) ≡ closureWords rows
+        → r ≡ degreeOne (λ s. below rows s t) c (now (et .entry)) w) ⌝ }
 {
     if !on_side(c, w) {
         return 0;
@@ -164,10 +168,12 @@ fn in_degree(words: &[u64; 64], et: &[u32], w: u32, t: u32, c: u32) -> u32
     0
 }
 
-// The degree of vertex v in class t on the side c: a walk along its list by a cursor. `words` is the closure of the types.
+// The degree of vertex v in class t on the side c: a walk along its list by a cursor. `words` is the closure of the
+// types.
 pub fn degree(words: &[u64; 64], vt: &[u32], et: &[u32], v: u32, t: u32, c: u32) -> u32
     requires { ⌜ CanWalk (now vt) (now et) v ⌝ }
-    ensures { λ r. ⌜ ((rows : List ℕ) → goodRows rows ≡ true → now (words .entry) ≡ closureWords rows → r ≡ degreeAt (λ s. below rows s t) c (now (vt .entry)) (now (et .entry)) v) ⌝ }
+    ensures { λ r. ⌜ ((rows : List ℕ) → goodRows rows ≡ true → now (words .entry) ≡ closureWords rows
+        → r ≡ degreeAt (λ s. below rows s t) c (now (vt .entry)) (now (et .entry)) v) ⌝ }
 {
     let mut n = 0;
     let mut w = first_word(vt, v);

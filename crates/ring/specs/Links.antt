@@ -1,4 +1,5 @@
--- Doubly linked lists in a table of words: where the links stand, what it is to hold a list, and what unlinking and inserting leave.
+-- Doubly linked lists in a table of words: where the links stand, what it is to hold a list, and what unlinking and
+-- inserting leave.
 -- Vseq, Eseq and the incidence list of each vertex are lists of this kind.
 use Prim.Native.Nat.{ℕ, zero, suc, _+_, _-_, _*_, _≤_, _<_}
 use mathlib.Core.Path.{_≡_}
@@ -78,7 +79,8 @@ abbrev pub Chain : (ℕ → ℕ) → (ℕ → ℕ) → ℕ → List ℕ → ℕ 
 Chain n p a [] b = Link n p a b
 Chain n p a (x ∷ l) b = Link n p a x × Chain n p x l b
 
--- the list l is held by a table and ends: its nodes are linked in a circle through 0, differ, are not 0, and are in the table
+-- the list l is held by a table and ends: its nodes are linked in a circle through 0, differ, are not 0, and are in the
+-- table
 pub record Held (lane : Lane) (t : List ℕ) (e : Ends) (l : List ℕ) : Type 0 where
   pub chain : Chain (linkOf nxt lane t e) (linkOf prv lane t e) 0 l 0
   pub distinct : Distinct (0 ∷ l)
@@ -93,7 +95,8 @@ abbrev pub nodesFrom : (ℕ → ℕ) → ℕ → ℕ → List ℕ
 nodesFrom n zero k = []
 nodesFrom n (suc f) k = (k == 0) ⇒ [] else (k ∷ nodesFrom n f (n k))
 
--- the list read off a table from its first node on. It has no more nodes than a lane has in the table, which are below this bound.
+-- the list read off a table from its first node on. It has no more nodes than a lane has in the table, which are below
+-- this bound.
 unfoldable pub nodes : Lane → List ℕ → Ends → List ℕ
 nodes lane t e = nodesFrom (linkOf nxt lane t e) (length t + lane .skip) (linkOf nxt lane t e 0)
 

@@ -7,7 +7,24 @@ use mathlib.Core.List.{List}
 use Rattle.lists.specs.Choice.{_==_, _⇒_else_}
 use Rattle.graph.specs.declared.Edit.{Edit}
 use Rattle.graph.specs.declared.Change.{Change}
-use Rattle.graph.specs.declared.Change.the-variants.{CreateVertex, DeleteVertex, CreateEdge, DeleteEdge, RetypeVertex, RetypeEdge, SetValue, SetReading, SetAlpha, SetOmega, VertexBefore, VertexAfter, EdgeBefore, EdgeAfter, WordBefore, WordAfter}
+use Rattle.graph.specs.declared.Change.the-variants.{
+  CreateVertex,
+  DeleteVertex,
+  CreateEdge,
+  DeleteEdge,
+  RetypeVertex,
+  RetypeEdge,
+  SetValue,
+  SetReading,
+  SetAlpha,
+  SetOmega,
+  VertexBefore,
+  VertexAfter,
+  EdgeBefore,
+  EdgeAfter,
+  WordBefore,
+  WordAfter,
+}
 use Rattle.graph.specs.Graph.{Graph}
 use Rattle.graph.specs.Same.{idle}
 use Rattle.tables.specs.Tables.{State, ekind, edecimetres}
@@ -62,7 +79,8 @@ abbrev pub tried : Bool → ℕ → ℕ
 tried keeps free = keeps ⇒ 0 else ((free == 0) ⇒ 10 else 0)
 
 -- an edit tried; cost 0 says that nothing was written
-pub record Tries (e : Edit) (i free : ℕ) (s : State) (t : List ℕ) (code cost : ℕ) (s′ : State) (t′ : List ℕ) : Type 0 where
+pub record Tries (e : Edit) (i free : ℕ) (s : State) (t : List ℕ) (code cost : ℕ) (s′ : State)
+    (t′ : List ℕ) : Type 0 where
   pub coded : code ≡ tried (idle e) free
   pub stays : cost ≡ 0 → (s′ ≡ s) × (t′ ≡ t)
   pub keeps : cost ≡ 0 → code ≡ 0 → idle e ≡ true
@@ -72,9 +90,11 @@ pub record Tries (e : Edit) (i free : ℕ) (s : State) (t : List ℕ) (code cost
 abbrev pub withRoom : Bool → ℕ → ℕ → ℕ
 withRoom keeps free c = (c == 0) ⇒ tried keeps free else c
 
-pub record One (x : Change) (types i free : ℕ) (s : State) (t : List ℕ) (code cost : ℕ) (s′ : State) (t′ : List ℕ) : Type 0 where
+pub record One (x : Change) (types i free : ℕ) (s : State) (t : List ℕ) (code cost : ℕ) (s′ : State)
+    (t′ : List ℕ) : Type 0 where
   pub fits : ChangeFits x
-  pub answers : (g : Graph) → HoldsVE (s .vt) (s .et) g → code ≡ withRoom (idle (planS x s)) free (changeCode (boundsOf (s .vt) (s .et) types) g x)
+  pub answers : (g : Graph) → HoldsVE (s .vt) (s .et) g
+      → code ≡ withRoom (idle (planS x s)) free (changeCode (boundsOf (s .vt) (s .et) types) g x)
   pub stays : cost ≡ 0 → (s′ ≡ s) × (t′ ≡ t)
   pub keeps : cost ≡ 0 → code ≡ 0 → idle (planS x s) ≡ true
   pub made : cost ≢ 0 → Makes (planS x s) i s t code cost s′ t′

@@ -1,4 +1,5 @@
-// An edit tried: 0 and nothing written where its old and its new agree, 10 where there is no room for its row, else it is
+// An edit tried: 0 and nothing written where its old and its new agree, 10 where there is no room for its row, else it
+// is
 // written down as row i, a step of cost 1, and carried out.
 use crate::Made;
 use crate::altered;
@@ -16,7 +17,8 @@ ghost use Prim.Native.Nat.{_+_, _*_, _^_, _≤_, _<_};
 ghost use lib.ListN.{length};
 ghost use Rattle.lists.specs.Choice.{_==_};
 ghost use Rattle.graph.specs.Graph.{readingOf};
-ghost use Rattle.tables.specs.Tables.{st, vlane, elane, vends, eends, VIn, EIn, CanMove, CanInsertVertex, CanInsertEdge, CanRemoveEdge, CanMoveWord};
+ghost use Rattle.tables.specs.Tables.{st, vlane, elane, vends, eends, VIn, EIn, CanMove, CanInsertVertex};
+ghost use Rattle.tables.specs.Tables.{CanInsertEdge, CanRemoveEdge, CanMoveWord};
 ghost use Rattle.journal.specs.Rows.{IsWords};
 ghost use Rattle.singles.specs.One.{Tries};
 
@@ -52,7 +54,8 @@ pub fn insert_vertex(
     p: u32,
 ) -> Made
     requires { ⌜ CanInsertVertex n p (st h (now vt) (now et)) × ((free ≡ 0 → ⊥) → 12 * i + 12 ≤ length (now t)) ⌝ }
-    ensures { λ r. ⌜ Tries (Edit.InsertVertex n s x p) i free (st h (now (vt .entry)) (now (et .entry))) (now (t .entry)) (r .code) (r .cost) (st (r .head) (now (vt .exit)) (now (et .entry))) (now (t .exit)) ⌝ }
+    ensures { λ r. ⌜ Tries (Edit.InsertVertex n s x p) i free (st h (now (vt .entry)) (now (et .entry)))
+        (now (t .entry)) (r .code) (r .cost) (st (r .head) (now (vt .exit)) (now (et .entry))) (now (t .exit)) ⌝ }
 {
     if free == 0 {
         return unchanged(h, 10);
@@ -78,8 +81,11 @@ pub fn insert_edge(
     out: u32,
     into: u32,
 ) -> Made
-    requires { ⌜ (n < 2 ^ 31) × CanInsertEdge n a z s Reading.Untested p out into (st h (now vt) (now et)) × ((free ≡ 0 → ⊥) → 12 * i + 12 ≤ length (now t)) ⌝ }
-    ensures { λ r. ⌜ Tries (Edit.InsertEdge n a z s Reading.Untested p out into) i free (st h (now (vt .entry)) (now (et .entry))) (now (t .entry)) (r .code) (r .cost) (st (r .head) (now (vt .exit)) (now (et .exit))) (now (t .exit)) ⌝ }
+    requires { ⌜ (n < 2 ^ 31) × CanInsertEdge n a z s Reading.Untested p out into (st h (now vt) (now et))
+        × ((free ≡ 0 → ⊥) → 12 * i + 12 ≤ length (now t)) ⌝ }
+    ensures { λ r. ⌜ Tries (Edit.InsertEdge n a z s Reading.Untested p out into) i free
+        (st h (now (vt .entry)) (now (et .entry))) (now (t .entry)) (r .code) (r .cost)
+        (st (r .head) (now (vt .exit)) (now (et .exit))) (now (t .exit)) ⌝ }
 {
     if free == 0 {
         return unchanged(h, 10);
@@ -120,8 +126,11 @@ pub fn remove_edge(
     out: u32,
     into: u32,
 ) -> Made
-    requires { ⌜ (n < 2 ^ 31) × CanRemoveEdge n a z (st h (now vt) (now et)) × IsWords k d × ((free ≡ 0 → ⊥) → 12 * i + 12 ≤ length (now t)) ⌝ }
-    ensures { λ r. ⌜ Tries (Edit.RemoveEdge n a z s (readingOf k d) p out into) i free (st h (now (vt .entry)) (now (et .entry))) (now (t .entry)) (r .code) (r .cost) (st (r .head) (now (vt .exit)) (now (et .exit))) (now (t .exit)) ⌝ }
+    requires { ⌜ (n < 2 ^ 31) × CanRemoveEdge n a z (st h (now vt) (now et)) × IsWords k d
+        × ((free ≡ 0 → ⊥) → 12 * i + 12 ≤ length (now t)) ⌝ }
+    ensures { λ r. ⌜ Tries (Edit.RemoveEdge n a z s (readingOf k d) p out into) i free
+        (st h (now (vt .entry)) (now (et .entry))) (now (t .entry)) (r .code) (r .cost)
+        (st (r .head) (now (vt .exit)) (now (et .exit))) (now (t .exit)) ⌝ }
 {
     if free == 0 {
         return unchanged(h, 10);
@@ -145,7 +154,8 @@ pub fn set_vertex(
     x2: u32,
 ) -> Made
     requires { ⌜ VIn (now vt) n × ((free ≡ 0 → ⊥) → 12 * i + 12 ≤ length (now t)) ⌝ }
-    ensures { λ r. ⌜ Tries (Edit.SetVertex n s x s2 x2) i free (st h (now (vt .entry)) (now (et .entry))) (now (t .entry)) (r .code) (r .cost) (st (r .head) (now (vt .exit)) (now (et .entry))) (now (t .exit)) ⌝ }
+    ensures { λ r. ⌜ Tries (Edit.SetVertex n s x s2 x2) i free (st h (now (vt .entry)) (now (et .entry)))
+        (now (t .entry)) (r .code) (r .cost) (st (r .head) (now (vt .exit)) (now (et .entry))) (now (t .exit)) ⌝ }
 {
     if agree(s, s2, x, x2) {
         return unchanged(h, 0);
@@ -174,7 +184,9 @@ pub fn set_edge(
     d2: u32,
 ) -> Made
     requires { ⌜ EIn (now et) n × IsWords k d × IsWords k2 d2 × ((free ≡ 0 → ⊥) → 12 * i + 12 ≤ length (now t)) ⌝ }
-    ensures { λ r. ⌜ Tries (Edit.SetEdge n s (readingOf k d) s2 (readingOf k2 d2)) i free (st h (now (vt .entry)) (now (et .entry))) (now (t .entry)) (r .code) (r .cost) (st (r .head) (now (vt .entry)) (now (et .exit))) (now (t .exit)) ⌝ }
+    ensures { λ r. ⌜ Tries (Edit.SetEdge n s (readingOf k d) s2 (readingOf k2 d2)) i free
+        (st h (now (vt .entry)) (now (et .entry))) (now (t .entry)) (r .code) (r .cost)
+        (st (r .head) (now (vt .entry)) (now (et .exit))) (now (t .exit)) ⌝ }
 {
     if same_edge(s, s2, k, k2, d, d2) {
         return unchanged(h, 0);
@@ -200,7 +212,8 @@ pub fn move_vertex(
     q: u32,
 ) -> Made
     requires { ⌜ CanMove vlane n q (now vt) (vends h) × ((free ≡ 0 → ⊥) → 12 * i + 12 ≤ length (now t)) ⌝ }
-    ensures { λ r. ⌜ Tries (Edit.MoveVertex n p q) i free (st h (now (vt .entry)) (now (et .entry))) (now (t .entry)) (r .code) (r .cost) (st (r .head) (now (vt .exit)) (now (et .entry))) (now (t .exit)) ⌝ }
+    ensures { λ r. ⌜ Tries (Edit.MoveVertex n p q) i free (st h (now (vt .entry)) (now (et .entry))) (now (t .entry))
+        (r .code) (r .cost) (st (r .head) (now (vt .exit)) (now (et .entry))) (now (t .exit)) ⌝ }
 {
     if p == q {
         return unchanged(h, 0);
@@ -225,7 +238,8 @@ pub fn move_edge(
     q: u32,
 ) -> Made
     requires { ⌜ CanMove elane n q (now et) (eends h) × ((free ≡ 0 → ⊥) → 12 * i + 12 ≤ length (now t)) ⌝ }
-    ensures { λ r. ⌜ Tries (Edit.MoveEdge n p q) i free (st h (now (vt .entry)) (now (et .entry))) (now (t .entry)) (r .code) (r .cost) (st (r .head) (now (vt .entry)) (now (et .exit))) (now (t .exit)) ⌝ }
+    ensures { λ r. ⌜ Tries (Edit.MoveEdge n p q) i free (st h (now (vt .entry)) (now (et .entry))) (now (t .entry))
+        (r .code) (r .cost) (st (r .head) (now (vt .entry)) (now (et .exit))) (now (t .exit)) ⌝ }
 {
     if p == q {
         return unchanged(h, 0);
@@ -252,7 +266,8 @@ pub fn move_word(
     q: u32,
 ) -> Made
     requires { ⌜ CanMoveWord w v u q (st h (now vt) (now et)) × ((free ≡ 0 → ⊥) → 12 * i + 12 ≤ length (now t)) ⌝ }
-    ensures { λ r. ⌜ Tries (Edit.MoveWord w v p u q) i free (st h (now (vt .entry)) (now (et .entry))) (now (t .entry)) (r .code) (r .cost) (st (r .head) (now (vt .exit)) (now (et .exit))) (now (t .exit)) ⌝ }
+    ensures { λ r. ⌜ Tries (Edit.MoveWord w v p u q) i free (st h (now (vt .entry)) (now (et .entry))) (now (t .entry))
+        (r .code) (r .cost) (st (r .head) (now (vt .exit)) (now (et .exit))) (now (t .exit)) ⌝ }
 {
     if agree(v, u, p, q) {
         return unchanged(h, 0);

@@ -1,4 +1,5 @@
-// The changes of one edit, all but the deletion of a vertex: codes, row and tables in one go, by one choice of the kind.
+// The changes of one edit, all but the deletion of a vertex: codes, row and tables in one go, by one choice of the
+// kind.
 use graph::Change;
 use tables::Head;
 ghost use mathlib.Core.Path.{_≡_};
@@ -11,7 +12,8 @@ ghost use Rattle.singles.specs.One.{Stands, One};
 mod adding; // an edit written down and carried out
 mod writing; // the edit of each change, read off the tables and made
 
-// The head after a change, its code (0 where it is accepted) and its cost: 1 where it altered the graph, else 0, also where
+// The head after a change, its code (0 where it is accepted) and its cost: 1 where it altered the graph, else 0, also
+// where
 // it is refused.
 pub struct Made {
     pub head: Head,
@@ -56,7 +58,8 @@ fn create_vertex(
     x: u32,
 ) -> Made
     requires { ⌜ Stands types (st h (now vt) (now et)) × ((free ≡ 0 → ⊥) → 12 * i + 12 ≤ length (now t)) ⌝ }
-    ensures { λ r. ⌜ One (Change.CreateVertex n s x) types i free (st h (now (vt .entry)) (now (et .entry))) (now (t .entry)) (r .code) (r .cost) (st (r .head) (now (vt .exit)) (now (et .entry))) (now (t .exit)) ⌝ }
+    ensures { λ r. ⌜ One (Change.CreateVertex n s x) types i free (st h (now (vt .entry)) (now (et .entry)))
+        (now (t .entry)) (r .code) (r .cost) (st (r .head) (now (vt .exit)) (now (et .entry))) (now (t .exit)) ⌝ }
 {
     let c = checks::create_vertex(vt, types, n, s);
     if c != 0 {
@@ -80,7 +83,8 @@ fn create_edge(
     s: u32,
 ) -> Made
     requires { ⌜ Stands types (st h (now vt) (now et)) × ((free ≡ 0 → ⊥) → 12 * i + 12 ≤ length (now t)) ⌝ }
-    ensures { λ r. ⌜ One (Change.CreateEdge n a z s) types i free (st h (now (vt .entry)) (now (et .entry))) (now (t .entry)) (r .code) (r .cost) (st (r .head) (now (vt .exit)) (now (et .exit))) (now (t .exit)) ⌝ }
+    ensures { λ r. ⌜ One (Change.CreateEdge n a z s) types i free (st h (now (vt .entry)) (now (et .entry)))
+        (now (t .entry)) (r .code) (r .cost) (st (r .head) (now (vt .exit)) (now (et .exit))) (now (t .exit)) ⌝ }
 {
     let c = checks::create_edge(vt, et, types, n, a, z, s);
     if c != 0 {
@@ -101,7 +105,8 @@ fn delete_edge(
     n: u32,
 ) -> Made
     requires { ⌜ Stands types (st h (now vt) (now et)) × ((free ≡ 0 → ⊥) → 12 * i + 12 ≤ length (now t)) ⌝ }
-    ensures { λ r. ⌜ One (Change.DeleteEdge n) types i free (st h (now (vt .entry)) (now (et .entry))) (now (t .entry)) (r .code) (r .cost) (st (r .head) (now (vt .exit)) (now (et .exit))) (now (t .exit)) ⌝ }
+    ensures { λ r. ⌜ One (Change.DeleteEdge n) types i free (st h (now (vt .entry)) (now (et .entry))) (now (t .entry))
+        (r .code) (r .cost) (st (r .head) (now (vt .exit)) (now (et .exit))) (now (t .exit)) ⌝ }
 {
     let c = checks::edge_code(et, n);
     if c != 0 {
@@ -123,7 +128,8 @@ fn retype_vertex(
     s2: u32,
 ) -> Made
     requires { ⌜ Stands types (st h (now vt) (now et)) × ((free ≡ 0 → ⊥) → 12 * i + 12 ≤ length (now t)) ⌝ }
-    ensures { λ r. ⌜ One (Change.RetypeVertex a s2) types i free (st h (now (vt .entry)) (now (et .entry))) (now (t .entry)) (r .code) (r .cost) (st (r .head) (now (vt .exit)) (now (et .entry))) (now (t .exit)) ⌝ }
+    ensures { λ r. ⌜ One (Change.RetypeVertex a s2) types i free (st h (now (vt .entry)) (now (et .entry)))
+        (now (t .entry)) (r .code) (r .cost) (st (r .head) (now (vt .exit)) (now (et .entry))) (now (t .exit)) ⌝ }
 {
     let c = checks::retype_vertex(vt, types, a, s2);
     if c != 0 {
@@ -145,7 +151,8 @@ fn retype_edge(
     s2: u32,
 ) -> Made
     requires { ⌜ Stands types (st h (now vt) (now et)) × ((free ≡ 0 → ⊥) → 12 * i + 12 ≤ length (now t)) ⌝ }
-    ensures { λ r. ⌜ One (Change.RetypeEdge a s2) types i free (st h (now (vt .entry)) (now (et .entry))) (now (t .entry)) (r .code) (r .cost) (st (r .head) (now (vt .entry)) (now (et .exit))) (now (t .exit)) ⌝ }
+    ensures { λ r. ⌜ One (Change.RetypeEdge a s2) types i free (st h (now (vt .entry)) (now (et .entry)))
+        (now (t .entry)) (r .code) (r .cost) (st (r .head) (now (vt .entry)) (now (et .exit))) (now (t .exit)) ⌝ }
 {
     let c = checks::retype_edge(et, types, a, s2);
     if c != 0 {
@@ -167,7 +174,8 @@ fn set_value(
     x2: u32,
 ) -> Made
     requires { ⌜ Stands types (st h (now vt) (now et)) × ((free ≡ 0 → ⊥) → 12 * i + 12 ≤ length (now t)) ⌝ }
-    ensures { λ r. ⌜ One (Change.SetValue a x2) types i free (st h (now (vt .entry)) (now (et .entry))) (now (t .entry)) (r .code) (r .cost) (st (r .head) (now (vt .exit)) (now (et .entry))) (now (t .exit)) ⌝ }
+    ensures { λ r. ⌜ One (Change.SetValue a x2) types i free (st h (now (vt .entry)) (now (et .entry))) (now (t .entry))
+        (r .code) (r .cost) (st (r .head) (now (vt .exit)) (now (et .entry))) (now (t .exit)) ⌝ }
 {
     let c = checks::vertex_code(vt, a);
     if c != 0 {
@@ -190,7 +198,8 @@ fn set_reading(
     d2: u32,
 ) -> Made
     requires { ⌜ Stands types (st h (now vt) (now et)) × ((free ≡ 0 → ⊥) → 12 * i + 12 ≤ length (now t)) ⌝ }
-    ensures { λ r. ⌜ One (Change.SetReading a k2 d2) types i free (st h (now (vt .entry)) (now (et .entry))) (now (t .entry)) (r .code) (r .cost) (st (r .head) (now (vt .entry)) (now (et .exit))) (now (t .exit)) ⌝ }
+    ensures { λ r. ⌜ One (Change.SetReading a k2 d2) types i free (st h (now (vt .entry)) (now (et .entry)))
+        (now (t .entry)) (r .code) (r .cost) (st (r .head) (now (vt .entry)) (now (et .exit))) (now (t .exit)) ⌝ }
 {
     let c = checks::set_reading(et, a, k2, d2);
     if c != 0 {
@@ -212,7 +221,8 @@ fn set_alpha(
     u: u32,
 ) -> Made
     requires { ⌜ Stands types (st h (now vt) (now et)) × ((free ≡ 0 → ⊥) → 12 * i + 12 ≤ length (now t)) ⌝ }
-    ensures { λ r. ⌜ One (Change.SetAlpha a u) types i free (st h (now (vt .entry)) (now (et .entry))) (now (t .entry)) (r .code) (r .cost) (st (r .head) (now (vt .exit)) (now (et .exit))) (now (t .exit)) ⌝ }
+    ensures { λ r. ⌜ One (Change.SetAlpha a u) types i free (st h (now (vt .entry)) (now (et .entry))) (now (t .entry))
+        (r .code) (r .cost) (st (r .head) (now (vt .exit)) (now (et .exit))) (now (t .exit)) ⌝ }
 {
     let c = checks::set_end(vt, et, a, u);
     if c != 0 {
@@ -234,7 +244,8 @@ fn set_omega(
     u: u32,
 ) -> Made
     requires { ⌜ Stands types (st h (now vt) (now et)) × ((free ≡ 0 → ⊥) → 12 * i + 12 ≤ length (now t)) ⌝ }
-    ensures { λ r. ⌜ One (Change.SetOmega a u) types i free (st h (now (vt .entry)) (now (et .entry))) (now (t .entry)) (r .code) (r .cost) (st (r .head) (now (vt .exit)) (now (et .exit))) (now (t .exit)) ⌝ }
+    ensures { λ r. ⌜ One (Change.SetOmega a u) types i free (st h (now (vt .entry)) (now (et .entry))) (now (t .entry))
+        (r .code) (r .cost) (st (r .head) (now (vt .exit)) (now (et .exit))) (now (t .exit)) ⌝ }
 {
     let c = checks::set_end(vt, et, a, u);
     if c != 0 {
@@ -256,7 +267,8 @@ fn vertex_before(
     b: u32,
 ) -> Made
     requires { ⌜ Stands types (st h (now vt) (now et)) × ((free ≡ 0 → ⊥) → 12 * i + 12 ≤ length (now t)) ⌝ }
-    ensures { λ r. ⌜ One (Change.VertexBefore a b) types i free (st h (now (vt .entry)) (now (et .entry))) (now (t .entry)) (r .code) (r .cost) (st (r .head) (now (vt .exit)) (now (et .entry))) (now (t .exit)) ⌝ }
+    ensures { λ r. ⌜ One (Change.VertexBefore a b) types i free (st h (now (vt .entry)) (now (et .entry)))
+        (now (t .entry)) (r .code) (r .cost) (st (r .head) (now (vt .exit)) (now (et .entry))) (now (t .exit)) ⌝ }
 {
     let c = checks::order_vertices(vt, a, b);
     if c != 0 {
@@ -278,7 +290,8 @@ fn vertex_after(
     b: u32,
 ) -> Made
     requires { ⌜ Stands types (st h (now vt) (now et)) × ((free ≡ 0 → ⊥) → 12 * i + 12 ≤ length (now t)) ⌝ }
-    ensures { λ r. ⌜ One (Change.VertexAfter a b) types i free (st h (now (vt .entry)) (now (et .entry))) (now (t .entry)) (r .code) (r .cost) (st (r .head) (now (vt .exit)) (now (et .entry))) (now (t .exit)) ⌝ }
+    ensures { λ r. ⌜ One (Change.VertexAfter a b) types i free (st h (now (vt .entry)) (now (et .entry)))
+        (now (t .entry)) (r .code) (r .cost) (st (r .head) (now (vt .exit)) (now (et .entry))) (now (t .exit)) ⌝ }
 {
     let c = checks::order_vertices(vt, a, b);
     if c != 0 {
@@ -300,7 +313,8 @@ fn edge_before(
     b: u32,
 ) -> Made
     requires { ⌜ Stands types (st h (now vt) (now et)) × ((free ≡ 0 → ⊥) → 12 * i + 12 ≤ length (now t)) ⌝ }
-    ensures { λ r. ⌜ One (Change.EdgeBefore a b) types i free (st h (now (vt .entry)) (now (et .entry))) (now (t .entry)) (r .code) (r .cost) (st (r .head) (now (vt .entry)) (now (et .exit))) (now (t .exit)) ⌝ }
+    ensures { λ r. ⌜ One (Change.EdgeBefore a b) types i free (st h (now (vt .entry)) (now (et .entry)))
+        (now (t .entry)) (r .code) (r .cost) (st (r .head) (now (vt .entry)) (now (et .exit))) (now (t .exit)) ⌝ }
 {
     let c = checks::order_edges(et, a, b);
     if c != 0 {
@@ -322,7 +336,8 @@ fn edge_after(
     b: u32,
 ) -> Made
     requires { ⌜ Stands types (st h (now vt) (now et)) × ((free ≡ 0 → ⊥) → 12 * i + 12 ≤ length (now t)) ⌝ }
-    ensures { λ r. ⌜ One (Change.EdgeAfter a b) types i free (st h (now (vt .entry)) (now (et .entry))) (now (t .entry)) (r .code) (r .cost) (st (r .head) (now (vt .entry)) (now (et .exit))) (now (t .exit)) ⌝ }
+    ensures { λ r. ⌜ One (Change.EdgeAfter a b) types i free (st h (now (vt .entry)) (now (et .entry))) (now (t .entry))
+        (r .code) (r .cost) (st (r .head) (now (vt .entry)) (now (et .exit))) (now (t .exit)) ⌝ }
 {
     let c = checks::order_edges(et, a, b);
     if c != 0 {
@@ -344,7 +359,8 @@ fn word_before(
     b: u32,
 ) -> Made
     requires { ⌜ Stands types (st h (now vt) (now et)) × ((free ≡ 0 → ⊥) → 12 * i + 12 ≤ length (now t)) ⌝ }
-    ensures { λ r. ⌜ One (Change.WordBefore a b) types i free (st h (now (vt .entry)) (now (et .entry))) (now (t .entry)) (r .code) (r .cost) (st (r .head) (now (vt .exit)) (now (et .exit))) (now (t .exit)) ⌝ }
+    ensures { λ r. ⌜ One (Change.WordBefore a b) types i free (st h (now (vt .entry)) (now (et .entry)))
+        (now (t .entry)) (r .code) (r .cost) (st (r .head) (now (vt .exit)) (now (et .exit))) (now (t .exit)) ⌝ }
 {
     let c = checks::order_words(et, a, b);
     if c != 0 {
@@ -366,7 +382,8 @@ fn word_after(
     b: u32,
 ) -> Made
     requires { ⌜ Stands types (st h (now vt) (now et)) × ((free ≡ 0 → ⊥) → 12 * i + 12 ≤ length (now t)) ⌝ }
-    ensures { λ r. ⌜ One (Change.WordAfter a b) types i free (st h (now (vt .entry)) (now (et .entry))) (now (t .entry)) (r .code) (r .cost) (st (r .head) (now (vt .exit)) (now (et .exit))) (now (t .exit)) ⌝ }
+    ensures { λ r. ⌜ One (Change.WordAfter a b) types i free (st h (now (vt .entry)) (now (et .entry))) (now (t .entry))
+        (r .code) (r .cost) (st (r .head) (now (vt .exit)) (now (et .exit))) (now (t .exit)) ⌝ }
 {
     let c = checks::order_words(et, a, b);
     if c != 0 {
@@ -386,8 +403,10 @@ pub fn make(
     free: u32,
     change: Change,
 ) -> Made
-    requires { ⌜ OneEdit change × Stands types (st h (now vt) (now et)) × ((free ≡ 0 → ⊥) → 12 * i + 12 ≤ length (now t)) ⌝ }
-    ensures { λ r. ⌜ One change types i free (st h (now (vt .entry)) (now (et .entry))) (now (t .entry)) (r .code) (r .cost) (st (r .head) (now (vt .exit)) (now (et .exit))) (now (t .exit)) ⌝ }
+    requires { ⌜ OneEdit change × Stands types (st h (now vt) (now et))
+        × ((free ≡ 0 → ⊥) → 12 * i + 12 ≤ length (now t)) ⌝ }
+    ensures { λ r. ⌜ One change types i free (st h (now (vt .entry)) (now (et .entry))) (now (t .entry)) (r .code)
+        (r .cost) (st (r .head) (now (vt .exit)) (now (et .exit))) (now (t .exit)) ⌝ }
 {
     match change {
         Change::CreateVertex(n, s, x) => create_vertex(h, vt, et, t, types, i, free, n, s, x),

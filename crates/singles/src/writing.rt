@@ -33,8 +33,11 @@ pub fn create_vertex(
     s: u32,
     x: u32,
 ) -> Made
-    requires { ⌜ Ready (Change.CreateVertex n s x) (st h (now vt) (now et)) × ((free ≡ 0 → ⊥) → 12 * i + 12 ≤ length (now t)) ⌝ }
-    ensures { λ r. ⌜ Tries (planS (Change.CreateVertex n s x) (st h (now (vt .entry)) (now (et .entry)))) i free (st h (now (vt .entry)) (now (et .entry))) (now (t .entry)) (r .code) (r .cost) (st (r .head) (now (vt .exit)) (now (et .entry))) (now (t .exit)) ⌝ }
+    requires { ⌜ Ready (Change.CreateVertex n s x) (st h (now vt) (now et))
+        × ((free ≡ 0 → ⊥) → 12 * i + 12 ≤ length (now t)) ⌝ }
+    ensures { λ r. ⌜ Tries (planS (Change.CreateVertex n s x) (st h (now (vt .entry)) (now (et .entry)))) i free
+        (st h (now (vt .entry)) (now (et .entry))) (now (t .entry)) (r .code) (r .cost)
+        (st (r .head) (now (vt .exit)) (now (et .entry))) (now (t .exit)) ⌝ }
 {
     let p = h.vlast;
     adding::insert_vertex(h, vt, et, t, i, free, n, s, x, p)
@@ -53,8 +56,11 @@ pub fn create_edge(
     z: u32,
     s: u32,
 ) -> Made
-    requires { ⌜ Ready (Change.CreateEdge n a z s) (st h (now vt) (now et)) × ((free ≡ 0 → ⊥) → 12 * i + 12 ≤ length (now t)) ⌝ }
-    ensures { λ r. ⌜ Tries (planS (Change.CreateEdge n a z s) (st h (now (vt .entry)) (now (et .entry)))) i free (st h (now (vt .entry)) (now (et .entry))) (now (t .entry)) (r .code) (r .cost) (st (r .head) (now (vt .exit)) (now (et .exit))) (now (t .exit)) ⌝ }
+    requires { ⌜ Ready (Change.CreateEdge n a z s) (st h (now vt) (now et))
+        × ((free ≡ 0 → ⊥) → 12 * i + 12 ≤ length (now t)) ⌝ }
+    ensures { λ r. ⌜ Tries (planS (Change.CreateEdge n a z s) (st h (now (vt .entry)) (now (et .entry)))) i free
+        (st h (now (vt .entry)) (now (et .entry))) (now (t .entry)) (r .code) (r .cost)
+        (st (r .head) (now (vt .exit)) (now (et .exit))) (now (t .exit)) ⌝ }
 {
     let p = h.elast;
     let out = last_word(vt, a);
@@ -73,8 +79,11 @@ pub fn delete_edge(
     free: u32,
     n: u32,
 ) -> Made
-    requires { ⌜ Ready (Change.DeleteEdge n) (st h (now vt) (now et)) × ((free ≡ 0 → ⊥) → 12 * i + 12 ≤ length (now t)) ⌝ }
-    ensures { λ r. ⌜ Tries (planS (Change.DeleteEdge n) (st h (now (vt .entry)) (now (et .entry)))) i free (st h (now (vt .entry)) (now (et .entry))) (now (t .entry)) (r .code) (r .cost) (st (r .head) (now (vt .exit)) (now (et .exit))) (now (t .exit)) ⌝ }
+    requires { ⌜ Ready (Change.DeleteEdge n) (st h (now vt) (now et))
+        × ((free ≡ 0 → ⊥) → 12 * i + 12 ≤ length (now t)) ⌝ }
+    ensures { λ r. ⌜ Tries (planS (Change.DeleteEdge n) (st h (now (vt .entry)) (now (et .entry)))) i free
+        (st h (now (vt .entry)) (now (et .entry))) (now (t .entry)) (r .code) (r .cost)
+        (st (r .head) (now (vt .exit)) (now (et .exit))) (now (t .exit)) ⌝ }
 {
     let a = this(et, 2 * n);
     let z = this(et, 2 * n + 1);
@@ -99,8 +108,11 @@ pub fn retype_vertex(
     a: u32,
     s2: u32,
 ) -> Made
-    requires { ⌜ Ready (Change.RetypeVertex a s2) (st h (now vt) (now et)) × ((free ≡ 0 → ⊥) → 12 * i + 12 ≤ length (now t)) ⌝ }
-    ensures { λ r. ⌜ Tries (planS (Change.RetypeVertex a s2) (st h (now (vt .entry)) (now (et .entry)))) i free (st h (now (vt .entry)) (now (et .entry))) (now (t .entry)) (r .code) (r .cost) (st (r .head) (now (vt .exit)) (now (et .entry))) (now (t .exit)) ⌝ }
+    requires { ⌜ Ready (Change.RetypeVertex a s2) (st h (now vt) (now et))
+        × ((free ≡ 0 → ⊥) → 12 * i + 12 ≤ length (now t)) ⌝ }
+    ensures { λ r. ⌜ Tries (planS (Change.RetypeVertex a s2) (st h (now (vt .entry)) (now (et .entry)))) i free
+        (st h (now (vt .entry)) (now (et .entry))) (now (t .entry)) (r .code) (r .cost)
+        (st (r .head) (now (vt .exit)) (now (et .entry))) (now (t .exit)) ⌝ }
 {
     let s = vertex_type(vt, a);
     let x = vertex_value(vt, a);
@@ -118,8 +130,11 @@ pub fn retype_edge(
     a: u32,
     s2: u32,
 ) -> Made
-    requires { ⌜ Ready (Change.RetypeEdge a s2) (st h (now vt) (now et)) × ((free ≡ 0 → ⊥) → 12 * i + 12 ≤ length (now t)) ⌝ }
-    ensures { λ r. ⌜ Tries (planS (Change.RetypeEdge a s2) (st h (now (vt .entry)) (now (et .entry)))) i free (st h (now (vt .entry)) (now (et .entry))) (now (t .entry)) (r .code) (r .cost) (st (r .head) (now (vt .entry)) (now (et .exit))) (now (t .exit)) ⌝ }
+    requires { ⌜ Ready (Change.RetypeEdge a s2) (st h (now vt) (now et))
+        × ((free ≡ 0 → ⊥) → 12 * i + 12 ≤ length (now t)) ⌝ }
+    ensures { λ r. ⌜ Tries (planS (Change.RetypeEdge a s2) (st h (now (vt .entry)) (now (et .entry)))) i free
+        (st h (now (vt .entry)) (now (et .entry))) (now (t .entry)) (r .code) (r .cost)
+        (st (r .head) (now (vt .entry)) (now (et .exit))) (now (t .exit)) ⌝ }
 {
     let s = edge_type(et, a);
     let k = reading_kind(et, a);
@@ -138,8 +153,11 @@ pub fn set_value(
     a: u32,
     x2: u32,
 ) -> Made
-    requires { ⌜ Ready (Change.SetValue a x2) (st h (now vt) (now et)) × ((free ≡ 0 → ⊥) → 12 * i + 12 ≤ length (now t)) ⌝ }
-    ensures { λ r. ⌜ Tries (planS (Change.SetValue a x2) (st h (now (vt .entry)) (now (et .entry)))) i free (st h (now (vt .entry)) (now (et .entry))) (now (t .entry)) (r .code) (r .cost) (st (r .head) (now (vt .exit)) (now (et .entry))) (now (t .exit)) ⌝ }
+    requires { ⌜ Ready (Change.SetValue a x2) (st h (now vt) (now et))
+        × ((free ≡ 0 → ⊥) → 12 * i + 12 ≤ length (now t)) ⌝ }
+    ensures { λ r. ⌜ Tries (planS (Change.SetValue a x2) (st h (now (vt .entry)) (now (et .entry)))) i free
+        (st h (now (vt .entry)) (now (et .entry))) (now (t .entry)) (r .code) (r .cost)
+        (st (r .head) (now (vt .exit)) (now (et .entry))) (now (t .exit)) ⌝ }
 {
     let s = vertex_type(vt, a);
     let x = vertex_value(vt, a);
@@ -158,8 +176,11 @@ pub fn set_reading(
     k2: u32,
     d2: u32,
 ) -> Made
-    requires { ⌜ Ready (Change.SetReading a k2 d2) (st h (now vt) (now et)) × ((free ≡ 0 → ⊥) → 12 * i + 12 ≤ length (now t)) ⌝ }
-    ensures { λ r. ⌜ Tries (planS (Change.SetReading a k2 d2) (st h (now (vt .entry)) (now (et .entry)))) i free (st h (now (vt .entry)) (now (et .entry))) (now (t .entry)) (r .code) (r .cost) (st (r .head) (now (vt .entry)) (now (et .exit))) (now (t .exit)) ⌝ }
+    requires { ⌜ Ready (Change.SetReading a k2 d2) (st h (now vt) (now et))
+        × ((free ≡ 0 → ⊥) → 12 * i + 12 ≤ length (now t)) ⌝ }
+    ensures { λ r. ⌜ Tries (planS (Change.SetReading a k2 d2) (st h (now (vt .entry)) (now (et .entry)))) i free
+        (st h (now (vt .entry)) (now (et .entry))) (now (t .entry)) (r .code) (r .cost)
+        (st (r .head) (now (vt .entry)) (now (et .exit))) (now (t .exit)) ⌝ }
 {
     let s = edge_type(et, a);
     let k = reading_kind(et, a);
@@ -178,8 +199,12 @@ pub fn word_last(
     w: u32,
     u: u32,
 ) -> Made
-    requires { ⌜ WIn (now et) w × VIn (now vt) u × CanMoveWord w (wthis (now et) w) u (unless w (wprev (now et) w) (vlast (now vt) u)) (st h (now vt) (now et)) × ((free ≡ 0 → ⊥) → 12 * i + 12 ≤ length (now t)) ⌝ }
-    ensures { λ r. ⌜ Tries (planWordLast (now (vt .entry)) (now (et .entry)) w u) i free (st h (now (vt .entry)) (now (et .entry))) (now (t .entry)) (r .code) (r .cost) (st (r .head) (now (vt .exit)) (now (et .exit))) (now (t .exit)) ⌝ }
+    requires { ⌜ WIn (now et) w × VIn (now vt) u
+        × CanMoveWord w (wthis (now et) w) u (unless w (wprev (now et) w) (vlast (now vt) u)) (st h (now vt) (now et))
+        × ((free ≡ 0 → ⊥) → 12 * i + 12 ≤ length (now t)) ⌝ }
+    ensures { λ r. ⌜ Tries (planWordLast (now (vt .entry)) (now (et .entry)) w u) i free
+        (st h (now (vt .entry)) (now (et .entry))) (now (t .entry)) (r .code) (r .cost)
+        (st (r .head) (now (vt .exit)) (now (et .exit))) (now (t .exit)) ⌝ }
 {
     let v = this(et, w);
     let p = word_prev(et, w);
@@ -199,8 +224,11 @@ pub fn vertex_before(
     a: u32,
     b: u32,
 ) -> Made
-    requires { ⌜ Ready (Change.VertexBefore a b) (st h (now vt) (now et)) × ((free ≡ 0 → ⊥) → 12 * i + 12 ≤ length (now t)) ⌝ }
-    ensures { λ r. ⌜ Tries (planS (Change.VertexBefore a b) (st h (now (vt .entry)) (now (et .entry)))) i free (st h (now (vt .entry)) (now (et .entry))) (now (t .entry)) (r .code) (r .cost) (st (r .head) (now (vt .exit)) (now (et .entry))) (now (t .exit)) ⌝ }
+    requires { ⌜ Ready (Change.VertexBefore a b) (st h (now vt) (now et))
+        × ((free ≡ 0 → ⊥) → 12 * i + 12 ≤ length (now t)) ⌝ }
+    ensures { λ r. ⌜ Tries (planS (Change.VertexBefore a b) (st h (now (vt .entry)) (now (et .entry)))) i free
+        (st h (now (vt .entry)) (now (et .entry))) (now (t .entry)) (r .code) (r .cost)
+        (st (r .head) (now (vt .exit)) (now (et .entry))) (now (t .exit)) ⌝ }
 {
     let p = vertex_prev(vt, a);
     let x = vertex_prev(vt, b);
@@ -219,8 +247,11 @@ pub fn vertex_after(
     a: u32,
     b: u32,
 ) -> Made
-    requires { ⌜ Ready (Change.VertexAfter a b) (st h (now vt) (now et)) × ((free ≡ 0 → ⊥) → 12 * i + 12 ≤ length (now t)) ⌝ }
-    ensures { λ r. ⌜ Tries (planS (Change.VertexAfter a b) (st h (now (vt .entry)) (now (et .entry)))) i free (st h (now (vt .entry)) (now (et .entry))) (now (t .entry)) (r .code) (r .cost) (st (r .head) (now (vt .exit)) (now (et .entry))) (now (t .exit)) ⌝ }
+    requires { ⌜ Ready (Change.VertexAfter a b) (st h (now vt) (now et))
+        × ((free ≡ 0 → ⊥) → 12 * i + 12 ≤ length (now t)) ⌝ }
+    ensures { λ r. ⌜ Tries (planS (Change.VertexAfter a b) (st h (now (vt .entry)) (now (et .entry)))) i free
+        (st h (now (vt .entry)) (now (et .entry))) (now (t .entry)) (r .code) (r .cost)
+        (st (r .head) (now (vt .exit)) (now (et .entry))) (now (t .exit)) ⌝ }
 {
     let p = vertex_prev(vt, a);
     adding::move_vertex(h, vt, et, t, i, free, a, p, b)
@@ -237,8 +268,11 @@ pub fn edge_before(
     a: u32,
     b: u32,
 ) -> Made
-    requires { ⌜ Ready (Change.EdgeBefore a b) (st h (now vt) (now et)) × ((free ≡ 0 → ⊥) → 12 * i + 12 ≤ length (now t)) ⌝ }
-    ensures { λ r. ⌜ Tries (planS (Change.EdgeBefore a b) (st h (now (vt .entry)) (now (et .entry)))) i free (st h (now (vt .entry)) (now (et .entry))) (now (t .entry)) (r .code) (r .cost) (st (r .head) (now (vt .entry)) (now (et .exit))) (now (t .exit)) ⌝ }
+    requires { ⌜ Ready (Change.EdgeBefore a b) (st h (now vt) (now et))
+        × ((free ≡ 0 → ⊥) → 12 * i + 12 ≤ length (now t)) ⌝ }
+    ensures { λ r. ⌜ Tries (planS (Change.EdgeBefore a b) (st h (now (vt .entry)) (now (et .entry)))) i free
+        (st h (now (vt .entry)) (now (et .entry))) (now (t .entry)) (r .code) (r .cost)
+        (st (r .head) (now (vt .entry)) (now (et .exit))) (now (t .exit)) ⌝ }
 {
     let p = edge_prev(et, a);
     let x = edge_prev(et, b);
@@ -257,8 +291,11 @@ pub fn edge_after(
     a: u32,
     b: u32,
 ) -> Made
-    requires { ⌜ Ready (Change.EdgeAfter a b) (st h (now vt) (now et)) × ((free ≡ 0 → ⊥) → 12 * i + 12 ≤ length (now t)) ⌝ }
-    ensures { λ r. ⌜ Tries (planS (Change.EdgeAfter a b) (st h (now (vt .entry)) (now (et .entry)))) i free (st h (now (vt .entry)) (now (et .entry))) (now (t .entry)) (r .code) (r .cost) (st (r .head) (now (vt .entry)) (now (et .exit))) (now (t .exit)) ⌝ }
+    requires { ⌜ Ready (Change.EdgeAfter a b) (st h (now vt) (now et))
+        × ((free ≡ 0 → ⊥) → 12 * i + 12 ≤ length (now t)) ⌝ }
+    ensures { λ r. ⌜ Tries (planS (Change.EdgeAfter a b) (st h (now (vt .entry)) (now (et .entry)))) i free
+        (st h (now (vt .entry)) (now (et .entry))) (now (t .entry)) (r .code) (r .cost)
+        (st (r .head) (now (vt .entry)) (now (et .exit))) (now (t .exit)) ⌝ }
 {
     let p = edge_prev(et, a);
     adding::move_edge(h, vt, et, t, i, free, a, p, b)
@@ -275,8 +312,11 @@ pub fn word_before(
     a: u32,
     b: u32,
 ) -> Made
-    requires { ⌜ Ready (Change.WordBefore a b) (st h (now vt) (now et)) × ((free ≡ 0 → ⊥) → 12 * i + 12 ≤ length (now t)) ⌝ }
-    ensures { λ r. ⌜ Tries (planS (Change.WordBefore a b) (st h (now (vt .entry)) (now (et .entry)))) i free (st h (now (vt .entry)) (now (et .entry))) (now (t .entry)) (r .code) (r .cost) (st (r .head) (now (vt .exit)) (now (et .exit))) (now (t .exit)) ⌝ }
+    requires { ⌜ Ready (Change.WordBefore a b) (st h (now vt) (now et))
+        × ((free ≡ 0 → ⊥) → 12 * i + 12 ≤ length (now t)) ⌝ }
+    ensures { λ r. ⌜ Tries (planS (Change.WordBefore a b) (st h (now (vt .entry)) (now (et .entry)))) i free
+        (st h (now (vt .entry)) (now (et .entry))) (now (t .entry)) (r .code) (r .cost)
+        (st (r .head) (now (vt .exit)) (now (et .exit))) (now (t .exit)) ⌝ }
 {
     let v = this(et, a);
     let p = word_prev(et, a);
@@ -296,8 +336,11 @@ pub fn word_after(
     a: u32,
     b: u32,
 ) -> Made
-    requires { ⌜ Ready (Change.WordAfter a b) (st h (now vt) (now et)) × ((free ≡ 0 → ⊥) → 12 * i + 12 ≤ length (now t)) ⌝ }
-    ensures { λ r. ⌜ Tries (planS (Change.WordAfter a b) (st h (now (vt .entry)) (now (et .entry)))) i free (st h (now (vt .entry)) (now (et .entry))) (now (t .entry)) (r .code) (r .cost) (st (r .head) (now (vt .exit)) (now (et .exit))) (now (t .exit)) ⌝ }
+    requires { ⌜ Ready (Change.WordAfter a b) (st h (now vt) (now et))
+        × ((free ≡ 0 → ⊥) → 12 * i + 12 ≤ length (now t)) ⌝ }
+    ensures { λ r. ⌜ Tries (planS (Change.WordAfter a b) (st h (now (vt .entry)) (now (et .entry)))) i free
+        (st h (now (vt .entry)) (now (et .entry))) (now (t .entry)) (r .code) (r .cost)
+        (st (r .head) (now (vt .exit)) (now (et .exit))) (now (t .exit)) ⌝ }
 {
     let v = this(et, a);
     let p = word_prev(et, a);

@@ -1,4 +1,5 @@
--- A graph on its way into the tables: its vertices without lists, then its edges, then each word at the end of the list of its vertex.
+-- A graph on its way into the tables: its vertices without lists, then its edges, then each word at the end of the list
+-- of its vertex.
 use Prim.Native.Nat.{ℕ, _+_}
 use mathlib.Core.Path.{_≡_}
 use mathlib.Core.Bool.{true}
@@ -17,7 +18,13 @@ abbrev pub withoutList : Vertex → Vertex
 withoutList v = record { number = v .number; type = v .type; value = v .value; incidences = [] }
 
 abbrev pub filled : List Edge → List ℕ → Vertex → Vertex
-filled es ws v = record { number = v .number; type = v .type; value = v .value; incidences = keep (λ w. thisIn es w == v .number) ws }
+filled es ws v = record {
+  number = v .number;
+  type = v .type;
+  value = v .value;
+  incidences = keep
+      (λ w. thisIn es w == v .number) ws;
+}
 
 -- the vertex, the edge whose record stands at `at`, last in its order
 unfoldable pub vertexS : List ℕ → ℕ → State → State

@@ -10,7 +10,20 @@ use Rattle.graph.specs.Graph.{Graph, readingKind, decimetres}
 use Rattle.graph.specs.WellFormed.{Bounds, Within}
 use Rattle.image.specs.Image.{imageLength}
 use Rattle.tables.specs.declared.Head.{Head}
-use Rattle.tables.specs.Tables.{State, vlane, elane, ilane, vends, eends, endsAt, vtype, vvalue, etype, wthis, readingAt}
+use Rattle.tables.specs.Tables.{
+  State,
+  vlane,
+  elane,
+  ilane,
+  vends,
+  eends,
+  endsAt,
+  vtype,
+  vvalue,
+  etype,
+  wthis,
+  readingAt,
+}
 use Rattle.tables.specs.Holds.{Holds}
 use Rattle.tables.specs.Capacities.{Sized}
 
@@ -20,7 +33,8 @@ vertexWords vt v = v ∷ vtype vt v ∷ vvalue vt v ∷ []
 
 abbrev pub edgeWords : List ℕ → ℕ → List ℕ
 edgeWords et e =
-    e ∷ wthis et (2 * e) ∷ wthis et (2 * e + 1) ∷ etype et e ∷ readingKind (readingAt et e) ∷ decimetres (readingAt et e) ∷ []
+    e ∷ wthis et (2 * e) ∷ wthis et (2 * e + 1) ∷ etype et e ∷ readingKind (readingAt et e) ∷ decimetres
+    (readingAt et e) ∷ []
 
 abbrev pub listWords : List ℕ → List ℕ → ℕ → List ℕ
 listWords vt et v = nodes ilane et (endsAt vt v)

@@ -18,8 +18,10 @@ ghost use Rattle.store.specs.Filling.{withoutList, vertexS, edgeS, wordS
 
 // Puts the vertex whose record stands at `at` last in Vseq, with an empty list.
 fn vertex(head: Head, part: &[u32], at: usize, vt: &mut [u32], et: &[u32]) -> Head
-    requires { ⌜ (at + 3 ≤ length (now part)) × CanInsertVertex (getD (now part) at 0) (head .vlast) (st head (now vt) (now et)) ⌝ }
-    ensures { λ r. ⌜ st r (now (vt .exit)) (now (et .entry)) ≡ vertexS (now (part .entry)) at (st head (now (vt .entry)) (now (et .entry))) ⌝ }
+    requires { ⌜ (at + 3 ≤ length (now part))
+        × CanInsertVertex (getD (now part) at 0) (head .vlast) (st head (now vt) (now et)) ⌝ }
+    ensures { λ r. ⌜ st r (now (vt .exit)) (now (et .entry)) ≡ vertexS (now (part .entry)) at
+        (st head (now (vt .entry)) (now (et .entry))) ⌝ }
 {
     insert_vertex(
         head,
@@ -34,8 +36,10 @@ fn vertex(head: Head, part: &[u32], at: usize, vt: &mut [u32], et: &[u32]) -> He
 
 // Puts the edge whose record stands at `at` last in Eseq, without its words in the lists.
 fn edge(head: Head, part: &[u32], at: usize, vt: &[u32], et: &mut [u32]) -> Head
-    requires { ⌜ (at + 6 ≤ length (now part)) × CanPlaceEdge (getD (now part) at 0) (head .elast) (st head (now vt) (now et)) ⌝ }
-    ensures { λ r. ⌜ st r (now (vt .entry)) (now (et .exit)) ≡ edgeS (now (part .entry)) at (st head (now (vt .entry)) (now (et .entry))) ⌝ }
+    requires { ⌜ (at + 6 ≤ length (now part))
+        × CanPlaceEdge (getD (now part) at 0) (head .elast) (st head (now vt) (now et)) ⌝ }
+    ensures { λ r. ⌜ st r (now (vt .entry)) (now (et .exit)) ≡ edgeS (now (part .entry)) at
+        (st head (now (vt .entry)) (now (et .entry))) ⌝ }
 {
     let reading = reading_of(part[at + 4], part[at + 5]);
     place_edge(
@@ -56,7 +60,8 @@ fn edge(head: Head, part: &[u32], at: usize, vt: &[u32], et: &mut [u32]) -> Head
 // Puts word w last in the list of the vertex that it is seen from.
 fn word(head: Head, vt: &mut [u32], et: &mut [u32], w: u32)
     requires { ⌜ CanWord w (st head (now vt) (now et)) ⌝ }
-    ensures { λ _. ⌜ st head (now (vt .exit)) (now (et .exit)) ≡ wordS w (st head (now (vt .entry)) (now (et .entry))) ⌝ }
+    ensures { λ _. ⌜ st head (now (vt .exit)) (now (et .exit)) ≡ wordS w
+        (st head (now (vt .entry)) (now (et .entry))) ⌝ }
 {
     let v = this(et, w);
     let p = last_word(vt, v);
@@ -66,7 +71,8 @@ fn word(head: Head, vt: &mut [u32], et: &mut [u32], w: u32)
 // The vertices, into tables that hold nothing.
 pub fn vertices(head: Head, words: &[u32], vt: &mut [u32], et: &[u32]) -> Head
     requires { ⌜ CanLoad (now words) (now vt) (now et) × Core (st head (now vt) (now et)) [] [] ⌝ }
-    ensures { λ r. ⌜ Core (st r (now (vt .exit)) (now (et .entry))) (map withoutList (loadOf (now (words .entry)) .vseq)) [] ⌝ }
+    ensures { λ r. ⌜ Core (st r (now (vt .exit)) (now (et .entry)))
+        (map withoutList (loadOf (now (words .entry)) .vseq)) [] ⌝ }
 {
     let part = image::part(words, 1);
     let mut h = head;
@@ -80,8 +86,10 @@ pub fn vertices(head: Head, words: &[u32], vt: &mut [u32], et: &[u32]) -> Head
 
 // The edges, behind the vertices.
 pub fn edges(head: Head, words: &[u32], vt: &[u32], et: &mut [u32]) -> Head
-    requires { ⌜ CanLoad (now words) (now vt) (now et) × Core (st head (now vt) (now et)) (map withoutList (loadOf (now words) .vseq)) [] ⌝ }
-    ensures { λ r. ⌜ Core (st r (now (vt .entry)) (now (et .exit))) (map withoutList (loadOf (now (words .entry)) .vseq)) (loadOf (now (words .entry)) .eseq) ⌝ }
+    requires { ⌜ CanLoad (now words) (now vt) (now et)
+        × Core (st head (now vt) (now et)) (map withoutList (loadOf (now words) .vseq)) [] ⌝ }
+    ensures { λ r. ⌜ Core (st r (now (vt .entry)) (now (et .exit)))
+        (map withoutList (loadOf (now (words .entry)) .vseq)) (loadOf (now (words .entry)) .eseq) ⌝ }
 {
     let part = image::part(words, 2);
     let mut h = head;
@@ -95,8 +103,10 @@ pub fn edges(head: Head, words: &[u32], vt: &[u32], et: &mut [u32]) -> Head
 
 // The lists, behind the edges: the words of a list stand in its order, and each is seen from its vertex.
 pub fn lists(head: Head, words: &[u32], vt: &mut [u32], et: &mut [u32])
-    requires { ⌜ CanLoad (now words) (now vt) (now et) × Core (st head (now vt) (now et)) (map withoutList (loadOf (now words) .vseq)) (loadOf (now words) .eseq) ⌝ }
-    ensures { λ _. ⌜ Core (st head (now (vt .exit)) (now (et .exit))) (loadOf (now (words .entry)) .vseq) (loadOf (now (words .entry)) .eseq) ⌝ }
+    requires { ⌜ CanLoad (now words) (now vt) (now et)
+        × Core (st head (now vt) (now et)) (map withoutList (loadOf (now words) .vseq)) (loadOf (now words) .eseq) ⌝ }
+    ensures { λ _. ⌜ Core (st head (now (vt .exit)) (now (et .exit))) (loadOf (now (words .entry)) .vseq)
+        (loadOf (now (words .entry)) .eseq) ⌝ }
 {
     let part = image::part(words, 3);
     let mut at = 0;

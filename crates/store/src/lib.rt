@@ -14,10 +14,12 @@ ghost use Rattle.tables.specs.Holds.{Holds};
 ghost use Rattle.store.specs.Words.{CanSave};
 ghost use Rattle.store.specs.Filling.{CanLoad};
 
-// Writes the image of the graph that the tables hold to the front of `out`; the words beyond it stay. Returns how many words it has.
+// Writes the image of the graph that the tables hold to the front of `out`; the words beyond it stay. Returns how many
+// words it has.
 pub fn save(head: Head, vt: &[u32], et: &[u32], out: &mut [u32]) -> usize
     requires { ⌜ CanSave (st head (now vt) (now et)) (length (now out)) ⌝ }
-    ensures { λ r. ⌜ ((g : Graph) → Holds (st head (now (vt .entry)) (now (et .entry))) g → (now (out .exit) ≡ over (saveOf g) (now (out .entry))) × (r ≡ length (saveOf g))) ⌝ }
+    ensures { λ r. ⌜ ((g : Graph) → Holds (st head (now (vt .entry)) (now (et .entry))) g
+        → (now (out .exit) ≡ over (saveOf g) (now (out .entry))) × (r ≡ length (saveOf g))) ⌝ }
 {
     write::header(out, head.vertices, head.edges);
     let a = write::vertices(head, vt, out, 6);

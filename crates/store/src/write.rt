@@ -17,7 +17,8 @@ ghost use lib.ListN.{length};
 ghost use lib.Seq.{sets};
 ghost use Rattle.image.specs.Image.{headerOf};
 ghost use Rattle.tables.specs.Tables.{VIn, EIn, vlane, elane, ilane, vends, eends, endsAt};
-ghost use Rattle.store.specs.Words.{vertexWords, edgeWords, listWords, vertexPart, edgePart, incidencePart, Fits, Some};
+ghost use Rattle.store.specs.Words.{vertexWords, edgeWords, listWords, vertexPart, edgePart, incidencePart};
+ghost use Rattle.store.specs.Words.{Fits, Some};
 
 fn three(out: &mut [u32], at: usize, a: u32, b: u32, c: u32)
     requires { ⌜ at + 3 ≤ length (now out) ⌝ }
@@ -65,7 +66,8 @@ fn edge(et: &[u32], e: u32, out: &mut [u32], at: usize)
 // The vertex part.
 pub fn vertices(head: Head, vt: &[u32], out: &mut [u32], from: usize) -> usize
     requires { ⌜ Some vlane (now vt) (vends head) × Fits from (vertexPart head (now vt)) (now out) ⌝ }
-    ensures { λ r. ⌜ (now (out .exit) ≡ sets (now (out .entry)) from (vertexPart head (now (vt .entry)))) × (r ≡ from + length (vertexPart head (now (vt .entry)))) ⌝ }
+    ensures { λ r. ⌜ (now (out .exit) ≡ sets (now (out .entry)) from (vertexPart head (now (vt .entry))))
+        × (r ≡ from + length (vertexPart head (now (vt .entry)))) ⌝ }
 {
     let lane = Lane { stride: 8, skip: 2 };
     let ends = Ends {
@@ -84,8 +86,10 @@ pub fn vertices(head: Head, vt: &[u32], out: &mut [u32], from: usize) -> usize
 
 // The edge part.
 pub fn edges(head: Head, et: &[u32], out: &mut [u32], from: usize) -> usize
-    requires { ⌜ Some elane (now et) (eends head) × (length (now et) < 2 ^ 31) × Fits from (edgePart head (now et)) (now out) ⌝ }
-    ensures { λ r. ⌜ (now (out .exit) ≡ sets (now (out .entry)) from (edgePart head (now (et .entry)))) × (r ≡ from + length (edgePart head (now (et .entry)))) ⌝ }
+    requires { ⌜ Some elane (now et) (eends head) × (length (now et) < 2 ^ 31)
+        × Fits from (edgePart head (now et)) (now out) ⌝ }
+    ensures { λ r. ⌜ (now (out .exit) ≡ sets (now (out .entry)) from (edgePart head (now (et .entry))))
+        × (r ≡ from + length (edgePart head (now (et .entry)))) ⌝ }
 {
     let lane = Lane {
         stride: 12,
@@ -107,8 +111,10 @@ pub fn edges(head: Head, et: &[u32], out: &mut [u32], from: usize) -> usize
 
 // The incidence list of v.
 fn list(vt: &[u32], et: &[u32], v: u32, out: &mut [u32], from: usize) -> usize
-    requires { ⌜ VIn (now vt) v × Some ilane (now et) (endsAt (now vt) v) × Fits from (listWords (now vt) (now et) v) (now out) ⌝ }
-    ensures { λ r. ⌜ (now (out .exit) ≡ sets (now (out .entry)) from (listWords (now (vt .entry)) (now (et .entry)) v)) × (r ≡ from + length (listWords (now (vt .entry)) (now (et .entry)) v)) ⌝ }
+    requires { ⌜ VIn (now vt) v × Some ilane (now et) (endsAt (now vt) v)
+        × Fits from (listWords (now vt) (now et) v) (now out) ⌝ }
+    ensures { λ r. ⌜ (now (out .exit) ≡ sets (now (out .entry)) from (listWords (now (vt .entry)) (now (et .entry)) v))
+        × (r ≡ from + length (listWords (now (vt .entry)) (now (et .entry)) v)) ⌝ }
 {
     let lane = Lane {
         stride: 6,
@@ -127,8 +133,11 @@ fn list(vt: &[u32], et: &[u32], v: u32, out: &mut [u32], from: usize) -> usize
 
 // The incidence part.
 pub fn lists(head: Head, vt: &[u32], et: &[u32], out: &mut [u32], from: usize) -> usize
-    requires { ⌜ Some vlane (now vt) (vends head) × ((v : ℕ) → 1 ≤ v → Some ilane (now et) (endsAt (now vt) v)) × Fits from (incidencePart head (now vt) (now et)) (now out) ⌝ }
-    ensures { λ r. ⌜ (now (out .exit) ≡ sets (now (out .entry)) from (incidencePart head (now (vt .entry)) (now (et .entry)))) × (r ≡ from + length (incidencePart head (now (vt .entry)) (now (et .entry)))) ⌝ }
+    requires { ⌜ Some vlane (now vt) (vends head) × ((v : ℕ) → 1 ≤ v → Some ilane (now et) (endsAt (now vt) v))
+        × Fits from (incidencePart head (now vt) (now et)) (now out) ⌝ }
+    ensures { λ r. ⌜
+        (now (out .exit) ≡ sets (now (out .entry)) from (incidencePart head (now (vt .entry)) (now (et .entry))))
+        × (r ≡ from + length (incidencePart head (now (vt .entry)) (now (et .entry)))) ⌝ }
 {
     let lane = Lane { stride: 8, skip: 2 };
     let ends = Ends {

@@ -2,10 +2,44 @@
 use Prim.Native.Nat.{_^_, _<_}
 use lib.ListN.{length}
 use Rattle.graph.specs.declared.Edit.{Edit}
-use Rattle.graph.specs.declared.Edit.the-variants.{InsertVertex, RemoveVertex, InsertEdge, RemoveEdge, SetVertex, SetEdge, MoveVertex, MoveEdge, MoveWord}
-use Rattle.tables.specs.Tables.{State, vlane, elane, vends, eends, VIn, EIn, CanMove, setVertexS, moveVertexS, insertVertexS, CanInsertVertex, removeVertexS, CanRemoveVertex, setEdgeS, moveEdgeS, insertEdgeS, CanInsertEdge, removeEdgeS, CanRemoveEdge, moveWordS, CanMoveWord}
+use Rattle.graph.specs.declared.Edit.the-variants.{
+  InsertVertex,
+  RemoveVertex,
+  InsertEdge,
+  RemoveEdge,
+  SetVertex,
+  SetEdge,
+  MoveVertex,
+  MoveEdge,
+  MoveWord,
+}
+use Rattle.tables.specs.Tables.{
+  State,
+  vlane,
+  elane,
+  vends,
+  eends,
+  VIn,
+  EIn,
+  CanMove,
+  setVertexS,
+  moveVertexS,
+  insertVertexS,
+  CanInsertVertex,
+  removeVertexS,
+  CanRemoveVertex,
+  setEdgeS,
+  moveEdgeS,
+  insertEdgeS,
+  CanInsertEdge,
+  removeEdgeS,
+  CanRemoveEdge,
+  moveWordS,
+  CanMoveWord,
+}
 
--- the head and the tables after an edit; of what the edit says of the graph before it, only the ends of an edge and the vertex of a word are used
+-- the head and the tables after an edit; of what the edit says of the graph before it, only the ends of an edge and the
+-- vertex of a word are used
 abbrev pub applyS : Edit → State → State
 applyS (InsertVertex n t v p) s = insertVertexS n t v p s
 applyS (RemoveVertex n t v p) s = removeVertexS n s

@@ -6,7 +6,20 @@ use mathlib.Core.List.{List, map}
 use lib.ListN.{length, getD}
 use Rattle.ring.specs.Links.{Held}
 use Rattle.lists.specs.Keyed.{countBy}
-use Rattle.graph.specs.Graph.{Vertex, Edge, Graph, vn, en, wd, vertexIn, edgeIn, listIn, thisIn, readingKind, decimetres}
+use Rattle.graph.specs.Graph.{
+  Vertex,
+  Edge,
+  Graph,
+  vn,
+  en,
+  wd,
+  vertexIn,
+  edgeIn,
+  listIn,
+  thisIn,
+  readingKind,
+  decimetres,
+}
 use Rattle.graph.specs.WellFormed.{WellFormed}
 use Rattle.tables.specs.Tables.{State, vlane, elane, ilane, vat, eat, wat, vends, eends, endsAt}
 

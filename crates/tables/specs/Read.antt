@@ -3,13 +3,43 @@ use Prim.Native.Nat.{ℕ, _+_, _*_}
 use mathlib.Core.List.{map}
 use Rattle.ring.specs.Links.{nodes}
 use Rattle.graph.specs.Graph.{Vertex, Edge, Graph}
-use Rattle.tables.specs.Tables.{State, vlane, elane, ilane, vends, eends, endsAt, vtype, vvalue, etype, wthis, readingAt}
+use Rattle.tables.specs.Tables.{
+  State,
+  vlane,
+  elane,
+  ilane,
+  vends,
+  eends,
+  endsAt,
+  vtype,
+  vvalue,
+  etype,
+  wthis,
+  readingAt,
+}
 
 abbrev pub vertexAt : State → ℕ → Vertex
-vertexAt s v = record { number = v; type = vtype (s .vt) v; value = vvalue (s .vt) v; incidences = nodes ilane (s .et) (endsAt (s .vt) v) }
+vertexAt s v = record {
+  number = v;
+  type = vtype (s .vt) v;
+  value = vvalue (s .vt) v;
+  incidences = nodes ilane (s .et)
+      (endsAt (s .vt) v);
+}
 
 abbrev pub edgeAt : State → ℕ → Edge
-edgeAt s e = record { number = e; alpha = wthis (s .et) (2 * e); omega = wthis (s .et) (2 * e + 1); type = etype (s .et) e; reading = readingAt (s .et) e }
+edgeAt s e = record {
+  number = e;
+  alpha = wthis (s .et) (2 * e);
+  omega = wthis (s .et) (2 * e + 1);
+  type = etype
+      (s .et) e;
+  reading = readingAt (s .et) e;
+}
 
 unfoldable pub graphOf : State → Graph
-graphOf s = record { vseq = map (vertexAt s) (nodes vlane (s .vt) (vends (s .head))); eseq = map (edgeAt s) (nodes elane (s .et) (eends (s .head))) }
+graphOf s = record {
+  vseq = map (vertexAt s) (nodes vlane (s .vt) (vends (s .head)));
+  eseq = map (edgeAt s)
+      (nodes elane (s .et) (eends (s .head)));
+}

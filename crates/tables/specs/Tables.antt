@@ -100,10 +100,24 @@ abbrev pub eends : Head → Ends
 eends h = record { first = h .efirst; last = h .elast }
 
 abbrev pub withV : Ends → Head → Head
-withV e h = record { vfirst = e .first; vlast = e .last; efirst = h .efirst; elast = h .elast; vertices = h .vertices; edges = h .edges }
+withV e h = record {
+  vfirst = e .first;
+  vlast = e .last;
+  efirst = h .efirst;
+  elast = h .elast;
+  vertices = h .vertices;
+  edges = h .edges;
+}
 
 abbrev pub withE : Ends → Head → Head
-withE e h = record { vfirst = h .vfirst; vlast = h .vlast; efirst = e .first; elast = e .last; vertices = h .vertices; edges = h .edges }
+withE e h = record {
+  vfirst = h .vfirst;
+  vlast = h .vlast;
+  efirst = e .first;
+  elast = e .last;
+  vertices = h .vertices;
+  edges = h .edges;
+}
 
 -- vertex v's row is in the table; edge e's
 abbrev pub VIn : List ℕ → ℕ → Type 0
@@ -145,18 +159,21 @@ pub record CanMove (lane : Lane) (n p : ℕ) (t : List ℕ) (e : Ends) : Type 0 
   pub back : CanInsert lane (unlinkT lane t e n) (unlinkE lane t e n) p n
 
 unfoldable pub moveVertexS : ℕ → ℕ → State → State
-moveVertexS n p s = st (withV (moveE vlane n p (s .vt) (vends (s .head))) (s .head)) (moveT vlane n p (s .vt) (vends (s .head))) (s .et)
+moveVertexS n p s = st (withV (moveE vlane n p (s .vt) (vends (s .head))) (s .head))
+    (moveT vlane n p (s .vt) (vends (s .head))) (s .et)
 
 -- word w out of v's list, and into it after p
 unfoldable pub detachS : ℕ → ℕ → State → State
-detachS v w s = st (s .head) (putEnds v (unlinkE ilane (s .et) (endsAt (s .vt) v) w) (s .vt)) (unlinkT ilane (s .et) (endsAt (s .vt) v) w)
+detachS v w s = st (s .head) (putEnds v (unlinkE ilane (s .et) (endsAt (s .vt) v) w) (s .vt))
+    (unlinkT ilane (s .et) (endsAt (s .vt) v) w)
 
 pub record CanDetach (v w : ℕ) (s : State) : Type 0 where
   pub row : VIn (s .vt) v
   pub out : CanUnlink ilane (s .et) (endsAt (s .vt) v) w
 
 unfoldable pub attachS : ℕ → ℕ → ℕ → State → State
-attachS v p w s = st (s .head) (putEnds v (insertE ilane (s .et) (endsAt (s .vt) v) p w) (s .vt)) (insertT ilane (s .et) (endsAt (s .vt) v) p w)
+attachS v p w s = st (s .head) (putEnds v (insertE ilane (s .et) (endsAt (s .vt) v) p w) (s .vt))
+    (insertT ilane (s .et) (endsAt (s .vt) v) p w)
 
 pub record CanAttach (v p w : ℕ) (s : State) : Type 0 where
   pub row : VIn (s .vt) v
@@ -181,16 +198,31 @@ unfoldable pub rowVT : ℕ → ℕ → ℕ → ℕ → List ℕ → List ℕ
 rowVT v live t x vt = set (set (set vt (vat 0 v) live) (vat 1 v) t) (vat 2 v) x
 
 unfoldable pub rowET : ℕ → ℕ → ℕ → Reading → List ℕ → List ℕ
-rowET e live t r et = set (set (set (set et (eat 3 e) live) (eat 4 e) t) (eat 5 e) (readingKind r)) (eat 9 e) (decimetres r)
+rowET e live t r et = set (set (set (set et (eat 3 e) live) (eat 4 e) t) (eat 5 e) (readingKind r)) (eat 9 e)
+    (decimetres r)
 
 unfoldable pub thisET : ℕ → ℕ → ℕ → List ℕ → List ℕ
 thisET e a z et = set (set et (wat 2 (2 * e)) a) (wat 2 (2 * e + 1)) z
 
 abbrev pub countV : ℕ → Head → Head
-countV n h = record { vfirst = h .vfirst; vlast = h .vlast; efirst = h .efirst; elast = h .elast; vertices = n; edges = h .edges }
+countV n h = record {
+  vfirst = h .vfirst;
+  vlast = h .vlast;
+  efirst = h .efirst;
+  elast = h .elast;
+  vertices = n;
+  edges = h .edges;
+}
 
 abbrev pub countE : ℕ → Head → Head
-countE n h = record { vfirst = h .vfirst; vlast = h .vlast; efirst = h .efirst; elast = h .elast; vertices = h .vertices; edges = n }
+countE n h = record {
+  vfirst = h .vfirst;
+  vlast = h .vlast;
+  efirst = h .efirst;
+  elast = h .elast;
+  vertices = h .vertices;
+  edges = n;
+}
 
 -- ---- vertices
 
@@ -223,7 +255,8 @@ unfoldable pub setEdgeS : ℕ → ℕ → Reading → State → State
 setEdgeS e t r s = st (s .head) (s .vt) (rowET e 1 t r (s .et))
 
 unfoldable pub moveEdgeS : ℕ → ℕ → State → State
-moveEdgeS n p s = st (withE (moveE elane n p (s .et) (eends (s .head))) (s .head)) (s .vt) (moveT elane n p (s .et) (eends (s .head)))
+moveEdgeS n p s = st (withE (moveE elane n p (s .et) (eends (s .head))) (s .head)) (s .vt)
+    (moveT elane n p (s .et) (eends (s .head)))
 
 -- an edge's row and its place in eseq, without its words in the lists
 unfoldable pub placeEdgeS : ℕ → ℕ → ℕ → ℕ → Reading → ℕ → State → State
@@ -265,10 +298,12 @@ pub record CanRemoveEdge (n a z : ℕ) (s : State) : Type 0 where
 -- ---- look-ups
 
 unfoldable pub foundV : List ℕ → ℕ → Lookup
-foundV vt v = (v == 0) ⇒ Missing else ltb (length vt) (8 * v) ⇒ Missing else (getD vt (vat 0 v) 0 == 0) ⇒ Missing else Found (8 * v - 8)
+foundV vt v = (v == 0) ⇒ Missing else ltb (length vt) (8 * v) ⇒ Missing else
+    (getD vt (vat 0 v) 0 == 0) ⇒ Missing else Found (8 * v - 8)
 
 unfoldable pub foundE : List ℕ → ℕ → Lookup
-foundE et e = (e == 0) ⇒ Missing else ltb (length et) (12 * e) ⇒ Missing else (getD et (eat 3 e) 0 == 0) ⇒ Missing else Found (12 * e - 12)
+foundE et e = (e == 0) ⇒ Missing else ltb (length et) (12 * e) ⇒ Missing else
+    (getD et (eat 3 e) 0 == 0) ⇒ Missing else Found (12 * e - 12)
 
 -- the code of a look-up that fails: REFERENCE 7.4
 abbrev pub vertexCode : Lookup → ℕ

@@ -12,12 +12,15 @@ use ring::Ends;
 use ring::Lane;
 ghost use mathlib.Core.Path.{_≡_};
 ghost use Prim.Native.Nat.{_^_, _<_};
-ghost use Rattle.tables.specs.Tables.{st, eends, elane, EIn, CanMove, setEdgeS, moveEdgeS, placeEdgeS, CanPlaceEdge, dropEdgeS, CanDropEdge, insertEdgeS, CanInsertEdge, removeEdgeS, CanRemoveEdge};
+ghost use Rattle.tables.specs.Tables.{st, eends, elane, EIn, CanMove, setEdgeS, moveEdgeS, placeEdgeS};
+ghost use Rattle.tables.specs.Tables.{CanPlaceEdge, dropEdgeS, CanDropEdge, insertEdgeS, CanInsertEdge};
+ghost use Rattle.tables.specs.Tables.{removeEdgeS, CanRemoveEdge};
 
 // Sets type and reading of e.
 pub fn set_edge(head: Head, vt: &[u32], et: &mut [u32], e: u32, sort: u32, r: Reading)
     requires { ⌜ EIn (now et) e ⌝ }
-    ensures { λ _. ⌜ st head (now (vt .entry)) (now (et .exit)) ≡ setEdgeS e sort r (st head (now (vt .entry)) (now (et .entry))) ⌝ }
+    ensures { λ _. ⌜ st head (now (vt .entry)) (now (et .exit)) ≡ setEdgeS e sort r
+        (st head (now (vt .entry)) (now (et .entry))) ⌝ }
 {
     put_edge(et, e, 1, sort, r);
 }
@@ -25,7 +28,8 @@ pub fn set_edge(head: Head, vt: &[u32], et: &mut [u32], e: u32, sort: u32, r: Re
 // Puts edge n after p in Eseq.
 pub fn move_edge(head: Head, vt: &[u32], et: &mut [u32], n: u32, p: u32) -> Head
     requires { ⌜ CanMove elane n p (now et) (eends head) ⌝ }
-    ensures { λ r. ⌜ st r (now (vt .entry)) (now (et .exit)) ≡ moveEdgeS n p (st head (now (vt .entry)) (now (et .entry))) ⌝ }
+    ensures { λ r. ⌜ st r (now (vt .entry)) (now (et .exit)) ≡ moveEdgeS n p
+        (st head (now (vt .entry)) (now (et .entry))) ⌝ }
 {
     let e = relink(
         et,
@@ -53,7 +57,8 @@ pub fn move_edge(head: Head, vt: &[u32], et: &mut [u32], n: u32, p: u32) -> Head
 // An edge's row and its place in Eseq, without its words in the lists.
 pub fn place_edge(head: Head, vt: &[u32], et: &mut [u32], x: EdgeRecord, p: u32) -> Head
     requires { ⌜ CanPlaceEdge (x .number) p (st head (now vt) (now et)) ⌝ }
-    ensures { λ r. ⌜ st r (now (vt .entry)) (now (et .exit)) ≡ placeEdgeS (x .number) (x .alpha) (x .omega) (x .sort) (x .reading) p (st head (now (vt .entry)) (now (et .entry))) ⌝ }
+    ensures { λ r. ⌜ st r (now (vt .entry)) (now (et .exit)) ≡ placeEdgeS (x .number) (x .alpha) (x .omega) (x .sort)
+        (x .reading) p (st head (now (vt .entry)) (now (et .entry))) ⌝ }
 {
     let r = x.reading;
     let e = ring::insert_after(
@@ -83,7 +88,8 @@ pub fn place_edge(head: Head, vt: &[u32], et: &mut [u32], x: EdgeRecord, p: u32)
 
 fn drop_edge(head: Head, vt: &[u32], et: &mut [u32], n: u32) -> Head
     requires { ⌜ CanDropEdge n (st head (now vt) (now et)) ⌝ }
-    ensures { λ r. ⌜ st r (now (vt .entry)) (now (et .exit)) ≡ dropEdgeS n (st head (now (vt .entry)) (now (et .entry))) ⌝ }
+    ensures { λ r. ⌜ st r (now (vt .entry)) (now (et .exit)) ≡ dropEdgeS n
+        (st head (now (vt .entry)) (now (et .entry))) ⌝ }
 {
     let e = ring::unlink(
         et,
@@ -111,8 +117,11 @@ fn drop_edge(head: Head, vt: &[u32], et: &mut [u32], n: u32) -> Head
 
 // Puts edge x into Eseq and its words into the lists.
 pub fn insert_edge(head: Head, vt: &mut [u32], et: &mut [u32], x: EdgeRecord, at: Places) -> Head
-    requires { ⌜ (x .number < 2 ^ 31) × CanInsertEdge (x .number) (x .alpha) (x .omega) (x .sort) (x .reading) (at .order) (at .out) (at .into) (st head (now vt) (now et)) ⌝ }
-    ensures { λ r. ⌜ st r (now (vt .exit)) (now (et .exit)) ≡ insertEdgeS (x .number) (x .alpha) (x .omega) (x .sort) (x .reading) (at .order) (at .out) (at .into) (st head (now (vt .entry)) (now (et .entry))) ⌝ }
+    requires { ⌜ (x .number < 2 ^ 31)
+        × CanInsertEdge (x .number) (x .alpha) (x .omega) (x .sort) (x .reading) (at .order) (at .out) (at .into)
+        (st head (now vt) (now et)) ⌝ }
+    ensures { λ r. ⌜ st r (now (vt .exit)) (now (et .exit)) ≡ insertEdgeS (x .number) (x .alpha) (x .omega) (x .sort)
+        (x .reading) (at .order) (at .out) (at .into) (st head (now (vt .entry)) (now (et .entry))) ⌝ }
 {
     let h = place_edge(head, vt, et, x, at.order);
     attach(h, vt, et, x.alpha, at.out, 2 * x.number);
@@ -123,7 +132,8 @@ pub fn insert_edge(head: Head, vt: &mut [u32], et: &mut [u32], x: EdgeRecord, at
 // Takes edge n, from a to z, out of the lists and out of Eseq.
 pub fn remove_edge(head: Head, vt: &mut [u32], et: &mut [u32], n: u32, a: u32, z: u32) -> Head
     requires { ⌜ (n < 2 ^ 31) × CanRemoveEdge n a z (st head (now vt) (now et)) ⌝ }
-    ensures { λ r. ⌜ st r (now (vt .exit)) (now (et .exit)) ≡ removeEdgeS n a z (st head (now (vt .entry)) (now (et .entry))) ⌝ }
+    ensures { λ r. ⌜ st r (now (vt .exit)) (now (et .exit)) ≡ removeEdgeS n a z
+        (st head (now (vt .entry)) (now (et .entry))) ⌝ }
 {
     detach(head, vt, et, z, 2 * n + 1);
     detach(head, vt, et, a, 2 * n);

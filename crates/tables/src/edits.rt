@@ -37,7 +37,8 @@ pub fn inverse_of(edit: Edit) -> Edit
 // Carries an edit out.
 pub fn apply_edit(head: Head, vt: &mut [u32], et: &mut [u32], edit: Edit) -> Head
     requires { ⌜ Can edit (st head (now vt) (now et)) ⌝ }
-    ensures { λ r. ⌜ st r (now (vt .exit)) (now (et .exit)) ≡ applyS edit (st head (now (vt .entry)) (now (et .entry))) ⌝ }
+    ensures { λ r. ⌜ st r (now (vt .exit)) (now (et .exit)) ≡ applyS edit
+        (st head (now (vt .entry)) (now (et .entry))) ⌝ }
 {
     match edit {
         Edit::InsertVertex(n, t, x, p) => insert_vertex(head, vt, et, n, t, x, p),

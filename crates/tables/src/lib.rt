@@ -42,7 +42,8 @@ pub enum Lookup {
     Missing,
 }
 
-// The same head, built word by word. The compiler keeps the words of a record that is built so in registers; one that is
+// The same head, built word by word. The compiler keeps the words of a record that is built so in registers; one that
+// is
 // passed through whole, it copies in memory.
 pub fn same(h: Head) -> Head
     ensures { λ r. ⌜ r ≡ h ⌝ }

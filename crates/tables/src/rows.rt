@@ -3,7 +3,9 @@ use graph::Reading;
 use ring::Ends;
 ghost use mathlib.Core.Path.{_≡_};
 ghost use Rattle.graph.specs.Graph.{readingKind, decimetres, readingOf};
-ghost use Rattle.tables.specs.Tables.{VIn, EIn, WIn, vtype, vvalue, vfirst, vlast, vprev, vnext, etype, ekind, edecimetres, eprev, enext, wprev, wnext, wthis, readingAt, endsAt, putEnds, rowVT, rowET, thisET};
+ghost use Rattle.tables.specs.Tables.{VIn, EIn, WIn, vtype, vvalue, vfirst, vlast, vprev, vnext, etype, ekind};
+ghost use Rattle.tables.specs.Tables.{edecimetres, eprev, enext, wprev, wnext, wthis, readingAt, endsAt};
+ghost use Rattle.tables.specs.Tables.{putEnds, rowVT, rowET, thisET};
 
 // The type of vertex v.
 pub fn vertex_type(vt: &[u32], v: u32) -> u32

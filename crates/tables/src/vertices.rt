@@ -4,12 +4,14 @@ use crate::rows::put_vertex;
 use ring::Ends;
 use ring::Lane;
 ghost use mathlib.Core.Path.{_≡_};
-ghost use Rattle.tables.specs.Tables.{st, vends, vlane, VIn, moveT, moveE, CanMove, setVertexS, moveVertexS, insertVertexS, CanInsertVertex, removeVertexS, CanRemoveVertex};
+ghost use Rattle.tables.specs.Tables.{st, vends, vlane, VIn, moveT, moveE, CanMove, setVertexS, moveVertexS};
+ghost use Rattle.tables.specs.Tables.{insertVertexS, CanInsertVertex, removeVertexS, CanRemoveVertex};
 
 // Sets type and value of v.
 pub fn set_vertex(head: Head, vt: &mut [u32], et: &[u32], v: u32, sort: u32, value: u32)
     requires { ⌜ VIn (now vt) v ⌝ }
-    ensures { λ _. ⌜ st head (now (vt .exit)) (now (et .entry)) ≡ setVertexS v sort value (st head (now (vt .entry)) (now (et .entry))) ⌝ }
+    ensures { λ _. ⌜ st head (now (vt .exit)) (now (et .entry)) ≡ setVertexS v sort value
+        (st head (now (vt .entry)) (now (et .entry))) ⌝ }
 {
     put_vertex(vt, v, 1, sort, value);
 }
@@ -26,7 +28,8 @@ pub fn relink(t: &mut [u32], lane: Lane, e: Ends, n: u32, p: u32) -> Ends
 // Puts vertex n after p in Vseq.
 pub fn move_vertex(head: Head, vt: &mut [u32], et: &[u32], n: u32, p: u32) -> Head
     requires { ⌜ CanMove vlane n p (now vt) (vends head) ⌝ }
-    ensures { λ r. ⌜ st r (now (vt .exit)) (now (et .entry)) ≡ moveVertexS n p (st head (now (vt .entry)) (now (et .entry))) ⌝ }
+    ensures { λ r. ⌜ st r (now (vt .exit)) (now (et .entry)) ≡ moveVertexS n p
+        (st head (now (vt .entry)) (now (et .entry))) ⌝ }
 {
     let e = relink(
         vt,
@@ -59,7 +62,8 @@ pub fn insert_vertex(
     p: u32,
 ) -> Head
     requires { ⌜ CanInsertVertex n p (st head (now vt) (now et)) ⌝ }
-    ensures { λ r. ⌜ st r (now (vt .exit)) (now (et .entry)) ≡ insertVertexS n sort value p (st head (now (vt .entry)) (now (et .entry))) ⌝ }
+    ensures { λ r. ⌜ st r (now (vt .exit)) (now (et .entry)) ≡ insertVertexS n sort value p
+        (st head (now (vt .entry)) (now (et .entry))) ⌝ }
 {
     let e = ring::insert_after(
         vt,
@@ -85,7 +89,8 @@ pub fn insert_vertex(
 // Takes vertex n, whose list is empty, out of Vseq.
 pub fn remove_vertex(head: Head, vt: &mut [u32], et: &[u32], n: u32) -> Head
     requires { ⌜ CanRemoveVertex n (st head (now vt) (now et)) ⌝ }
-    ensures { λ r. ⌜ st r (now (vt .exit)) (now (et .entry)) ≡ removeVertexS n (st head (now (vt .entry)) (now (et .entry))) ⌝ }
+    ensures { λ r. ⌜ st r (now (vt .exit)) (now (et .entry)) ≡ removeVertexS n
+        (st head (now (vt .entry)) (now (et .entry))) ⌝ }
 {
     let e = ring::unlink(
         vt,

@@ -47,7 +47,9 @@ freshLine = record { fields = 0; number = Empty }
 
 -- a fifth space makes the line bad
 unfoldable pub spaceIn : Line → Line
-spaceIn l = (isValue (l .number) && ltb (l .fields) 4) ⇒ record { fields = l .fields + 1; number = Empty } else record { fields = l .fields; number = Bad }
+spaceIn l =
+    (isValue (l .number) && ltb (l .fields) 4) ⇒ record { fields = l .fields + 1; number = Empty } else
+    record { fields = l .fields; number = Bad }
 
 unfoldable pub lineIn : Line → ℕ → Line
 unfolding spaceIn digitIn
@@ -76,7 +78,12 @@ badAfter bad n good = (bad == 0) ⇒ (good ⇒ 0 else n) else bad
 
 unfoldable pub newlineIn : Lines → Lines
 unfolding badAfter
-newlineIn s = record { ended = s .ended + 1; bad = badAfter (s .bad) (s .ended + 1) (lineGood (s .line)); line = freshLine }
+newlineIn s = record {
+  ended = s .ended + 1;
+  bad = badAfter (s .bad) (s .ended + 1)
+      (lineGood (s .line));
+  line = freshLine;
+}
 
 unfoldable pub byteIn : Lines → ℕ → Lines
 unfolding newlineIn lineIn
@@ -85,7 +92,8 @@ byteIn s b = (b == 10) ⇒ newlineIn s else record { ended = s .ended; bad = s .
 -- a rest is a line too, and bad
 unfoldable pub restIn : Lines → Lines
 unfolding badAfter
-restIn s = lineBlank (s .line) ⇒ s else record { ended = s .ended + 1; bad = badAfter (s .bad) (s .ended + 1) false; line = freshLine }
+restIn s = lineBlank
+    (s .line) ⇒ s else record { ended = s .ended + 1; bad = badAfter (s .bad) (s .ended + 1) false; line = freshLine }
 
 -- ---- the words: each number that a space or a newline ends
 

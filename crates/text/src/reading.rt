@@ -5,7 +5,9 @@ ghost use lib.ListN.{length};
 ghost use lib.Seq.{sets};
 ghost use Rattle.lists.specs.Lists.{over};
 ghost use Rattle.text.specs.Reading.{readText, wordsOf, answered};
-ghost use Rattle.text.specs.Scan.{run, moreDigit, addDigit, digitIn, isValue, valueIn, blank, spaceIn, lineIn, lineGood, lineBlank, freshLines, badAfter, newlineIn, byteIn, restIn, ends, numberAfter, wordAt, wordsFrom};
+ghost use Rattle.text.specs.Scan.{run, moreDigit, addDigit, digitIn, isValue, valueIn, blank, spaceIn, lineIn};
+ghost use Rattle.text.specs.Scan.{lineGood, lineBlank, freshLines, badAfter, newlineIn, byteIn, restIn, ends};
+ghost use Rattle.text.specs.Scan.{numberAfter, wordAt, wordsFrom};
 
 // What the bytes are: so many words of calls, or unreadable and the number that is printed after it.
 pub enum ReadVerdict {
@@ -270,7 +272,8 @@ fn word_at(calls: &mut [u32], k: usize, n: Number, b: u8) -> usize
 // The words of readable bytes.
 pub fn words(bytes: &[u8], calls: &mut [u32]) -> usize
     requires { ⌜ length (wordsFrom Number.Empty (now bytes)) ≤ length (now calls) ⌝ }
-    ensures { λ r. ⌜ (r ≡ length (wordsFrom Number.Empty (now (bytes .entry)))) × (now (calls .exit) ≡ over (wordsFrom Number.Empty (now (bytes .entry))) (now (calls .entry))) ⌝ }
+    ensures { λ r. ⌜ (r ≡ length (wordsFrom Number.Empty (now (bytes .entry))))
+        × (now (calls .exit) ≡ over (wordsFrom Number.Empty (now (bytes .entry))) (now (calls .entry))) ⌝ }
 {
     let mut n = Number::Empty;
     let mut k = 0;
@@ -284,10 +287,12 @@ pub fn words(bytes: &[u8], calls: &mut [u32]) -> usize
     k
 }
 
-// The words of the calls stand at the front of calls, and behind them what stood there; unreadable bytes leave calls as it is.
+// The words of the calls stand at the front of calls, and behind them what stood there; unreadable bytes leave calls as
+// it is.
 pub fn read(bytes: &[u8], calls: &mut [u32]) -> ReadVerdict
     requires { ⌜ 5000 ≤ length (now calls) ⌝ }
-    ensures { λ r. ⌜ (r ≡ answered (readText (now (bytes .entry)))) × (now (calls .exit) ≡ over (wordsOf (readText (now (bytes .entry)))) (now (calls .entry))) ⌝ }
+    ensures { λ r. ⌜ (r ≡ answered (readText (now (bytes .entry))))
+        × (now (calls .exit) ≡ over (wordsOf (readText (now (bytes .entry)))) (now (calls .entry))) ⌝ }
 {
     if 60000 < bytes.len() {
         return ReadVerdict::Unreadable(0);

@@ -79,7 +79,8 @@ fn answers(out: &mut [u8], words: &[u32]) -> usize
 // A line of an answer has at most 19 bytes, and a number of the image with its space 11.
 pub fn write(codes: &[u32], image: &[u32], out: &mut [u8]) -> usize
     requires { ⌜ 10 * length (now codes) + 11 * length (now image) + 6 ≤ length (now out) ⌝ }
-    ensures { λ r. ⌜ Written (writeText (now (codes .entry)) (now (image .entry))) r (now (out .entry)) (now (out .exit)) ⌝ }
+    ensures { λ r. ⌜ Written (writeText (now (codes .entry)) (now (image .entry))) r (now (out .entry))
+        (now (out .exit)) ⌝ }
 {
     let p = answers(out, codes);
     line(out, p, b"image", image)

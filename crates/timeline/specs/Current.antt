@@ -6,7 +6,10 @@ use Rattle.timeline.specs.declared.Current.{Current}
 
 -- a step of so many rows: p grows by 1, and it is the last step
 abbrev pub afterStep : Position → Head → ℕ → Current
-afterStep p h rows = record { head = h; position = record { place = p .place + 1; steps = p .place + 1; used = p .used + rows } }
+afterStep p h rows = record {
+  head = h;
+  position = record { place = p .place + 1; steps = p .place + 1; used = p .used + rows };
+}
 
 -- at a place with so many rows before it: the steps stay
 abbrev pub atPlace : Position → Head → ℕ → ℕ → Current

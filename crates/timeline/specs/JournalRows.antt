@@ -41,4 +41,5 @@ Ready e u s t = (b : Bounds) × (g : Graph) × EditIn b e × Applies e (made t g
 -- the edit is row u, of a step of cost c, and the tables have it behind them
 pub record Added (e : Edit) (c u : ℕ) (s : State) (t : List ℕ) (s′ : State) (t′ : List ℕ) : Type 0 where
   pub row : t′ ≡ rowed u e c t
-  pub rows : (b : Bounds) (g : Graph) → EditIn b e → Applies e (made t g u) → JournalRows b t g u s u → JournalRows b t′ g (suc u) s′ (suc u)
+  pub rows : (b : Bounds) (g : Graph) → EditIn b e → Applies e (made t g u) → JournalRows b t g u s u
+      → JournalRows b t′ g (suc u) s′ (suc u)

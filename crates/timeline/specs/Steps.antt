@@ -47,7 +47,8 @@ pub record Journal (b : Bounds) (j : Position) (s : State) (t : List ℕ) (l : T
   pub used : j .used ≡ rowsTo 0 (l .place) (l .steps)
 
 -- a step of cost c that is being made: rows were written after those of step p, up to row u
-pub record Open (b : Bounds) (j : Position) (s₀ : State) (t₀ : List ℕ) (l : Timeline) (c : ℕ) (s : State) (t : List ℕ) (u : ℕ) : Type 0 where
+pub record Open (b : Bounds) (j : Position) (s₀ : State) (t₀ : List ℕ) (l : Timeline) (c : ℕ) (s : State) (t : List ℕ)
+    (u : ℕ) : Type 0 where
   pub journal : Journal b j s₀ t₀ l
   pub below : Below (j .used) t₀ t
   pub rows : JournalRows b t (l .start) u s u

@@ -65,18 +65,25 @@ fn edit_between(t: &[u32], u: u32, v: u32) -> Edit
 
 // Takes one row back or carries it out: from u rows behind to v.
 fn replay_row(head: Head, vt: &mut [u32], et: &mut [u32], t: &[u32], u: u32, v: u32) -> Head
-    requires { ⌜ ((b : Bounds) × (g : Graph) × (n : ℕ) × (to : ℕ) × (to ≤ n) × Toward to u v × JournalRows b (now t) g n (st head (now vt) (now et)) u) ⌝ }
-    ensures { λ r. ⌜ ((b : Bounds) → (g : Graph) → (n : ℕ) → (to : ℕ) → to ≤ n → Toward to u v → JournalRows b (now (t .entry)) g n (st head (now (vt .entry)) (now (et .entry))) u → JournalRows b (now (t .entry)) g n (st r (now (vt .exit)) (now (et .exit))) v) ⌝ }
+    requires { ⌜ ((b : Bounds) × (g : Graph) × (n : ℕ) × (to : ℕ) × (to ≤ n) × Toward to u v
+        × JournalRows b (now t) g n (st head (now vt) (now et)) u) ⌝ }
+    ensures { λ r. ⌜ ((b : Bounds) → (g : Graph) → (n : ℕ) → (to : ℕ) → to ≤ n → Toward to u v
+        → JournalRows b (now (t .entry)) g n (st head (now (vt .entry)) (now (et .entry))) u
+        → JournalRows b (now (t .entry)) g n (st r (now (vt .exit)) (now (et .exit))) v) ⌝ }
 {
     let e = edit_between(t, u, v);
     tables::edits::apply_edit(head, vt, et, e)
 }
 
-// Takes rows back or carries them out: from `from` rows behind to `to`. The one loop that replays, so that it is compiled as
+// Takes rows back or carries them out: from `from` rows behind to `to`. The one loop that replays, so that it is
+// compiled as
 // one piece with the edits in it.
 fn replay(head: Head, vt: &mut [u32], et: &mut [u32], t: &[u32], from: u32, to: u32) -> Head
-    requires { ⌜ ((b : Bounds) × (g : Graph) × (n : ℕ) × (to ≤ n) × JournalRows b (now t) g n (st head (now vt) (now et)) from) ⌝ }
-    ensures { λ r. ⌜ ((b : Bounds) → (g : Graph) → (n : ℕ) → to ≤ n → JournalRows b (now (t .entry)) g n (st head (now (vt .entry)) (now (et .entry))) from → JournalRows b (now (t .entry)) g n (st r (now (vt .exit)) (now (et .exit))) to) ⌝ }
+    requires { ⌜ ((b : Bounds) × (g : Graph) × (n : ℕ) × (to ≤ n)
+        × JournalRows b (now t) g n (st head (now vt) (now et)) from) ⌝ }
+    ensures { λ r. ⌜ ((b : Bounds) → (g : Graph) → (n : ℕ) → to ≤ n
+        → JournalRows b (now (t .entry)) g n (st head (now (vt .entry)) (now (et .entry))) from
+        → JournalRows b (now (t .entry)) g n (st r (now (vt .exit)) (now (et .exit))) to) ⌝ }
 {
     let mut h = head;
     let mut u = from;
@@ -88,10 +95,13 @@ fn replay(head: Head, vt: &mut [u32], et: &mut [u32], t: &[u32], from: u32, to: 
     h
 }
 
-// The rows behind place q, from those behind place p, one more or one less: the step's first row and its last have its cost.
+// The rows behind place q, from those behind place p, one more or one less: the step's first row and its last have its
+// cost.
 fn rows_beside(t: &[u32], u: u32, p: u32, q: u32) -> u32
-    requires { ⌜ ((g : Graph) × (ss : List Step) × (to : ℕ) × (to ≤ length ss) × Toward to p q × Behind (now t) g ss p u) ⌝ }
-    ensures { λ r. ⌜ ((g : Graph) → (ss : List Step) → (to : ℕ) → to ≤ length ss → Toward to p q → Behind (now (t .entry)) g ss p u → Behind (now (t .entry)) g ss q r) ⌝ }
+    requires { ⌜ ((g : Graph) × (ss : List Step) × (to : ℕ) × (to ≤ length ss) × Toward to p q
+        × Behind (now t) g ss p u) ⌝ }
+    ensures { λ r. ⌜ ((g : Graph) → (ss : List Step) → (to : ℕ) → to ≤ length ss → Toward to p q
+        → Behind (now (t .entry)) g ss p u → Behind (now (t .entry)) g ss q r) ⌝ }
 {
     if q < p {
         let c = journal::cost_at(t, u - 1);
@@ -104,7 +114,8 @@ fn rows_beside(t: &[u32], u: u32, p: u32, q: u32) -> u32
 // The rows behind a place, from those behind place p.
 fn rows_behind(t: &[u32], used: u32, from: u32, place: u32) -> u32
     requires { ⌜ ((g : Graph) × (ss : List Step) × (place ≤ length ss) × Behind (now t) g ss from used) ⌝ }
-    ensures { λ r. ⌜ ((g : Graph) → (ss : List Step) → place ≤ length ss → Behind (now (t .entry)) g ss from used → Behind (now (t .entry)) g ss place r) ⌝ }
+    ensures { λ r. ⌜ ((g : Graph) → (ss : List Step) → place ≤ length ss → Behind (now (t .entry)) g ss from used
+        → Behind (now (t .entry)) g ss place r) ⌝ }
 {
     let mut u = used;
     let mut p = from;
@@ -119,8 +130,12 @@ fn rows_behind(t: &[u32], used: u32, from: u32, place: u32) -> u32
 // To a place: its rows are counted, then those between are taken back or carried out.
 fn placed_at(x: Current, vt: &mut [u32], et: &mut [u32], t: &[u32], place: u32) -> Current
     requires { ⌜ place ≤ x .position .steps ⌝ }
-    requires { ⌜ ((b : Bounds) × (l : Timeline) × Journal b (x .position) (st (x .head) (now vt) (now et)) (now t) l) ⌝ }
-    ensures { λ r. ⌜ ((b : Bounds) → (l : Timeline) → Journal b (x .position) (st (x .head) (now (vt .entry)) (now (et .entry))) (now (t .entry)) l → Journal b (r .position) (st (r .head) (now (vt .exit)) (now (et .exit))) (now (t .entry)) (placed place l)) ⌝ }
+    requires { ⌜ ((b : Bounds) × (l : Timeline)
+        × Journal b (x .position) (st (x .head) (now vt) (now et)) (now t) l) ⌝ }
+    ensures { λ r. ⌜ ((b : Bounds) → (l : Timeline)
+        → Journal b (x .position) (st (x .head) (now (vt .entry)) (now (et .entry))) (now (t .entry)) l
+        → Journal b (r .position) (st (r .head) (now (vt .exit)) (now (et .exit))) (now (t .entry))
+        (placed place l)) ⌝ }
 {
     let used = x.position.used;
     let to = rows_behind(t, used, x.position.place, place);
@@ -131,8 +146,12 @@ fn placed_at(x: Current, vt: &mut [u32], et: &mut [u32], t: &[u32], place: u32) 
 // Kind 19: one step back.
 pub fn undo(x: Current, vt: &mut [u32], et: &mut [u32], t: &[u32]) -> Current
     requires { ⌜ 1 ≤ x .position .place ⌝ }
-    requires { ⌜ ((b : Bounds) × (l : Timeline) × Journal b (x .position) (st (x .head) (now vt) (now et)) (now t) l) ⌝ }
-    ensures { λ r. ⌜ ((b : Bounds) → (l : Timeline) → Journal b (x .position) (st (x .head) (now (vt .entry)) (now (et .entry))) (now (t .entry)) l → Journal b (r .position) (st (r .head) (now (vt .exit)) (now (et .exit))) (now (t .entry)) (placed (l .place - 1) l)) ⌝ }
+    requires { ⌜ ((b : Bounds) × (l : Timeline)
+        × Journal b (x .position) (st (x .head) (now vt) (now et)) (now t) l) ⌝ }
+    ensures { λ r. ⌜ ((b : Bounds) → (l : Timeline)
+        → Journal b (x .position) (st (x .head) (now (vt .entry)) (now (et .entry))) (now (t .entry)) l
+        → Journal b (r .position) (st (r .head) (now (vt .exit)) (now (et .exit))) (now (t .entry))
+        (placed (l .place - 1) l)) ⌝ }
 {
     placed_at(x, vt, et, t, x.position.place - 1)
 }
@@ -140,8 +159,12 @@ pub fn undo(x: Current, vt: &mut [u32], et: &mut [u32], t: &[u32]) -> Current
 // Kind 20: one step on.
 pub fn redo(x: Current, vt: &mut [u32], et: &mut [u32], t: &[u32]) -> Current
     requires { ⌜ x .position .place < x .position .steps ⌝ }
-    requires { ⌜ ((b : Bounds) × (l : Timeline) × Journal b (x .position) (st (x .head) (now vt) (now et)) (now t) l) ⌝ }
-    ensures { λ r. ⌜ ((b : Bounds) → (l : Timeline) → Journal b (x .position) (st (x .head) (now (vt .entry)) (now (et .entry))) (now (t .entry)) l → Journal b (r .position) (st (r .head) (now (vt .exit)) (now (et .exit))) (now (t .entry)) (placed (suc (l .place)) l)) ⌝ }
+    requires { ⌜ ((b : Bounds) × (l : Timeline)
+        × Journal b (x .position) (st (x .head) (now vt) (now et)) (now t) l) ⌝ }
+    ensures { λ r. ⌜ ((b : Bounds) → (l : Timeline)
+        → Journal b (x .position) (st (x .head) (now (vt .entry)) (now (et .entry))) (now (t .entry)) l
+        → Journal b (r .position) (st (r .head) (now (vt .exit)) (now (et .exit))) (now (t .entry))
+        (placed (suc (l .place)) l)) ⌝ }
 {
     placed_at(x, vt, et, t, x.position.place + 1)
 }
@@ -158,7 +181,8 @@ pub fn add_row(
 ) -> Head
     requires { ⌜ 12 * i + 12 ≤ length (now t) ⌝ }
     requires { ⌜ Ready edit i (st head (now vt) (now et)) (now t) ⌝ }
-    ensures { λ r. ⌜ Added edit cost i (st head (now (vt .entry)) (now (et .entry))) (now (t .entry)) (st r (now (vt .exit)) (now (et .exit))) (now (t .exit)) ⌝ }
+    ensures { λ r. ⌜ Added edit cost i (st head (now (vt .entry)) (now (et .entry))) (now (t .entry))
+        (st r (now (vt .exit)) (now (et .exit))) (now (t .exit)) ⌝ }
 {
     journal::put_row(t, i, edit, cost);
     replay(head, vt, et, t, i, i + 1)
@@ -183,8 +207,12 @@ fn steps_between(p: u32, q: u32) -> u32
 // To a place: the steps between are undone or redone; how many.
 pub fn go_to(x: Current, vt: &mut [u32], et: &mut [u32], t: &[u32], place: u32) -> MovedTo
     requires { ⌜ place ≤ x .position .steps ⌝ }
-    requires { ⌜ ((b : Bounds) × (l : Timeline) × Journal b (x .position) (st (x .head) (now vt) (now et)) (now t) l) ⌝ }
-    ensures { λ r. ⌜ ((b : Bounds) → (l : Timeline) → Journal b (x .position) (st (x .head) (now (vt .entry)) (now (et .entry))) (now (t .entry)) l → Journal b (r .current .position) (st (r .current .head) (now (vt .exit)) (now (et .exit))) (now (t .entry)) (placed place l)) ⌝ }
+    requires { ⌜ ((b : Bounds) × (l : Timeline)
+        × Journal b (x .position) (st (x .head) (now vt) (now et)) (now t) l) ⌝ }
+    ensures { λ r. ⌜ ((b : Bounds) → (l : Timeline)
+        → Journal b (x .position) (st (x .head) (now (vt .entry)) (now (et .entry))) (now (t .entry)) l
+        → Journal b (r .current .position) (st (r .current .head) (now (vt .exit)) (now (et .exit))) (now (t .entry))
+        (placed place l)) ⌝ }
     ensures { λ r. ⌜ r .moved ≡ distance (x .position .place) place ⌝ }
 {
     let current = placed_at(x, vt, et, t, place);
@@ -194,7 +222,8 @@ pub fn go_to(x: Current, vt: &mut [u32], et: &mut [u32], t: &[u32], place: u32) 
 
 // Kind 22: the present graph is the start.
 pub fn commit(pos: Position) -> Position
-    ensures { λ r. ⌜ ((b : Bounds) → (s : State) → (t : List ℕ) → (l : Timeline) → Journal b pos s t l → Journal b r s t (begun (current l))) ⌝ }
+    ensures { λ r. ⌜ ((b : Bounds) → (s : State) → (t : List ℕ) → (l : Timeline) → Journal b pos s t l
+        → Journal b r s t (begun (current l))) ⌝ }
 {
     Position {
         place: 0,
@@ -206,14 +235,16 @@ pub fn commit(pos: Position) -> Position
 // Kind 51: free changes, of a capacity.
 pub fn free_changes(pos: Position, capacity: u32) -> u32
     requires { ⌜ pos .used ≤ capacity ⌝ }
-    ensures { λ r. ⌜ ((b : Bounds) → (s : State) → (t : List ℕ) → (l : Timeline) → Journal b pos s t l → r ≡ freeOf capacity l) ⌝ }
+    ensures { λ r. ⌜ ((b : Bounds) → (s : State) → (t : List ℕ) → (l : Timeline) → Journal b pos s t l
+        → r ≡ freeOf capacity l) ⌝ }
 {
     capacity - pos.used
 }
 
 // No step yet.
 pub fn begin() -> Position
-    ensures { λ r. ⌜ ((b : Bounds) → (s : State) → (t : List ℕ) → (g : Graph) → Sized b s → Within b g → Holds s g → length t < 2 ^ 32 → Journal b r s t (begun g)) ⌝ }
+    ensures { λ r. ⌜ ((b : Bounds) → (s : State) → (t : List ℕ) → (g : Graph) → Sized b s → Within b g → Holds s g
+        → length t < 2 ^ 32 → Journal b r s t (begun g)) ⌝ }
 {
     Position {
         place: 0,

@@ -22,7 +22,8 @@ begin = fresh empty
 -- REFERENCE 11.4, for input that can be read
 unfoldable pub reply : List ℕ → List ℕ
 unfolding answers last save writeText
-reply words = writeText (answerWords (answers parameters begin (callsOf words))) (save (present (last parameters begin (callsOf words))))
+reply words = writeText (answerWords (answers parameters begin (callsOf words)))
+    (save (present (last parameters begin (callsOf words))))
 
 unfoldable pub replyTo : Verdict → List ℕ
 unfolding reply unreadableText

@@ -1,4 +1,5 @@
-// The program chartrun from bytes to bytes: the calls read, the list run on an empty graph, the answers and the image written.
+// The program chartrun from bytes to bytes: the calls read, the list run on an empty graph, the answers and the image
+// written.
 use engine::run::run;
 use text::ReadVerdict;
 ghost use mathlib.Core.Path.{_≡_};
@@ -10,8 +11,10 @@ ghost use Rattle.transcript.specs.Transcript.{reply, transcript};
 
 // The text of what a run wrote: the answers of the calls done, and so many words of the image.
 fn shown(answers: &[u32], image: &[u32], done: usize, words: usize, out: &mut [u8]) -> usize
-    requires { ⌜ (2 * done ≤ length (now answers)) × (words ≤ length (now image)) × (20 * done + 11 * words + 6 ≤ length (now out)) ⌝ }
-    ensures { λ r. ⌜ Written (writeText (take (2 * done) (now (answers .entry))) (take words (now (image .entry)))) r (now (out .entry)) (now (out .exit)) ⌝ }
+    requires { ⌜ (2 * done ≤ length (now answers)) × (words ≤ length (now image))
+        × (20 * done + 11 * words + 6 ≤ length (now out)) ⌝ }
+    ensures { λ r. ⌜ Written (writeText (take (2 * done) (now (answers .entry))) (take words (now (image .entry)))) r
+        (now (out .entry)) (now (out .exit)) ⌝ }
 {
     let count = 2 * done;
     text::write(&answers[..count], &image[..words], out)

@@ -112,7 +112,8 @@ pub fn closure(rows: &[u64]) -> [u64; 64]
 
 // Is s below t, by the words of the closure? False where one of them is no type.
 pub fn is_below(words: &[u64; 64], s: u32, t: u32) -> bool
-    ensures { λ r. ⌜ ((rows : List ℕ) → goodRows rows ≡ true → now (words .entry) ≡ closureWords rows → r ≡ below rows s t) ⌝ }
+    ensures { λ r. ⌜ ((rows : List ℕ) → goodRows rows ≡ true → now (words .entry) ≡ closureWords rows
+        → r ≡ below rows s t) ⌝ }
 {
     if 63 < s {
         return false;

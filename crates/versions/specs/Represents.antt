@@ -24,7 +24,8 @@ pub record Represents (b : Bounds) (x : Version) (vt et t places : List ℕ) (m 
   pub inside : (k q : ℕ) → m .marks k ≡ at q → q ≤ length (m .line .steps)
 
 -- a call by this rule: code and number are the machine's, and so is what stands afterwards
-pub record Follows (r : Rule) (m : Machine) (b : Bounds) (x : Version) (code number : ℕ) (vt et t places : List ℕ) : Type 0 where
+pub record Follows (r : Rule) (m : Machine) (b : Bounds) (x : Version) (code number : ℕ)
+    (vt et t places : List ℕ) : Type 0 where
   pub obeys : Obeys r m code number
   pub stands : Represents b x vt et t places (followed r m)
 

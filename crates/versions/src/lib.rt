@@ -69,7 +69,9 @@ pub fn stay(x: Version, code: u32, number: u32) -> Done
 
 // No step yet, and no mark.
 pub fn start(head: Head) -> Version
-    ensures { λ r. ⌜ ((b : Bounds) → (vt et t places : List ℕ) → (g : Graph) → Sized b (st head vt et) → Within b g → Holds (st head vt et) g → length t < 2 ^ 32 → length places ≡ 64 → Represents b r vt et t places (fresh g)) ⌝ }
+    ensures { λ r. ⌜ ((b : Bounds) → (vt et t places : List ℕ) → (g : Graph) → Sized b (st head vt et) → Within b g
+        → Holds (st head vt et) g → length t < 2 ^ 32 → length places ≡ 64
+        → Represents b r vt et t places (fresh g)) ⌝ }
 {
     let position = timeline::begin();
     let set = marks::no_marks();
@@ -81,7 +83,9 @@ pub fn start(head: Head) -> Version
 
 // A change at the present place: the marks above it go. Where no step is cut, none is above it.
 fn cut(set: u64, position: Position, places: &[u32; 64]) -> u64
-    ensures { λ r. ⌜ ((ms : ℕ → Standing) → Marked ms set (now (places .entry)) → ((k q : ℕ) → ms k ≡ at q → q ≤ position .steps) → Marked (cutMarks (position .place) ms) r (now (places .entry))) ⌝ }
+    ensures { λ r. ⌜ ((ms : ℕ → Standing) → Marked ms set (now (places .entry))
+        → ((k q : ℕ) → ms k ≡ at q → q ≤ position .steps)
+        → Marked (cutMarks (position .place) ms) r (now (places .entry))) ⌝ }
 {
     if position.place == position.steps {
         return set;
@@ -98,9 +102,12 @@ pub fn delete_vertex(
     places: &[u32; 64],
     a: u32,
 ) -> Done
-    requires { ⌜ ((b : Bounds) × (m : Machine) × Allowed b (present m) (Change.DeleteVertex a) × Represents b x (now vt) (now et) (now t) (now places) m) ⌝ }
-    ensures { λ r. ⌜ ((b : Bounds) → (m : Machine) → Allowed b (present m) (Change.DeleteVertex a) → Represents b x (now (vt .entry)) (now (et .entry)) (now (t .entry)) (now (places .entry)) m
-        → Follows (changeRule (capacityOf (now (t .entry))) (Change.DeleteVertex a)) m b (r .version) (r .code) (r .number) (now (vt .exit)) (now (et .exit)) (now (t .exit)) (now (places .entry))) ⌝ }
+    requires { ⌜ ((b : Bounds) × (m : Machine) × Allowed b (present m) (Change.DeleteVertex a)
+        × Represents b x (now vt) (now et) (now t) (now places) m) ⌝ }
+    ensures { λ r. ⌜ ((b : Bounds) → (m : Machine) → Allowed b (present m) (Change.DeleteVertex a)
+        → Represents b x (now (vt .entry)) (now (et .entry)) (now (t .entry)) (now (places .entry)) m
+        → Follows (changeRule (capacityOf (now (t .entry))) (Change.DeleteVertex a)) m b (r .version) (r .code)
+        (r .number) (now (vt .exit)) (now (et .exit)) (now (t .exit)) (now (places .entry))) ⌝ }
 {
     let old = x.current;
     let change = Change::DeleteVertex(a);
@@ -119,13 +126,17 @@ pub fn delete_vertex(
     }
 }
 
-// A change of one edit that altered the graph, was written down and carried out, and left this head: the step that it is.
+// A change of one edit that altered the graph, was written down and carried out, and left this head: the step that it
+// is.
 pub fn made(x: Version, places: &[u32; 64], head: Head, cost: u32) -> Done
     requires { ⌜ (x .current .position .place + 1 < 2 ^ 32) × (x .current .position .used + cost < 2 ^ 32) ⌝ }
-    ensures { λ r. ⌜ ((b : Bounds) → (m : Machine) → (change : Change) → (vt et t vt′ et′ t′ : List ℕ) → Allowed b (present m) change → alters change (present m) ≡ true → OneEdit change → cost ≡ 1
+    ensures { λ r. ⌜ ((b : Bounds) → (m : Machine) → (change : Change) → (vt et t vt′ et′ t′ : List ℕ)
+        → Allowed b (present m) change → alters change (present m) ≡ true → OneEdit change → cost ≡ 1
         → x .current .position .used + 1 ≤ capacityOf t → Represents b x vt et t (now (places .entry)) m
-        → Written (planS change (st (x .current .head) vt et)) 1 (x .current .position .used) (st (x .current .head) vt et) t (st head vt′ et′) t′
-        → Follows (changeRule (capacityOf t) change) m b (r .version) (r .code) (r .number) vt′ et′ t′ (now (places .entry))) ⌝ }
+        → Written (planS change (st (x .current .head) vt et)) 1 (x .current .position .used)
+        (st (x .current .head) vt et) t (st head vt′ et′) t′
+        → Follows (changeRule (capacityOf t) change) m b (r .version) (r .code) (r .number) vt′ et′ t′
+        (now (places .entry))) ⌝ }
 {
     let old = x.current;
     let current = timeline::lent::stepped(old, head, cost);
@@ -139,8 +150,12 @@ pub fn made(x: Version, places: &[u32; 64], head: Head, cost: u32) -> Done
 
 // Kind 19: one step back.
 fn undo(x: Version, vt: &mut [u32], et: &mut [u32], t: &[u32]) -> Done
-    requires { ⌜ ((b : Bounds) × (places : List ℕ) × (m : Machine) × Represents b x (now vt) (now et) (now t) places m) ⌝ }
-    ensures { λ r. ⌜ ((b : Bounds) → (places : List ℕ) → (m : Machine) → Represents b x (now (vt .entry)) (now (et .entry)) (now (t .entry)) places m → Follows (historyRule (capacityOf (now (t .entry))) call.Undo) m b (r .version) (r .code) (r .number) (now (vt .exit)) (now (et .exit)) (now (t .entry)) places) ⌝ }
+    requires { ⌜ ((b : Bounds) × (places : List ℕ) × (m : Machine)
+        × Represents b x (now vt) (now et) (now t) places m) ⌝ }
+    ensures { λ r. ⌜ ((b : Bounds) → (places : List ℕ) → (m : Machine)
+        → Represents b x (now (vt .entry)) (now (et .entry)) (now (t .entry)) places m
+        → Follows (historyRule (capacityOf (now (t .entry))) call.Undo) m b (r .version) (r .code) (r .number)
+        (now (vt .exit)) (now (et .exit)) (now (t .entry)) places) ⌝ }
 {
     let position = x.current.position;
     if position.place == 0 {
@@ -159,8 +174,12 @@ fn undo(x: Version, vt: &mut [u32], et: &mut [u32], t: &[u32]) -> Done
 
 // Kind 20: one step on.
 fn redo(x: Version, vt: &mut [u32], et: &mut [u32], t: &[u32]) -> Done
-    requires { ⌜ ((b : Bounds) × (places : List ℕ) × (m : Machine) × Represents b x (now vt) (now et) (now t) places m) ⌝ }
-    ensures { λ r. ⌜ ((b : Bounds) → (places : List ℕ) → (m : Machine) → Represents b x (now (vt .entry)) (now (et .entry)) (now (t .entry)) places m → Follows (historyRule (capacityOf (now (t .entry))) call.Redo) m b (r .version) (r .code) (r .number) (now (vt .exit)) (now (et .exit)) (now (t .entry)) places) ⌝ }
+    requires { ⌜ ((b : Bounds) × (places : List ℕ) × (m : Machine)
+        × Represents b x (now vt) (now et) (now t) places m) ⌝ }
+    ensures { λ r. ⌜ ((b : Bounds) → (places : List ℕ) → (m : Machine)
+        → Represents b x (now (vt .entry)) (now (et .entry)) (now (t .entry)) places m
+        → Follows (historyRule (capacityOf (now (t .entry))) call.Redo) m b (r .version) (r .code) (r .number)
+        (now (vt .exit)) (now (et .exit)) (now (t .entry)) places) ⌝ }
 {
     let position = x.current.position;
     if position.place == position.steps {
@@ -235,7 +254,10 @@ fn go_to_mark(
     a: u32,
 ) -> Done
     requires { ⌜ ((b : Bounds) × (m : Machine) × Represents b x (now vt) (now et) (now t) (now places) m) ⌝ }
-    ensures { λ r. ⌜ ((b : Bounds) → (m : Machine) → Represents b x (now (vt .entry)) (now (et .entry)) (now (t .entry)) (now (places .entry)) m → Follows (historyRule (capacityOf (now (t .entry))) (call.GoTo a)) m b (r .version) (r .code) (r .number) (now (vt .exit)) (now (et .exit)) (now (t .entry)) (now (places .entry))) ⌝ }
+    ensures { λ r. ⌜ ((b : Bounds) → (m : Machine)
+        → Represents b x (now (vt .entry)) (now (et .entry)) (now (t .entry)) (now (places .entry)) m
+        → Follows (historyRule (capacityOf (now (t .entry))) (call.GoTo a)) m b (r .version) (r .code) (r .number)
+        (now (vt .exit)) (now (et .exit)) (now (t .entry)) (now (places .entry))) ⌝ }
 {
     let code = named(x.set, a);
     if code != 0 {
@@ -256,7 +278,9 @@ fn go_to_mark(
 
 // Kind 17: mark a at the present place.
 fn set_mark(x: Version, places: &mut [u32; 64], a: u32) -> Done
-    ensures { λ r. ⌜ ((b : Bounds) → (vt et t : List ℕ) → (m : Machine) → Represents b x vt et t (now (places .entry)) m → Follows (historyRule (capacityOf t) (call.SetMark a)) m b (r .version) (r .code) (r .number) vt et t (now (places .exit))) ⌝ }
+    ensures { λ r. ⌜ ((b : Bounds) → (vt et t : List ℕ) → (m : Machine) → Represents b x vt et t (now (places .entry)) m
+        → Follows (historyRule (capacityOf t) (call.SetMark a)) m b (r .version) (r .code) (r .number) vt et t
+        (now (places .exit))) ⌝ }
 {
     let current = x.current;
     let code = unnamed(x.set, a);
@@ -273,7 +297,9 @@ fn set_mark(x: Version, places: &mut [u32; 64], a: u32) -> Done
 
 // Kind 18: mark a goes.
 fn drop_mark(x: Version, a: u32) -> Done
-    ensures { λ r. ⌜ ((b : Bounds) → (vt et t places : List ℕ) → (m : Machine) → Represents b x vt et t places m → Follows (historyRule (capacityOf t) (call.DropMark a)) m b (r .version) (r .code) (r .number) vt et t places) ⌝ }
+    ensures { λ r. ⌜ ((b : Bounds) → (vt et t places : List ℕ) → (m : Machine) → Represents b x vt et t places m
+        → Follows (historyRule (capacityOf t) (call.DropMark a)) m b (r .version) (r .code)
+        (r .number) vt et t places) ⌝ }
 {
     let current = x.current;
     let code = named(x.set, a);
@@ -290,7 +316,8 @@ fn drop_mark(x: Version, a: u32) -> Done
 
 // Kind 22: the present graph is the start, and no mark stands.
 fn commit(x: Version) -> Done
-    ensures { λ r. ⌜ ((b : Bounds) → (vt et t places : List ℕ) → (m : Machine) → Represents b x vt et t places m → Follows (historyRule (capacityOf t) call.Commit) m b (r .version) (r .code) (r .number) vt et t places) ⌝ }
+    ensures { λ r. ⌜ ((b : Bounds) → (vt et t places : List ℕ) → (m : Machine) → Represents b x vt et t places m
+        → Follows (historyRule (capacityOf t) call.Commit) m b (r .version) (r .code) (r .number) vt et t places) ⌝ }
 {
     let head = x.current.head;
     let old = x.current.position;
@@ -308,7 +335,10 @@ fn commit(x: Version) -> Done
 
 // Kind 49: the steps between marks a and b.
 fn between(x: Version, places: &[u32; 64], a: u32, b: u32) -> Done
-    ensures { λ r. ⌜ ((bounds : Bounds) → (vt et t : List ℕ) → (m : Machine) → Represents bounds x vt et t (now (places .entry)) m → Follows (historyRule (capacityOf t) (call.Between a b)) m bounds (r .version) (r .code) (r .number) vt et t (now (places .entry))) ⌝ }
+    ensures { λ r. ⌜ ((bounds : Bounds) → (vt et t : List ℕ) → (m : Machine)
+        → Represents bounds x vt et t (now (places .entry)) m
+        → Follows (historyRule (capacityOf t) (call.Between a b)) m bounds (r .version) (r .code) (r .number) vt et t
+        (now (places .entry))) ⌝ }
 {
     let c = named(x.set, a);
     let d = named(x.set, b);
@@ -324,7 +354,8 @@ fn between(x: Version, places: &[u32; 64], a: u32, b: u32) -> Done
 
 // Kind 50: how many marks stand.
 fn standing(x: Version) -> Done
-    ensures { λ r. ⌜ ((b : Bounds) → (vt et t places : List ℕ) → (m : Machine) → Represents b x vt et t places m → Follows (historyRule (capacityOf t) call.Standing) m b (r .version) (r .code) (r .number) vt et t places) ⌝ }
+    ensures { λ r. ⌜ ((b : Bounds) → (vt et t places : List ℕ) → (m : Machine) → Represents b x vt et t places m
+        → Follows (historyRule (capacityOf t) call.Standing) m b (r .version) (r .code) (r .number) vt et t places) ⌝ }
 {
     let number = marks::count_marks(x.set);
     stay(x, 0, number)
@@ -333,7 +364,10 @@ fn standing(x: Version) -> Done
 // Kind 51: free changes.
 fn free_changes(x: Version, t: &[u32]) -> Done
     requires { ⌜ ((b : Bounds) × (vt et places : List ℕ) × (m : Machine) × Represents b x vt et (now t) places m) ⌝ }
-    ensures { λ r. ⌜ ((b : Bounds) → (vt et places : List ℕ) → (m : Machine) → Represents b x vt et (now (t .entry)) places m → Follows (historyRule (capacityOf (now (t .entry))) call.Free) m b (r .version) (r .code) (r .number) vt et (now (t .entry)) places) ⌝ }
+    ensures { λ r. ⌜ ((b : Bounds) → (vt et places : List ℕ) → (m : Machine)
+        → Represents b x vt et (now (t .entry)) places m
+        → Follows (historyRule (capacityOf (now (t .entry))) call.Free) m b (r .version) (r .code) (r .number) vt et
+        (now (t .entry)) places) ⌝ }
 {
     let capacity = (t.len() / 12) as u32;
     let number = timeline::free_changes(x.current.position, capacity);
@@ -350,7 +384,10 @@ pub fn recall(
     call: HistoryCall,
 ) -> Done
     requires { ⌜ ((b : Bounds) × (m : Machine) × Represents b x (now vt) (now et) (now t) (now places) m) ⌝ }
-    ensures { λ r. ⌜ ((b : Bounds) → (m : Machine) → Represents b x (now (vt .entry)) (now (et .entry)) (now (t .entry)) (now (places .entry)) m → Follows (historyRule (capacityOf (now (t .entry))) call) m b (r .version) (r .code) (r .number) (now (vt .exit)) (now (et .exit)) (now (t .entry)) (now (places .exit))) ⌝ }
+    ensures { λ r. ⌜ ((b : Bounds) → (m : Machine)
+        → Represents b x (now (vt .entry)) (now (et .entry)) (now (t .entry)) (now (places .entry)) m
+        → Follows (historyRule (capacityOf (now (t .entry))) call) m b (r .version) (r .code) (r .number)
+        (now (vt .exit)) (now (et .exit)) (now (t .entry)) (now (places .exit))) ⌝ }
 {
     match call {
         HistoryCall::SetMark(a) => set_mark(x, places, a),

@@ -8,16 +8,45 @@ use std::fmt::{Display, Write};
 
 /// What is written for a text of cases, or the number of the first line that is none.
 pub fn written(text: &str) -> Result<String, usize> {
+    Ok(read(text)?.0)
+}
+
+/// The runs of a text of cases, or the number of the first line that is none.
+pub fn runs(text: &str) -> Result<Vec<Case>, usize> {
+    Ok(read(text)?.1)
+}
+
+fn read(text: &str) -> Result<(String, Vec<Case>), usize> {
     let mut case = Case { start: vec![], rows: vec![], calls: vec![], vertices: 0, edges: 0, journal: 0, answers: 0, image: 0 };
     let mut last = Vec::new();
     let mut out = String::new();
+    let mut runs = Vec::new();
     for (i, line) in text.lines().enumerate() {
-        take(line, &mut case, &mut last, &mut out).ok_or(i + 1)?;
+        take(line, &mut case, &mut last, &mut out, &mut runs).ok_or(i + 1)?;
     }
-    Ok(out)
+    Ok((out, runs))
 }
 
-fn take(line: &str, case: &mut Case, last: &mut Vec<u32>, out: &mut String) -> Option<()> {
+/// A run as such a text: what a difference is printed as, and what the files of vectors/ hold.
+pub fn told(case: &Case) -> String {
+    let mut out = String::new();
+    show(&mut out, "tables", &[case.vertices, case.edges, case.journal]);
+    show(&mut out, "lent", &[case.answers, case.image]);
+    show(&mut out, "rows", &case.rows);
+    show(&mut out, "start", &case.start);
+    let calls = case.calls.chunks_exact(5);
+    let rest = calls.remainder();
+    for call in calls {
+        show(&mut out, "call", call);
+    }
+    if !rest.is_empty() {
+        show(&mut out, "words", rest);
+    }
+    out.push_str("run\n");
+    out
+}
+
+fn take(line: &str, case: &mut Case, last: &mut Vec<u32>, out: &mut String, runs: &mut Vec<Case>) -> Option<()> {
     if line.is_empty() || line.starts_with('#') {
         writeln!(out, "{line}").unwrap();
         return Some(());
@@ -54,6 +83,7 @@ fn take(line: &str, case: &mut Case, last: &mut Vec<u32>, out: &mut String) -> O
         "run" => {
             case.calls.extend(calls(rest)?);
             *last = report(case, out);
+            runs.push(case.clone());
             case.calls.clear();
         }
         _ => return None,
@@ -114,7 +144,15 @@ fn show<T: Display>(out: &mut String, name: &str, words: &[T]) {
 
 #[cfg(test)]
 mod tests {
-    use super::written;
+    use super::{runs, told, written};
+
+    #[test]
+    fn told_and_read_again() {
+        for seed in 420..470 {
+            let case = crate::gen::case(seed);
+            assert_eq!(runs(&told(&case)), Ok(vec![case]));
+        }
+    }
 
     #[test]
     fn a_list_and_a_part() {

@@ -74,7 +74,7 @@ fn then_walk(name: &'static str, before: &[(Call, (u32, u32))], vertex: u32, lis
 /// The rows of the table for single calls, codes 1 to 17.
 pub fn codes() -> Vec<Example> {
     // Fifteen changes of cost 1 leave 5 free: deleting vertex 1 costs 6.
-    let mut fifteen = vec![[7, 1, 0, 0, 0]; 15];
+    let mut fifteen: Vec<Call> = (1..=15).map(|value| [7, 1, value, 0, 0]).collect();
     let mut fifteen_done = vec![(0, 1); 15];
     fifteen.extend([[51, 0, 0, 0, 0], [2, 1, 0, 0, 0]]);
     fifteen_done.extend([(0, 5), (10, 0)]);

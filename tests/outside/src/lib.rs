@@ -10,4 +10,3 @@ pub mod machine;
 pub mod page;
 pub mod run;
 pub mod text;
-pub mod vector;

@@ -12,7 +12,7 @@
 use outside::cases;
 use outside::gen;
 use outside::image;
-use outside::machine::{is_change, is_kind, Call, Graph};
+use outside::machine::{is_change, is_kind, Call, Capacities, Graph};
 use outside::page;
 use outside::run::{Case, Outcome};
 use outside::text;
@@ -155,6 +155,10 @@ fn run_alone(options: &Options) {
         }
         reached.add(&case, &outcome);
         let words = gen::words(seed);
+        let capacities = Capacities { vertices: 6, edges: 8, changes: 1 };
+        if image::load(&words, capacities, 3).is_some() != image::bad(&words, capacities, 3).is_none() {
+            fail(format!("seed {seed}: words load and have a bad one, or neither: {words:?}"));
+        }
         for which in 0..5 {
             if let Some((from, len)) = image::part(&words, which) {
                 assert!(from + len <= words.len());
@@ -241,7 +245,7 @@ mod compare {
 mod compare {
     use super::*;
     use outside::gen::Size;
-    use outside::{engine, examples, vector};
+    use outside::{engine, examples};
     use std::sync::atomic::{AtomicU64, Ordering};
     use std::time::Duration;
 
@@ -345,9 +349,11 @@ mod compare {
         files.sort();
         for file in &files {
             let text = std::fs::read_to_string(file).unwrap();
-            let Some(case) = vector::read(&text) else { fail(format!("{}: not a case", file.display())) };
-            if let Err(message) = engine::compare(&case, &case.run(), 1) {
-                fail(format!("{}: {message}", file.display()));
+            let runs = cases::runs(&text).unwrap_or_else(|line| fail(format!("{}: line {line} is none", file.display())));
+            for case in &runs {
+                if let Err(message) = engine::compare(case, &case.run(), 1) {
+                    fail(format!("{}: {message}", file.display()));
+                }
             }
         }
         files.len()
@@ -375,6 +381,6 @@ mod compare {
             chunk /= 2;
         }
         let shown = engine::compare(&small, &small.run(), seed).err();
-        fail(format!("seed {seed}: {message}\nshrunk to {} calls: {}\n{}", small.calls.len() / 5, shown.unwrap_or_default(), vector::write(&small)))
+        fail(format!("seed {seed}: {message}\nshrunk to {} calls: {}\n{}", small.calls.len() / 5, shown.unwrap_or_default(), cases::told(&small)))
     }
 }

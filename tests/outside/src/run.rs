@@ -59,11 +59,8 @@ impl Case {
         if n == 0 || n > 64 || self.rows.iter().any(|row| (n..64).any(|bit| row >> bit & 1 == 1)) {
             return Err((104, 0));
         }
-        let start = image::load(&self.start, c, n as u32);
-        let bad = image::bad(&self.start, c, n as u32);
-        assert_eq!(start.is_some(), bad.is_none(), "words load exactly where none is bad");
-        let Some(start) = start else {
-            let bad = bad.unwrap();
+        let Some(start) = image::load(&self.start, c, n as u32) else {
+            let bad = image::bad(&self.start, c, n as u32).expect("words that do not load have a bad one");
             return Err((bad.code(), bad.number()));
         };
         if self.image < image_room(c) {
