@@ -321,7 +321,12 @@ fn call(r: &mut Random, machine: &Machine, kind: u32) -> Call {
         4 | 33 | 36 | 37 | 41 | 43 | 44 => [kind, edge(r), junk(r), junk(r), d],
         5 => [5, vertex(r), ty(r), junk(r), d],
         6 => [6, edge(r), ty(r), junk(r), d],
-        7 => [7, vertex(r), r.word(), junk(r), d],
+        7 => {
+            // Now and then the value that it has.
+            let a = vertex(r);
+            let same = g.vertices.iter().find(|v| v.number == a && r.once_in(8));
+            [7, a, same.map_or_else(|| r.word(), |v| v.value), junk(r), d]
+        }
         8 => {
             let found = reading(r);
             let mut words = [8, edge(r), found.kind(), found.decimetres(), d];
