@@ -26,7 +26,7 @@ fn seven_and_its_parts() {
     assert_eq!(part(&image, Part::Vertices), [1, 0, 0, 2, 0, 0, 3, 0, 0, 4, 0, 0]);
     assert_eq!(part(&image, Part::Edges).len(), 42);
     assert_eq!(part(&image, Part::Lists), [2, 3, 4, 6, 9, 11, 5, 7, 8, 13, 10, 12, 14, 15]);
-    // The part is that very part of the caller's words.
+    // The part lies in the caller's own words.
     assert_eq!(part(&image, Part::Lists).as_ptr(), image[60..].as_ptr());
     // An empty part lies where the header says; without a sound header there is none.
     assert_eq!([Part::Vertices, Part::Edges, Part::Lists].map(|which| span(&EMPTY, which)), [Some(6..6), Some(6..6), Some(6..6)]);

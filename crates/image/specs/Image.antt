@@ -73,7 +73,7 @@ edgePart ws = take (edgeSize * edgeCount ws) (drop (edgeOffset (vertexCount ws))
 abbrev pub incidencePart : List ℕ → List ℕ
 incidencePart ws = drop (incidenceOffset (vertexCount ws) (edgeCount ws)) ws
 
--- part 1, 2 or 3 of words with a sound header; any other part is empty (REFERENCE 10.7; Parts: where it lies)
+-- the vertex, edge or list part (1, 2, 3) where the header is sound; every other is empty (REFERENCE 10.7)
 unfoldable pub part : ℕ → List ℕ → List ℕ
 unfolding soundHeader
 part k ws =

@@ -1,4 +1,4 @@
--- Every step made another graph: the steps between two marks are those that altered something.
+-- Every step made another graph, so what kind 49 counts are steps that altered the graph.
 use Prim.Native.Nat.{ℕ, zero, suc, _≤_, _<_}
 use mathlib.Core.Path.{_≡_, refl, sym, _∙_}
 use mathlib.Core.Bool.{Bool, true, false, not}

@@ -26,7 +26,7 @@ impl Text {
 
 /// Runs chartrun on the example, texts at its limits and one text a seed; how many there were.
 pub fn run_chartrun(program: &str, seeds: Range<u64>) -> usize {
-    let mut texts = vec![Text::new("document 01's example", examples::TEXT)];
+    let mut texts = vec![Text::new("the example of REFERENCE 11.5", examples::TEXT)];
     texts.extend(limits().into_iter().map(|(name, input)| Text::new(name, input)));
     texts.push(Text::slow("in pieces", examples::TEXT));
     texts.push(Text::slow("1,000 lines in pieces", b"50 0 0 0 0\n".repeat(1_000)));
