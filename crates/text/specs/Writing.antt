@@ -47,7 +47,8 @@ unfoldable pub writeText : List ℕ → List ℕ → List ℕ
 unfolding lineOf answerLines
 writeText answers image = answerLines answers ++ lineOf imageWord image
 
--- as much as the lent bytes have room for at any words: 1,000 answers, and the image of 200 vertices and 800 edges; else nothing
+-- what the lent bytes have room for at any words: 1,000 answers, and the image of 200 vertices and 800 edges; else
+-- nothing
 unfoldable pub boundedText : List ℕ → List ℕ → List ℕ
 unfolding writeText
 boundedText answers image =

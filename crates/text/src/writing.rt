@@ -91,7 +91,8 @@ fn lines(codes: &[u32], image: &[u32], out: &mut [u8]) -> usize
 
 // There is room for 1,000 answers and the image of 200 vertices and 800 edges; of more nothing is written.
 pub fn write(codes: &[u32], image: &[u32], out: &mut [u8; 97072]) -> usize
-    ensures { λ r. ⌜ Written (boundedText (now (codes .entry)) (now (image .entry))) r (now (out .entry)) (now (out .exit)) ⌝ }
+    ensures { λ r. ⌜ Written (boundedText (now (codes .entry)) (now (image .entry))) r (now (out .entry))
+        (now (out .exit)) ⌝ }
 {
     if 2000 < codes.len() {
         return 0;

@@ -1,5 +1,6 @@
 // Cases from standard input, run on the engine; what it did to standard output. tests/README.md describes the text.
-// Here: words of slices, with nothing past the end; the junk that lent slices are filled with; a line's first word and its numbers.
+// Here: words of slices, with nothing past the end; the junk that lent slices are filled with; a line's first word and
+// its numbers.
 // Files below use what is private above them.
 mod running; // running.rt: a run or a page, and what it left; running/cases.rt: the lines of the cases
 
