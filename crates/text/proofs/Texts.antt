@@ -5,12 +5,13 @@ use mathlib.Core.Bool.{Bool, true, false}
 use mathlib.Core.List.{List, [], _∷_, _++_, append-nil}
 use native.Mathlib.Omega.{arith}
 use lib.ListN.{length, getD, drop, length-append, drop-of-length-le, length-drop}
-use borrow.Author.Tests.{eq-eqb, ne-eqb}
+use borrow.Author.Tests.{eq-eqb, ne-eqb, lt-ltb, le-ltb}
 use Rattle.lists.specs.Choice.{_⇒_else_, _==_}
 use Rattle.lists.specs.Lists.{each}
-use Rattle.text.specs.Writing.{spaced, imageWord, unreadableWord, doneWord, refusedWord, lineOf, answerLine, answerLines, writeText, unreadableText}
+use Rattle.text.specs.Writing.{spaced, imageWord, unreadableWord, doneWord, refusedWord, lineOf, answerLine, answerLines, writeText, boundedText, unreadableText}
+use Rattle.decimal.specs.Stored.{Written}
 use Rattle.decimal.proofs.Digits.{digits-most}
-use Rattle.decimal.proofs.Stores.{one-drop}
+use Rattle.decimal.proofs.Stores.{one-drop, written-as}
 
 pub spaced-most : (n : ℕ) → length (spaced n) ≤ 11
 unfolding spaced
@@ -67,6 +68,24 @@ write-most answers image =
 pub write-parts : (answers image : List ℕ) → answerLines answers ++ lineOf imageWord image ≡ writeText answers image
 unfolding writeText
 write-parts answers image = refl
+
+-- ---- as much as there is room for
+
+pub written-none : {text out : List ℕ} → text ≡ [] → Written text 0 out out
+written-none {text} {out} e = written-as [] text 0 out out (sym e) (refl, refl)
+
+module _ (answers image : List ℕ) where
+  pub bounded-answers : 2000 < length answers → boundedText answers image ≡ []
+  unfolding boundedText
+  bounded-answers h = rw (lt-ltb 2000 (length answers) h)
+
+  pub bounded-image : length answers ≤ 2000 → 7006 < length image → boundedText answers image ≡ []
+  unfolding boundedText
+  bounded-image h k = rw (le-ltb 2000 (length answers) h, lt-ltb 7006 (length image) k)
+
+  pub bounded-whole : length answers ≤ 2000 → length image ≤ 7006 → writeText answers image ≡ boundedText answers image
+  unfolding boundedText
+  bounded-whole h k = rw (le-ltb 2000 (length answers) h, le-ltb 7006 (length image) k)
 
 -- ---- turns of the loops
 

@@ -1,6 +1,8 @@
 -- chartrun's output: REFERENCE 11.3 and 11.4.
 use Prim.Native.Nat.{ℕ}
 use mathlib.Core.List.{List, [], _∷_, _++_}
+use lib.ListN.{length}
+use lib.Dec.{ltb}
 use Rattle.lists.specs.Choice.{_⇒_else_, _==_}
 use Rattle.lists.specs.Lists.{each}
 use Rattle.decimal.specs.Decimal.{digits}
@@ -44,6 +46,15 @@ answerLines (code ∷ number ∷ ws) = answerLine code number ++ answerLines ws
 unfoldable pub writeText : List ℕ → List ℕ → List ℕ
 unfolding lineOf answerLines
 writeText answers image = answerLines answers ++ lineOf imageWord image
+
+-- what the lent bytes have room for at any words: 1,000 answers, and the image of 200 vertices and 800 edges; else
+-- nothing
+unfoldable pub boundedText : List ℕ → List ℕ → List ℕ
+unfolding writeText
+boundedText answers image =
+    ltb 2000 (length answers) ⇒ [] else
+    ltb 7006 (length image) ⇒ [] else
+    writeText answers image
 
 -- all that is written where the input is unreadable
 unfoldable pub unreadableText : ℕ → List ℕ

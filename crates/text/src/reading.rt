@@ -288,9 +288,8 @@ pub fn words(bytes: &[u8], calls: &mut [u32]) -> usize
 }
 
 // The words of the calls stand at the front of calls, and behind them what stood there; unreadable bytes leave calls as
-// it is.
-pub fn read(bytes: &[u8], calls: &mut [u32]) -> ReadVerdict
-    requires { ⌜ 5000 ≤ length (now calls) ⌝ }
+// it is. There is room for 1,000 calls.
+pub fn read(bytes: &[u8], calls: &mut [u32; 5000]) -> ReadVerdict
     ensures { λ r. ⌜ (r ≡ answered (readText (now (bytes .entry))))
         × (now (calls .exit) ≡ over (wordsOf (readText (now (bytes .entry)))) (now (calls .entry))) ⌝ }
 {

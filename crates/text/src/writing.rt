@@ -4,7 +4,7 @@ ghost use lib.ListN.{length};
 ghost use Rattle.lists.specs.Lists.{each};
 ghost use Rattle.decimal.specs.Stored.{Stored, Written};
 ghost use Rattle.decimal.specs.Decimal.{digits};
-ghost use Rattle.text.specs.Writing.{spaced, lineOf, answerLine, answerLines, writeText, unreadableText};
+ghost use Rattle.text.specs.Writing.{spaced, lineOf, answerLine, answerLines, writeText, boundedText, unreadableText};
 use decimal::bytes;
 
 fn digits(out: &mut [u8], at: usize, n: u32) -> usize
@@ -77,7 +77,7 @@ fn answers(out: &mut [u8], words: &[u32]) -> usize
 
 // The lines of the answers, code and number in turn, and the line of the image.
 // A line of an answer has at most 19 bytes, and a number of the image with its space 11.
-pub fn write(codes: &[u32], image: &[u32], out: &mut [u8]) -> usize
+fn lines(codes: &[u32], image: &[u32], out: &mut [u8]) -> usize
     requires { ⌜ 10 * length (now codes) + 11 * length (now image) + 6 ≤ length (now out) ⌝ }
     ensures { λ r. ⌜ Written (writeText (now (codes .entry)) (now (image .entry))) r (now (out .entry))
         (now (out .exit)) ⌝ }
@@ -86,9 +86,22 @@ pub fn write(codes: &[u32], image: &[u32], out: &mut [u8]) -> usize
     line(out, p, b"image", image)
 }
 
+// There is room for 1,000 answers and the image of 200 vertices and 800 edges; of more nothing is written.
+pub fn write(codes: &[u32], image: &[u32], out: &mut [u8; 97072]) -> usize
+    ensures { λ r. ⌜ Written (boundedText (now (codes .entry)) (now (image .entry))) r (now (out .entry))
+        (now (out .exit)) ⌝ }
+{
+    if 2000 < codes.len() {
+        return 0;
+    }
+    if 7006 < image.len() {
+        return 0;
+    }
+    lines(codes, image, out)
+}
+
 // The line of unreadable input.
-pub fn write_unreadable(n: u32, out: &mut [u8]) -> usize
-    requires { ⌜ 22 ≤ length (now out) ⌝ }
+pub fn write_unreadable(n: u32, out: &mut [u8; 97072]) -> usize
     ensures { λ r. ⌜ Written (unreadableText n) r (now (out .entry)) (now (out .exit)) ⌝ }
 {
     line(out, 0, b"unreadable", &[n])

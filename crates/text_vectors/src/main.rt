@@ -2,7 +2,6 @@
 use libc::STDOUT_FILENO;
 use text::ReadVerdict;
 ghost use Prim.Native.Nat.{_≤_};
-ghost use lib.ListN.{length};
 
 fn report(good: bool, name: &[u8]) {
     if good {
@@ -84,9 +83,7 @@ fn repeat(text: &mut [u8], line: &[u8], last: usize) {
     }
 }
 
-fn read_as(bytes: &[u8], calls: &mut [u32], want: &[u32]) -> bool
-    requires { ⌜ 5000 ≤ length (now calls) ⌝ }
-{
+fn read_as(bytes: &[u8], calls: &mut [u32; 5000], want: &[u32]) -> bool {
     let ReadVerdict::Calls(n) = text::read(bytes, calls) else {
         return false;
     };
@@ -99,9 +96,7 @@ fn read_as(bytes: &[u8], calls: &mut [u32], want: &[u32]) -> bool
     false
 }
 
-fn lines_as(bytes: &[u8], calls: &mut [u32]) -> bool
-    requires { ⌜ 5000 ≤ length (now calls) ⌝ }
-{
+fn lines_as(bytes: &[u8], calls: &mut [u32; 5000]) -> bool {
     let ReadVerdict::Calls(n) = text::read(bytes, calls) else {
         return false;
     };
@@ -111,9 +106,7 @@ fn lines_as(bytes: &[u8], calls: &mut [u32]) -> bool
     counts(calls)
 }
 
-fn refused_as(bytes: &[u8], calls: &mut [u32], want: u32) -> bool
-    requires { ⌜ 5000 ≤ length (now calls) ⌝ }
-{
+fn refused_as(bytes: &[u8], calls: &mut [u32; 5000], want: u32) -> bool {
     let ReadVerdict::Unreadable(n) = text::read(bytes, calls) else {
         return false;
     };
@@ -148,7 +141,7 @@ fn reads_front(text: &[u8], n: usize, name: &[u8]) {
 }
 
 // The text and then 255s.
-fn same_text(out: &[u8], n: usize, want: &[u8]) -> bool {
+fn same_text(out: &[u8; 97072], n: usize, want: &[u8]) -> bool {
     if n != want.len() {
         return false;
     }
@@ -167,17 +160,13 @@ fn same_text(out: &[u8], n: usize, want: &[u8]) -> bool {
 }
 
 fn writes(codes: &[u32], image: &[u32], want: &[u8], name: &[u8]) {
-    let mut out = [255u8; 1000];
-    if codes.len() <= 20 {
-        if image.len() <= 40 {
-            let n = text::write(codes, image, &mut out);
-            report(same_text(&out, n, want), name);
-        }
-    }
+    let mut out = [255u8; 97072];
+    let n = text::write(codes, image, &mut out);
+    report(same_text(&out, n, want), name);
 }
 
 fn writes_unreadable(number: u32, want: &[u8], name: &[u8]) {
-    let mut out = [255u8; 30];
+    let mut out = [255u8; 97072];
     let n = text::write_unreadable(number, &mut out);
     report(same_text(&out, n, want), name);
 }
@@ -312,6 +301,14 @@ fn written_example() {
     );
 }
 
+// Of more than there is room for, nothing.
+fn written_nothing() {
+    let codes = [0u32; 2002];
+    let image = [0u32; 7007];
+    writes(&codes, &[], b"", b"1,001 answers");
+    writes(&[], &image, b"", b"an image of 7,007 words");
+}
+
 fn written_unreadable() {
     writes_unreadable(0, b"unreadable 0\n", b"unreadable 0");
     writes_unreadable(1001, b"unreadable 1001\n", b"unreadable 1001");
@@ -332,5 +329,6 @@ fn main() {
     sizes();
     written();
     written_example();
+    written_nothing();
     written_unreadable();
 }

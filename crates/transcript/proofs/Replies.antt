@@ -1,6 +1,6 @@
 -- The list that chartrun runs is never refused, and what the run leaves is what the reply shows.
 use Prim.Native.Nat.{ℕ, _*_, _/_, _%_, _≤_}
-use mathlib.Core.Path.{_≡_, sym, ap, _∙_}
+use mathlib.Core.Path.{_≡_, refl, sym, ap, _∙_}
 use mathlib.Core.List.{List, [], _∷_}
 use native.Mathlib.Omega.{arith}
 use lib.ListN.{length, take}
@@ -76,14 +76,14 @@ pub record CallsRead (bytes calls : List ℕ) (n : ℕ) : Type 0 where
   pub text : reply (take n calls) ≡ transcript bytes
 
 module _ (bytes : List ℕ) (n : ℕ) (v : ReadVerdict) (read : v ≡ answered (readText bytes)) where
-  pub calls-read : (slice slice′ : List ℕ) → v ≡ Calls n → slice′ ≡ over (wordsOf (readText bytes)) slice → length slice′ ≡ 5000 → CallsRead bytes slice′ n
+  pub calls-read : (slice slice′ : List ℕ) → v ≡ Calls n → slice′ ≡ over (wordsOf (readText bytes)) slice → CallsRead bytes slice′ n
   unfolding transcript
-  calls-read slice slice′ e f k =
+  calls-read slice slice′ e f =
       let t = told-calls (readText bytes) n (sym e ∙ read) in
       let ws = wordsOf (readText bytes) in
       let p : take n slice′ ≡ ws = over-front ws slice slice′ n (t .1) f in
       record {
-        fit = omega (arith, k, over-fits ws slice slice′ n 5000 (t .1) f k);
+        fit = over-fits ws slice slice′ n (length slice′) (t .1) f refl;
         whole = omega (arith, ap length p, five-a-line bytes ws (t .0));
         few = omega (arith, ap length p, words-most bytes ws (t .0));
         text = ap reply p ∙ sym (ap replyTo (t .0));

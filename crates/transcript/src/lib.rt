@@ -10,19 +10,17 @@ ghost use Rattle.text.specs.Writing.{writeText};
 ghost use Rattle.transcript.specs.Transcript.{reply, transcript};
 
 // The text of what a run wrote: the answers of the calls done, and so many words of the image.
-fn shown(answers: &[u32], image: &[u32], done: usize, words: usize, out: &mut [u8]) -> usize
-    requires { ⌜ (2 * done ≤ length (now answers)) × (words ≤ length (now image))
-        × (20 * done + 11 * words + 6 ≤ length (now out)) ⌝ }
-    ensures { λ r. ⌜ Written (writeText (take (2 * done) (now (answers .entry))) (take words (now (image .entry)))) r
-        (now (out .entry)) (now (out .exit)) ⌝ }
+fn shown(answers: &[u32], image: &[u32], done: usize, words: usize, out: &mut [u8; 97072]) -> usize
+    requires { ⌜ (2 * done ≤ length (now answers)) × (words ≤ length (now image)) × (done ≤ 1000) × (words ≤ 7006) ⌝ }
+    ensures { λ r. ⌜ Written (writeText (take (2 * done) (now (answers .entry))) (take words (now (image .entry)))) r (now (out .entry)) (now (out .exit)) ⌝ }
 {
     let count = 2 * done;
     text::write(&answers[..count], &image[..words], out)
 }
 
 // Capacities 200, 800, 1,000; types 0 to 4, with 2 and 3 below 1; the empty graph's image to start from.
-fn respond(calls: &[u32], out: &mut [u8]) -> usize
-    requires { ⌜ (length (now calls) % 5 ≡ 0) × (length (now calls) ≤ 5000) × (97072 ≤ length (now out)) ⌝ }
+fn respond(calls: &[u32], out: &mut [u8; 97072]) -> usize
+    requires { ⌜ (length (now calls) % 5 ≡ 0) × (length (now calls) ≤ 5000) ⌝ }
     ensures { λ r. ⌜ Written (reply (now (calls .entry))) r (now (out .entry)) (now (out .exit)) ⌝ }
 {
     let start = [0u32, 0, 6, 6, 6, 6];
@@ -46,8 +44,7 @@ fn respond(calls: &[u32], out: &mut [u8]) -> usize
 }
 
 // Writes the whole output for the input to the front of out, and answers how many bytes it has.
-pub fn transcribe(bytes: &[u8], out: &mut [u8]) -> usize
-    requires { ⌜ 97072 ≤ length (now out) ⌝ }
+pub fn transcribe(bytes: &[u8], out: &mut [u8; 97072]) -> usize
     ensures { λ r. ⌜ Written (transcript (now (bytes .entry))) r (now (out .entry)) (now (out .exit)) ⌝ }
 {
     let mut calls = [0u32; 5000];

@@ -1,12 +1,136 @@
-// A run on arrays full of junk, and what it left.
-use crate::words::fill;
-use crate::words::front;
-use crate::words::least;
-use crate::words::untouched;
-use crate::writing;
+// A run on arrays full of junk, or a page on bytes full of it, and what it left, to standard output.
+mod cases;
+
+use crate::between;
+use crate::byte;
+use crate::fill;
+use crate::front;
+use crate::least;
+use crate::rest;
+use crate::untouched;
+use crate::word;
+pub use cases::cases;
 use engine::run::Outcome;
 use engine::run::run;
+use libc::STDOUT_FILENO;
+use page::Printed;
+use page::print;
 use std::num::wrapping_add_usize;
+
+fn write_text(bytes: &[u8]) {
+    io::write_all(STDOUT_FILENO, bytes);
+}
+
+fn write_line(bytes: &[u8]) {
+    write_text(bytes);
+    write_text(b"\n");
+}
+
+fn write_spaced(n: u64) {
+    write_text(b" ");
+    io::print_decimal(STDOUT_FILENO, n);
+}
+
+fn write_words(list: &[u32]) {
+    let mut i = 0;
+    while i < list.len() {
+        write_spaced(word(list, i) as u64);
+        i += 1;
+    }
+}
+
+// A name and words.
+fn write_named(name: &[u8], list: &[u32]) {
+    write_text(name);
+    write_words(list);
+    write_text(b"\n");
+}
+
+fn write_part(which: u32, list: &[u32]) {
+    write_text(b"part");
+    write_spaced(which as u64);
+    write_named(b":", list);
+}
+
+// The code, the calls done, the words of the end image.
+fn write_result(code: u32, done: usize, count: usize) {
+    write_text(b"result");
+    write_spaced(code as u64);
+    write_spaced(done as u64);
+    write_spaced(count as u64);
+    write_text(b"\n");
+}
+
+// The code and the bytes of a page.
+fn write_page(code: u32, bytes: usize) {
+    write_text(b"page");
+    write_spaced(code as u64);
+    write_spaced(bytes as u64);
+    write_text(b"\n");
+}
+
+// Whether what nothing was to be written to is as it was.
+fn write_kept(good: bool) {
+    if good {
+        write_line(b"kept");
+    } else {
+        write_line(b"CHANGED");
+    }
+}
+
+// A call's five words and the two of its answer.
+fn write_answer(call: &[u32], answer: &[u32]) {
+    write_text(b"call");
+    write_words(front(call, 5));
+    write_text(b":");
+    write_words(front(answer, 2));
+    write_text(b"\n");
+}
+
+// The first calls with their answers.
+fn write_answers(calls: &[u32], list: &[u32], done: usize) {
+    let mut call = 0;
+    let mut at = 0;
+    let mut k = 0;
+    while k < done {
+        write_answer(rest(calls, call), rest(list, at));
+        call = wrapping_add_usize(call, 5);
+        at = wrapping_add_usize(at, 2);
+        k += 1;
+    }
+}
+
+// The junk byte of every page: a number sign.
+fn bytes_kept(page: &[u8], from: usize) -> bool {
+    let mut i = from;
+    while i < page.len() {
+        if byte(page, i) != 35 {
+            return false;
+        }
+        i += 1;
+    }
+    true
+}
+
+// On the first bytes of a page.
+fn print_on(words: &[u32], page: &mut [u8], room: usize) -> Printed {
+    let n = least(room, page.len());
+    print(words, &mut page[0..n])
+}
+
+fn rows_in(r: Printed) -> usize {
+    if r.code == 0 { r.bytes } else { 0 }
+}
+
+// Code and number, the rows, and whether the bytes behind them are as they were.
+fn show_page(words: &[u32], room: usize) {
+    let mut page = [35u8; 2000];
+    let r = print_on(words, &mut page, room);
+    write_page(r.code, r.bytes);
+    let rows = rows_in(r);
+    write_text(between(&page, 0, rows));
+    write_kept(bytes_kept(&page, rows));
+}
 
 // The lengths in words of what is lent.
 pub struct Lengths {
@@ -88,14 +212,14 @@ fn report(
     image: &[u32],
     junk: u32,
 ) {
-    writing::result(r.code, r.done, r.words);
+    write_result(r.code, r.done, r.words);
     if r.code != 0 {
-        writing::kept(all_kept(vertices, edges, journal, answers, image, junk));
+        write_kept(all_kept(vertices, edges, journal, answers, image, junk));
         return;
     }
-    writing::answers(calls, answers, r.done);
-    writing::named(b"image", front(image, r.words));
-    writing::kept(behind(r, answers, image, junk));
+    write_answers(calls, answers, r.done);
+    write_named(b"image", front(image, r.words));
+    write_kept(behind(r, answers, image, junk));
 }
 
 fn fill_all(
@@ -115,7 +239,7 @@ fn fill_all(
 
 // Every lent slice full of junk, the run, what it left: the words of the end image.
 // There is room for 1,001 vertices, 4,001 edges and 20,001 changes, so that each limit has a list on either side.
-pub fn run_lent(
+fn run_lent(
     start: &[u32],
     rows: &[u64],
     calls: &[u32],

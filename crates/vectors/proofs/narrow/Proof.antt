@@ -2,20 +2,26 @@ use Prim.Native.Nat.{_-_}
 use mathlib.Core.Path.{_≡_}
 use lib.ListN.{length}
 use borrow.Author.Needs.{needs}
-use Rattle.vectors.proofs.words.fill.Statement.{statement}
-use Rattle.vectors.proofs.words.fill.Tie as tie
+use Rattle.vectors.proofs.narrow.Statement.{statement}
+use Rattle.vectors.proofs.narrow.Tie as tie
 
 abbrev Inv-loop : tie.InvT-loop
-Inv-loop s₀ m i₀ s i = length s ≡ length s₀
+Inv-loop from n to₀ at i₀ to i = length to ≡ length to₀
 
 abbrev μ-loop : tie.MeasureT-loop
-μ-loop s₀ m i₀ s i = length s₀ - i
+μ-loop from n to₀ at i₀ to i = n - i
 
 loop-holds : tie.Need-loop-holds Inv-loop μ-loop
 loop-holds c = search needs
 
-junk-requires : tie.Need-junk-requires Inv-loop μ-loop
-junk-requires c κs = search needs
+wrapping-add-usize-requires : tie.Need-wrapping-add-usize-requires Inv-loop μ-loop
+wrapping-add-usize-requires c κs = search needs
+
+wide-requires : tie.Need-wide-requires Inv-loop μ-loop
+wide-requires c κs = search needs
+
+low-requires : tie.Need-low-requires Inv-loop μ-loop
+low-requires c κs = search needs
 
 put-requires : tie.Need-put-requires Inv-loop μ-loop
 put-requires c κs = search needs
@@ -35,14 +41,16 @@ same-length c = search needs
 returns : tie.Need-returns Inv-loop μ-loop
 returns c = search needs
 
-pub fill-spec : {M : Type 1} → statement M
-fill-spec =
+pub narrow-spec : {M : Type 1} → statement M
+narrow-spec =
     tie.close
     (tie.spec
     Inv-loop
     μ-loop
     loop-holds
-    junk-requires
+    wrapping-add-usize-requires
+    wide-requires
+    low-requires
     put-requires
     add-i
     loop-less

@@ -1,7 +1,7 @@
 use Prim.Native.Nat.{_-_}
 use borrow.Author.Needs.{needs}
-use Rattle.vectors.proofs.writing.answers.Statement.{statement}
-use Rattle.vectors.proofs.writing.answers.Tie as tie
+use Rattle.vectors.proofs.running.write_answers.Statement.{statement}
+use Rattle.vectors.proofs.running.write_answers.Tie as tie
 
 abbrev Inv-loop : tie.InvT-loop
 Inv-loop calls list done call₀ at₀ k₀ call at k = Unit {0}
@@ -18,8 +18,8 @@ rest-requires c κs = search needs
 rest-requires-2 : tie.Need-rest-requires-2 Inv-loop μ-loop
 rest-requires-2 c κs = search needs
 
-answer-requires : tie.Need-answer-requires Inv-loop μ-loop
-answer-requires c κs = search needs
+write-answer-requires : tie.Need-write-answer-requires Inv-loop μ-loop
+write-answer-requires c κs = search needs
 
 wrapping-add-usize-requires : tie.Need-wrapping-add-usize-requires Inv-loop μ-loop
 wrapping-add-usize-requires c κs = search needs
@@ -39,8 +39,8 @@ loop-again c = search needs
 returns : tie.Need-returns Inv-loop μ-loop
 returns c = search needs
 
-pub answers-spec : {M : Type 1} → statement M
-answers-spec =
+pub write-answers-spec : {M : Type 1} → statement M
+write-answers-spec =
     tie.close
     (tie.spec
     Inv-loop
@@ -48,7 +48,7 @@ answers-spec =
     loop-holds
     rest-requires
     rest-requires-2
-    answer-requires
+    write-answer-requires
     wrapping-add-usize-requires
     wrapping-add-usize-requires-2
     add-k

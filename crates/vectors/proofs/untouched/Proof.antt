@@ -1,14 +1,14 @@
 use Prim.Native.Nat.{_-_}
 use lib.ListN.{length}
 use borrow.Author.Needs.{needs}
-use Rattle.vectors.proofs.writing.words.Statement.{statement}
-use Rattle.vectors.proofs.writing.words.Tie as tie
+use Rattle.vectors.proofs.untouched.Statement.{statement}
+use Rattle.vectors.proofs.untouched.Tie as tie
 
 abbrev Inv-loop : tie.InvT-loop
-Inv-loop list i₀ i = Unit {0}
+Inv-loop s from m i₀ i = Unit {0}
 
 abbrev μ-loop : tie.MeasureT-loop
-μ-loop list i₀ i = length list - i
+μ-loop s from m i₀ i = length s - i
 
 loop-holds : tie.Need-loop-holds Inv-loop μ-loop
 loop-holds c = search needs
@@ -16,11 +16,11 @@ loop-holds c = search needs
 word-requires : tie.Need-word-requires Inv-loop μ-loop
 word-requires c κs = search needs
 
-cast-spaced : tie.Need-cast-spaced Inv-loop μ-loop
-cast-spaced c = search needs
+junk-requires : tie.Need-junk-requires Inv-loop μ-loop
+junk-requires c κs = search needs
 
-spaced-requires : tie.Need-spaced-requires Inv-loop μ-loop
-spaced-requires c κs = search needs
+returns : tie.Need-returns Inv-loop μ-loop
+returns c = search needs
 
 add-i : tie.Need-add-i Inv-loop μ-loop
 add-i c = search needs
@@ -31,20 +31,20 @@ loop-less c = search needs
 loop-again : tie.Need-loop-again Inv-loop μ-loop
 loop-again c = search needs
 
-returns : tie.Need-returns Inv-loop μ-loop
-returns c = search needs
+returns-2 : tie.Need-returns-2 Inv-loop μ-loop
+returns-2 c = search needs
 
-pub words-spec : {M : Type 1} → statement M
-words-spec =
+pub untouched-spec : {M : Type 1} → statement M
+untouched-spec =
     tie.close
     (tie.spec
     Inv-loop
     μ-loop
     loop-holds
     word-requires
-    cast-spaced
-    spaced-requires
+    junk-requires
+    returns
     add-i
     loop-less
     loop-again
-    returns)
+    returns-2)

@@ -1,15 +1,21 @@
-// The lines that say what the next run has.
-use crate::pages::show_page;
-use crate::reading::first;
-use crate::reading::fives;
-use crate::reading::leads;
-use crate::reading::numbers;
+// The lines of the cases: those that say what the next run has, and those that run it.
+ghost use mathlib.Core.Path.{_≡_};
+ghost use Rattle.lists.specs.Lists.{count};
+use crate::between;
+use crate::copy;
+use crate::first;
+use crate::fives;
+use crate::front;
+use crate::front_wide;
+use crate::leads;
+use crate::narrow;
+use crate::numbers;
 use crate::running::Lengths;
-use crate::words::copy;
-use crate::words::front;
-use crate::words::narrow;
-use crate::words::wide;
-use crate::writing;
+use crate::running::run_lent;
+use crate::running::show_page;
+use crate::running::write_line;
+use crate::running::write_part;
+use crate::wide;
 use image::part;
 use std::num::wrapping_add_usize;
 
@@ -98,7 +104,7 @@ fn raw(s: Setting, line: &[u8], calls: &mut [u32]) -> Setting {
 }
 
 // The calls of the line behind the calls.
-pub fn append(s: Setting, line: &[u8], calls: &mut [u32]) -> Setting {
+fn append(s: Setting, line: &[u8], calls: &mut [u32]) -> Setting {
     let mut n = [0u64; 400];
     let count = numbers(line, &mut n);
     added(s, &n, fives(count), calls)
@@ -106,7 +112,7 @@ pub fn append(s: Setting, line: &[u8], calls: &mut [u32]) -> Setting {
 
 // A part of the start words.
 fn show_part(s: Setting, which: u32, start: &[u32]) -> Setting {
-    writing::part(which, part(front(start, s.start), which));
+    write_part(which, part(front(start, s.start), which));
     s
 }
 
@@ -117,7 +123,7 @@ fn page_of(s: Setting, room: u32, start: &[u32]) -> Setting {
 }
 
 // A line that is none of these is written as it is.
-pub fn set_line(
+fn set_line(
     s: Setting,
     line: &[u8],
     start: &mut [u32],
@@ -155,6 +161,112 @@ pub fn set_line(
     if leads(line, b"junk") {
         return junk(s, line);
     }
-    writing::line(line);
+    write_line(line);
     s
+}
+
+// run: the calls so far and those of the line.
+fn run_line(
+    s: Setting,
+    line: &[u8],
+    start: &[u32],
+    rows: &[u64],
+    calls: &mut [u32],
+    image: &mut [u32],
+) -> Setting {
+    let t = append(s, line, calls);
+    let lent = t.lent;
+    let words = run_lent(
+        front(start, t.start),
+        front_wide(rows, t.rows),
+        front(calls, t.calls),
+        image,
+        lent,
+        t.junk,
+    );
+    let mut u = t;
+    u.calls = 0;
+    u.last = words;
+    u
+}
+
+fn one_line(
+    s: Setting,
+    line: &[u8],
+    start: &mut [u32],
+    rows: &mut [u64],
+    calls: &mut [u32],
+    image: &mut [u32],
+) -> Setting {
+    if leads(line, b"run") {
+        return run_line(s, line, start, rows, calls, image);
+    }
+    set_line(s, line, start, rows, calls, image)
+}
+
+// The line that ends at i.
+fn line_to(
+    s: Setting,
+    bytes: &[u8],
+    i: usize,
+    start: &mut [u32],
+    rows: &mut [u64],
+    calls: &mut [u32],
+    image: &mut [u32],
+) -> Setting {
+    let line = between(bytes, s.from, i);
+    let mut t = s;
+    t.from = wrapping_add_usize(i, 1);
+    one_line(t, line, start, rows, calls, image)
+}
+
+// A newline ends a line. How many lines there were.
+fn lines(
+    s: Setting,
+    bytes: &[u8],
+    start: &mut [u32],
+    rows: &mut [u64],
+    calls: &mut [u32],
+    image: &mut [u32],
+) -> usize
+    ensures { λ r. ⌜ r ≡ count 10 (now (bytes .entry)) ⌝ }
+{
+    let mut t = s;
+    let mut n = 0;
+    let mut i = 0;
+    while i < bytes.len() {
+        let k = i;
+        i += 1;
+        if bytes[k] == 10 {
+            n += 1;
+            t = line_to(t, bytes, k, start, rows, calls, image);
+        }
+    }
+    n
+}
+
+// Each line in turn: how many there were.
+pub fn cases(bytes: &[u8]) -> usize
+    ensures { λ r. ⌜ r ≡ count 10 (now (bytes .entry)) ⌝ }
+{
+    let mut start = [0u32; 400];
+    let mut rows = [0u64; 80];
+    let mut calls = [0u32; 2000];
+    let mut image = [0u32; 35017];
+    let s = Setting {
+        lent: Lengths {
+            vertices: 0,
+            edges: 0,
+            journal: 0,
+            answers: 0,
+            image: 0,
+        },
+        start: 0,
+        rows: 0,
+        calls: 0,
+        last: 0,
+        junk: 4294967295,
+        from: 0,
+    };
+    lines(s, bytes, &mut start, &mut rows, &mut calls, &mut image)
 }

@@ -2,8 +2,8 @@ use Prim.Native.Nat.{_-_}
 use mathlib.Core.Path.{_≡_}
 use lib.ListN.{length}
 use borrow.Author.Needs.{needs}
-use Rattle.vectors.proofs.reading.numbers.Statement.{statement}
-use Rattle.vectors.proofs.reading.numbers.Tie as tie
+use Rattle.vectors.proofs.numbers.Statement.{statement}
+use Rattle.vectors.proofs.numbers.Tie as tie
 
 abbrev Inv-loop : tie.InvT-loop
 Inv-loop line out₀ s₀ i₀ out s i = length out ≡ length out₀
