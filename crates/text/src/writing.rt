@@ -4,7 +4,8 @@ ghost use lib.ListN.{length};
 ghost use Rattle.lists.specs.Lists.{each};
 ghost use Rattle.decimal.specs.Stored.{Stored, Written};
 ghost use Rattle.decimal.specs.Decimal.{digits};
-ghost use Rattle.text.specs.Writing.{spaced, lineOf, answerLine, answerLines, writeText, boundedText, unreadableText};
+ghost use Rattle.text.specs.Writing.{spaced, lineOf, answerLine, answerLines, writeText, boundedText};
+ghost use Rattle.text.specs.Writing.{unreadableText};
 use decimal::bytes;
 
 fn digits(out: &mut [u8], at: usize, n: u32) -> usize

@@ -12,7 +12,8 @@ ghost use Rattle.transcript.specs.Transcript.{reply, transcript};
 // The text of what a run wrote: the answers of the calls done, and so many words of the image.
 fn shown(answers: &[u32], image: &[u32], done: usize, words: usize, out: &mut [u8; 97072]) -> usize
     requires { ⌜ (2 * done ≤ length (now answers)) × (words ≤ length (now image)) × (done ≤ 1000) × (words ≤ 7006) ⌝ }
-    ensures { λ r. ⌜ Written (writeText (take (2 * done) (now (answers .entry))) (take words (now (image .entry)))) r (now (out .entry)) (now (out .exit)) ⌝ }
+    ensures { λ r. ⌜ Written (writeText (take (2 * done) (now (answers .entry))) (take words (now (image .entry)))) r
+        (now (out .entry)) (now (out .exit)) ⌝ }
 {
     let count = 2 * done;
     text::write(&answers[..count], &image[..words], out)
