@@ -519,10 +519,12 @@ static inline void step(struct store *s, const u32 *call, u32 *answer) {
     }
 }
 
-static int sound_header(const u32 *words, size_t len) {
+/* Words of a vertex record, which the edge offset tells: 4, without the degree 3. 0 where the header is not sound. */
+static u32 record_size(const u32 *words, size_t len) {
     if (len < 6) return 0;
-    u64 v = words[0], e = words[1];
-    return words[2] == 6 && words[3] == 6 + 3 * v && words[4] == 6 + 3 * v + 6 * e && words[5] == 6 + 3 * v + 8 * e && words[5] == len;
+    u64 v = words[0], e = words[1], edges = words[3];
+    if (words[2] != 6 || words[4] != edges + 6 * e || words[5] != edges + 8 * e || words[5] != len) return 0;
+    return edges == 6 + 4 * v ? 4 : edges == 6 + 3 * v ? 3 : 0;
 }
 
 /* What is bad in words that should be an image within the capacities: a code, 0 where they are one, and with 108 and 109
@@ -537,11 +539,12 @@ struct bad {
 static struct bad check(const u32 *words, size_t len, u32 vertices, u32 edges, u32 types) {
     u32 degree[FUTTOCKFIG_MOST_VERTICES + 1]; /* 1 + degree, 0 where the vertex is missing */
     u32 this_of[2 * FUTTOCKFIG_MOST_EDGES + 2]; /* 0 where missing or used */
-    if (!sound_header(words, len) || words[0] > vertices || words[1] > edges || (!words[0] && words[1])) BAD(105, words);
+    u32 size = record_size(words, len);
+    if (!size || words[0] > vertices || words[1] > edges || (!words[0] && words[1])) BAD(105, words);
     memset(degree, 0, 4 * ((size_t)vertices + 1));
     memset(this_of, 0, 8 * ((size_t)edges + 1));
     const u32 *end = words + words[3];
-    for (const u32 *r = words + 6; r < end; r += 3) {
+    for (const u32 *r = words + 6; r < end; r += size) {
         if (r[0] - 1 >= vertices || degree[r[0]]) BAD(108, r);
         if (r[1] >= types) BAD(108, r + 1);
         degree[r[0]] = 1;
@@ -559,8 +562,13 @@ static struct bad check(const u32 *words, size_t len, u32 vertices, u32 edges, u
         degree[r[1]]++;
         degree[r[2]]++;
     }
+    end = words + words[3];
+    if (size == 4) {
+        for (const u32 *r = words + 6; r < end; r += 4)
+            if (degree[r[0]] != r[3] + 1) BAD(108, r + 3);
+    }
     const u32 *w = words + words[4];
-    for (const u32 *r = words + 6; r < words + words[3]; r += 3) {
+    for (const u32 *r = words + 6; r < end; r += size) {
         for (u32 n = degree[r[0]]; n > 1; n--, w++) {
             if (*w > 2 * edges + 1 || this_of[*w] != r[0]) BAD(109, w);
             this_of[*w] = 0;
@@ -569,7 +577,8 @@ static struct bad check(const u32 *words, size_t len, u32 vertices, u32 edges, u
     return (struct bad){0, 0};
 }
 
-static void load(struct store *s, const u32 *words) {
+/* A list is as long as its record says; of old words, it ends where a word is another vertex's. */
+static inline void load_as(struct store *s, const u32 *words, u32 size) {
     for (u32 v = 1; v <= s->vertex_capacity; v++) vertex_row(s, v)[V_LIVE] = 0;
     for (u32 e = 1; e <= s->edge_capacity; e++) edge_row(s, e)[E_LIVE] = 0;
     u32 prev = 0;
@@ -590,8 +599,9 @@ static void load(struct store *s, const u32 *words) {
     s->edge_last = prev;
     s->edge_count = words[1];
     prev = 0;
-    const u32 *w = words + words[4], *last = words + words[5];
-    for (const u32 *r = words + 6; r < words + words[3]; r += 3) {
+    const u32 *w = end, *last = words + words[5];
+    end = words + words[3];
+    for (const u32 *r = words + 6; r < end; r += size) {
         u32 *row = vertex_row(s, r[0]);
         row[V_LIVE] = 1;
         row[V_TYPE] = r[1];
@@ -601,7 +611,8 @@ static void load(struct store *s, const u32 *words) {
         if (prev) vertex_row(s, prev)[V_NEXT] = r[0]; else s->vertex_first = r[0];
         prev = r[0];
         u32 before = 0;
-        for (; w < last && half(s, *w)[W_THIS] == r[0]; w++) {
+        if (size == 4) last = w + r[3];
+        for (; w < last && (size == 4 || half(s, *w)[W_THIS] == r[0]); w++) {
             half(s, *w)[W_PREV] = before;
             if (before) half(s, before)[W_NEXT] = *w; else row[V_FIRST] = *w;
             before = *w;
@@ -614,20 +625,21 @@ static void load(struct store *s, const u32 *words) {
     s->vertex_count = words[0];
 }
 
+static void load(struct store *s, const u32 *words) {
+    if (words[3] == 6 + 4 * words[0]) load_as(s, words, 4);
+    else load_as(s, words, 3);
+}
+
+/* A degree is counted as its list is written. */
 static size_t save(const struct store *s, u32 *restrict image) {
     u32 v = s->vertex_count, e = s->edge_count;
     image[0] = v;
     image[1] = e;
     image[2] = 6;
-    image[3] = 6 + 3 * v;
-    image[4] = 6 + 3 * v + 6 * e;
-    image[5] = 6 + 3 * v + 8 * e;
-    u32 *to = image + 6;
-    for (u32 n = s->vertex_first; n; n = vertex_row(s, n)[V_NEXT], to += 3) {
-        to[0] = n;
-        to[1] = vertex_row(s, n)[V_TYPE];
-        to[2] = vertex_row(s, n)[V_VALUE];
-    }
+    image[3] = 6 + 4 * v;
+    image[4] = 6 + 4 * v + 6 * e;
+    image[5] = 6 + 4 * v + 8 * e;
+    u32 *to = image + image[3], *record = image + 6;
     for (u32 n = s->edge_first; n; n = edge_row(s, n)[E_NEXT], to += 6) {
         const u32 *row = edge_row(s, n);
         to[0] = n;
@@ -637,8 +649,14 @@ static size_t save(const struct store *s, u32 *restrict image) {
         to[4] = row[E_KIND];
         to[5] = row[E_DECIMETRES];
     }
-    for (u32 n = s->vertex_first; n; n = vertex_row(s, n)[V_NEXT])
-        for (u32 w = vertex_row(s, n)[V_FIRST]; w; w = half(s, w)[W_NEXT]) *to++ = w;
+    for (u32 n = s->vertex_first; n; n = vertex_row(s, n)[V_NEXT], record += 4) {
+        const u32 *row = vertex_row(s, n), *list = to;
+        for (u32 w = row[V_FIRST]; w; w = half(s, w)[W_NEXT]) *to++ = w;
+        record[0] = n;
+        record[1] = row[V_TYPE];
+        record[2] = row[V_VALUE];
+        record[3] = (u32)(to - list);
+    }
     return (size_t)(to - image);
 }
 
@@ -675,7 +693,7 @@ struct futtockfig_result BY_HAND_RUN(
 
 struct futtockfig_span BY_HAND_PART(const u32 *words, size_t words_len, u32 part) {
     struct futtockfig_span span = {0, 0};
-    if (sound_header(words, words_len) && part - 1 < 3) {
+    if (record_size(words, words_len) && part - 1 < 3) {
         span.offset = words[1 + part];
         span.len = words[2 + part] - span.offset;
     }

@@ -34,7 +34,7 @@ extern "C" {
 #endif
 
 /* What a caller sees; raised with every change to it (docs/CHANGES.md). */
-#define FUTTOCKFIG_VERSION 8
+#define FUTTOCKFIG_VERSION 9
 
 /* Words a row in each table, and the most rows that a table may have. The fewest is 1. */
 #define FUTTOCKFIG_VERTEX_WORDS 8
@@ -53,7 +53,7 @@ extern "C" {
 #define FUTTOCKFIG_PAGE_ROW 25
 
 /* Words of the image of a graph with this many vertices and edges; with the capacities, what `image` must have. */
-#define FUTTOCKFIG_IMAGE_WORDS(vertices, edges) ((size_t)6 + (size_t)3 * (vertices) + (size_t)8 * (edges))
+#define FUTTOCKFIG_IMAGE_WORDS(vertices, edges) ((size_t)6 + (size_t)4 * (vertices) + (size_t)8 * (edges))
 
 /*
  * Kinds of call. A call has five words, the kind and then a, b, c, d. A word that a kind does not use is ignored.
@@ -148,9 +148,10 @@ enum futtockfig_code {
     FUTTOCKFIG_BAD_CAPACITY = 103,     /* a capacity is 0 or above its limit */
     FUTTOCKFIG_BAD_ROWS = 104,         /* no type row, over 64, or a bit n or above is set */
     FUTTOCKFIG_BAD_START = 105,        /* start: under six words; a length, offset or total that does not fit the
-                                          counts; a count above its capacity; edges and no vertex */
-    FUTTOCKFIG_SHORT_IMAGE = 106,      /* image_len is under 6 + 3 * vertex capacity + 8 * edge capacity */
-    FUTTOCKFIG_BAD_RECORD = 108,       /* start: a vertex or edge record is bad; done is where */
+                                          counts, be it as new or as old words; a count above its capacity; edges and
+                                          no vertex */
+    FUTTOCKFIG_SHORT_IMAGE = 106,      /* image_len is under 6 + 4 * vertex capacity + 8 * edge capacity */
+    FUTTOCKFIG_BAD_RECORD = 108,       /* start: a vertex or edge record is bad, its degree included; done is where */
     FUTTOCKFIG_BAD_INCIDENCE = 109,    /* start: all records are good, a list is bad; done is where */
     /* Of a page, beside 105, 108 and 109 of its words. */
     FUTTOCKFIG_SHORT_PAGE = 107        /* page_len is under 25 an edge */
@@ -158,10 +159,12 @@ enum futtockfig_code {
 
 /*
  * With 108 and 109 done is the offset of the first bad word of start, counted from 0 (the first vertex's number is word
- * 6): the first word that cannot come after those before it. In a record that is a number 0, above its capacity or used
- * by an earlier record of the same part; a type with no row; an end that is no vertex of start; a reading kind above 2;
- * decimetres that do not go with the kind. Values are never bad. A list is as long as the edges have ends at its
- * vertex; bad is a word that does not belong there, or does and came earlier.
+ * 6): the first word that cannot come after those before it, where degrees come after all other words of records. In a
+ * record that is a number 0, above its capacity or used by an earlier record of the same part; a type with no row; an
+ * end that is no vertex of start; a reading kind above 2; decimetres that do not go with the kind. Values are never bad.
+ * A degree is bad that is not the number of ends that the edges have at its vertex (a loop has both there); that of
+ * record i, counted from 0, is word 9 + 4i. A list is as long as the edges have ends at its vertex; bad is a word that
+ * does not belong there, or does and came earlier.
  */
 struct futtockfig_result {
     uint32_t code; /* 0, or a code of the whole list */
@@ -172,14 +175,14 @@ struct futtockfig_result {
 /*
  * Runs a list of calls from the first to the last.
  *
- * start     the image of the graph to start from; for an empty graph 0 0 6 6 6 6
+ * start     the image of the graph to start from, new or old (AN IMAGE, below); for an empty graph 0 0 6 6 6 6
  * rows      the type rows, 1 to 64 of them
  * calls     five words a call; there is no limit on their number
  * vertices  table, 8 words a vertex; the capacity is vertices_len / 8, rounded down, 1 to 1,000
  * edges     table, 12 words an edge; the capacity is edges_len / 12, rounded down, 1 to 4,000
  * journal   table, 12 words a change; the capacity is journal_len / 12, rounded down, 1 to 20,000
  * answers   two words a call are written, code and number; words beyond them stay
- * image     the graph at the end is written as an image; words beyond it stay
+ * image     the graph at the end is written as an image, always a new one; words beyond it stay
  *
  * The words found in the three tables, in answers and in image do not matter. After a run with code 0 the tables hold
  * words that mean nothing to the caller; they may be lent again as they are.
@@ -204,11 +207,16 @@ struct futtockfig_result futtockfig_run(
 
 /*
  * AN IMAGE
- *   6 words: vertex count V, edge count E, the offsets 6, 6 + 3V, 6 + 3V + 6E of the three parts, and the total
- *   6 + 3V + 8E, which is the number of words.
- *   Part 1, in Vseq order, 3 words a vertex: number, type, value.
+ *   6 words: vertex count V, edge count E, the offsets 6, 6 + 4V, 6 + 4V + 6E of the three parts, and the total
+ *   6 + 4V + 8E, which is the number of words.
+ *   Part 1, in Vseq order, 4 words a vertex: number, type, value, degree, which is the length of its list.
  *   Part 2, in Eseq order, 6 words an edge: number, alpha, omega, type, reading kind, decimetres.
- *   Part 3: the list of each vertex, in Vseq order, one after another.
+ *   Part 3: the list of each vertex, in Vseq order, one after another. So a vertex's list begins at the third offset
+ *   plus the degrees of the records before its own.
+ *
+ *   Up to version 8 a vertex had 3 words, without the degree; the offsets were 6, 6 + 3V, 6 + 3V + 6E and the total
+ *   6 + 3V + 8E. Such words are still read wherever an image is, and no more written. The edge offset tells which they
+ *   are; the third offset and the total must then be those of the same record. Without vertices the two do not differ.
  */
 enum futtockfig_part_number {
     FUTTOCKFIG_VERTEX_PART = 1,
@@ -223,8 +231,9 @@ struct futtockfig_span {
 
 /*
  * Where a part of an image lies: words[offset] to words[offset + len - 1]. Only the header is read: offset is the
- * header's offset of the part, also where the part is empty. Where length, offsets or total do not fit the counts, or
- * part is not 1, 2 or 3, offset and len are 0; no part of a sound header has offset 0.
+ * header's offset of the part, also where the part is empty; part 1 has 4V words, of an old image 3V. Where length,
+ * offsets or total do not fit the counts, or part is not 1, 2 or 3, offset and len are 0; no part of a sound header has
+ * offset 0.
  * The pointer must not be NULL, also where words_len is 0.
  */
 struct futtockfig_span futtockfig_part(const uint32_t *words, size_t words_len, uint32_t part);
@@ -243,10 +252,10 @@ struct futtockfig_page_result {
 };
 
 /*
- * Writes the page of an image. The words may be an image with up to 1,000 vertices, 4,000 edges and 64 types; all
- * others get 105, 108 or 109, whatever the page: as a start does in a run with such capacities and types, and with 108
- * and 109 bytes is the offset of the first bad word. The same words may be bad at another place in a run, or not at
- * all. Then a page that is too short for the rows gets FUTTOCKFIG_SHORT_PAGE.
+ * Writes the page of an image, the same for new and for old words. The image may have up to 1,000 vertices, 4,000 edges
+ * and 64 types; all other words get 105, 108 or 109, whatever the page: as a start does in a run with such capacities
+ * and types, and with 108 and 109 bytes is the offset of the first bad word. The same words may be bad at another place
+ * in a run, or not at all. Then a page that is too short for the rows gets FUTTOCKFIG_SHORT_PAGE.
  * With a code no byte of the page is written; else bytes behind the rows stay as they were. Nothing is added behind the
  * last newline, so a page is no C string. No edges are no bytes, and code 0, also where page_len is 0.
  *

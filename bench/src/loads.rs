@@ -32,6 +32,9 @@ pub fn all() -> Vec<Load> {
     let empty = Graph::default();
     let least = Capacities { vertices: 1, edges: 1, changes: 1 };
     let edits = edits(&start, 20_000);
+    let mut old = load("load of old words, and save", vec![], 0);
+    old.case.start = image::save_old(&start);
+    old.short.start = old.case.start.clone();
     let mut marked = load("64 marks over 19,200 steps", marks(&edits, 64, 300, 128), 0);
     marked.short = at(CAPACITIES, &start, marks(&edits, 16, 60, 128));
     vec![
@@ -45,6 +48,7 @@ pub fn all() -> Vec<Load> {
         load("100,000 questions", questions(&start, 100_000), 5_000),
         load_at("one call at capacities 1, 1, 1", least, &empty, vec![[30, 0, 0, 0, 0]], 1),
         load_at("one call at the limits, no graph", CAPACITIES, &empty, vec![[30, 0, 0, 0, 0]], 1),
+        old,
         load("load and save", vec![], 0),
     ]
 }

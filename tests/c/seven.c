@@ -7,11 +7,13 @@
 enum { VERTICES = 10, EDGES = 10, CHANGES = 20, SPARE = 3 };
 
 /* Seven: vertices 1 to 4, edges 1 to 7, untested, types and values 0. */
-static const uint32_t seven[] = {
-    4, 7, 6, 18, 60, 74,
-    1, 0, 0, 2, 0, 0, 3, 0, 0, 4, 0, 0,
-    1, 1, 1, 0, 0, 0, 2, 1, 2, 0, 0, 0, 3, 1, 2, 0, 0, 0, 4, 2, 1, 0, 0, 0, 5, 4, 1, 0, 0, 0, 6, 4, 2, 0, 0, 0, 7, 4, 4, 0, 0, 0,
-    2, 3, 4, 6, 9, 11, 5, 7, 8, 13, 10, 12, 14, 15};
+#define EDGES_AND_LISTS \
+    1, 1, 1, 0, 0, 0, 2, 1, 2, 0, 0, 0, 3, 1, 2, 0, 0, 0, 4, 2, 1, 0, 0, 0, \
+    5, 4, 1, 0, 0, 0, 6, 4, 2, 0, 0, 0, 7, 4, 4, 0, 0, 0, \
+    2, 3, 4, 6, 9, 11, 5, 7, 8, 13, 10, 12, 14, 15
+static const uint32_t seven[] = {4, 7, 6, 22, 64, 78, 1, 0, 0, 6, 2, 0, 0, 4, 3, 0, 0, 0, 4, 0, 0, 4, EDGES_AND_LISTS};
+/* Its old words, without degrees. */
+static const uint32_t old_seven[] = {4, 7, 6, 18, 60, 74, 1, 0, 0, 2, 0, 0, 3, 0, 0, 4, 0, 0, EDGES_AND_LISTS};
 
 /* Each call with its code and number. */
 static const struct {
@@ -70,16 +72,19 @@ int main(void) {
     expect("code of six words, result", 0, r.code, FUTTOCKFIG_BAD_CALLS);
     expect("calls done, result", 0, r.done, 0);
     expect("words, result", 0, r.words, 0);
-    /* Seven with one word changed: the second of two equal numbers, an end that is no vertex, a word of another list. */
+    /* Seven with one word changed: a total, the edge offset of old words, the second of two equal numbers, an end that is
+       no vertex, a degree, a word of another list. */
     static const struct {
         size_t at;
         uint32_t word, code;
         size_t done;
     } damage[] = {
-        {5, 75, FUTTOCKFIG_BAD_START, 0},
-        {9, 1, FUTTOCKFIG_BAD_RECORD, 9},
-        {20, 5, FUTTOCKFIG_BAD_RECORD, 20},
-        {73, 5, FUTTOCKFIG_BAD_INCIDENCE, 73},
+        {5, 79, FUTTOCKFIG_BAD_START, 0},
+        {3, 18, FUTTOCKFIG_BAD_START, 0},
+        {10, 1, FUTTOCKFIG_BAD_RECORD, 10},
+        {24, 5, FUTTOCKFIG_BAD_RECORD, 24},
+        {21, 3, FUTTOCKFIG_BAD_RECORD, 21},
+        {77, 5, FUTTOCKFIG_BAD_INCIDENCE, 77},
     };
     for (size_t i = 0; i < sizeof damage / sizeof damage[0]; i++) {
         uint32_t start[sizeof seven / 4];
@@ -90,6 +95,14 @@ int main(void) {
         expect("code of damage", i, r.code, damage[i].code);
         expect("offset of damage", i, r.done, damage[i].done);
         expect("words of damage", i, r.words, 0);
+    }
+    /* One word less than capacities 10 and 10 ask for, and what was enough for old words. */
+    static const size_t short_of[] = {1, VERTICES};
+    for (size_t i = 0; i < 2; i++) {
+        r = futtockfig_run(
+            seven, seven_len, rows, 1, calls, 5, vertices, 8 * VERTICES, edges, 12 * EDGES, journal, 12 * CHANGES, answers, answers_len, image,
+            FUTTOCKFIG_IMAGE_WORDS(VERTICES, EDGES) - short_of[i]);
+        expect("code of a short image", i, r.code, FUTTOCKFIG_SHORT_IMAGE);
     }
     for (size_t i = 0; i < 8 * VERTICES; i++) expect("vertex word", i, vertices[i], 0xa5a5a5a5);
     for (size_t i = 0; i < answers_len; i++) expect("answer word", i, answers[i], 0xffffffff);
@@ -109,20 +122,24 @@ int main(void) {
     for (size_t i = 2 * CALLS; i < answers_len; i++) expect("answer word beyond", i, answers[i], 0xffffffff);
     for (size_t i = seven_len; i < image_len; i++) expect("image word beyond", i, image[i], 0xffffffff);
 
-    static const size_t parts[5][2] = {{0, 0}, {6, 12}, {18, 42}, {60, 14}, {0, 0}};
+    static const size_t parts[5][2] = {{0, 0}, {6, 16}, {22, 42}, {64, 14}, {0, 0}};
+    static const size_t old_parts[5][2] = {{0, 0}, {6, 12}, {18, 42}, {60, 14}, {0, 0}};
     for (uint32_t part = 0; part < 5; part++) {
         struct futtockfig_span span = futtockfig_part(image, r.words, part);
         expect("length of part", part, span.len, parts[part][1]);
         expect("offset of part", part, span.offset, parts[part][0]);
+        span = futtockfig_part(old_seven, sizeof old_seven / 4, part);
+        expect("length of part of old words", part, span.len, old_parts[part][1]);
+        expect("offset of part of old words", part, span.offset, old_parts[part][0]);
         span = futtockfig_part(image, r.words - 1, part);
         expect("length of part, one word short,", part, span.len, 0);
         expect("offset of part, one word short,", part, span.offset, 0);
     }
     /* An empty part has its offset too, so that it can be told from words without a sound header. */
-    static const uint32_t lone[] = {1, 0, 6, 9, 9, 9, 5, 0, 7};
-    static const size_t lone_parts[5][2] = {{0, 0}, {6, 3}, {9, 0}, {9, 0}, {0, 0}};
+    static const uint32_t lone[] = {1, 0, 6, 10, 10, 10, 5, 0, 7, 0};
+    static const size_t lone_parts[5][2] = {{0, 0}, {6, 4}, {10, 0}, {10, 0}, {0, 0}};
     for (uint32_t part = 0; part < 5; part++) {
-        struct futtockfig_span span = futtockfig_part(lone, 9, part);
+        struct futtockfig_span span = futtockfig_part(lone, 10, part);
         expect("length of part of one vertex", part, span.len, lone_parts[part][1]);
         expect("offset of part of one vertex", part, span.offset, lone_parts[part][0]);
     }
@@ -136,18 +153,24 @@ int main(void) {
     memset(page, '#', sizeof page);
     struct futtockfig_page_result p = futtockfig_page(image, r.words - 1, page, 0);
     expect("code of a page, one word short,", 0, p.code, FUTTOCKFIG_BAD_START);
-    uint32_t number = image[9];
-    image[9] = image[6];
+    uint32_t number = image[10];
+    image[10] = image[6];
     p = futtockfig_page(image, r.words, page, 0);
     expect("code of a page, a vertex twice,", 0, p.code, FUTTOCKFIG_BAD_RECORD);
-    expect("bytes of a page, a vertex twice,", 0, p.bytes, 9);
+    expect("bytes of a page, a vertex twice,", 0, p.bytes, 10);
+    image[10] = number;
+    number = image[9];
+    image[9] = 5;
+    p = futtockfig_page(image, r.words, page, 0);
+    expect("code of a page, a wrong degree,", 0, p.code, FUTTOCKFIG_BAD_RECORD);
+    expect("bytes of a page, a wrong degree,", 0, p.bytes, 9);
     image[9] = number;
-    number = image[73];
-    image[73] = image[72];
+    number = image[77];
+    image[77] = image[76];
     p = futtockfig_page(image, r.words, page, 0);
     expect("code of a page, an incidence twice,", 0, p.code, FUTTOCKFIG_BAD_INCIDENCE);
-    expect("bytes of a page, an incidence twice,", 0, p.bytes, 73);
-    image[73] = number;
+    expect("bytes of a page, an incidence twice,", 0, p.bytes, 77);
+    image[77] = number;
     p = futtockfig_page(image, r.words, page, ROWS - 1);
     expect("code of a page, one byte short,", 0, p.code, FUTTOCKFIG_SHORT_PAGE);
     expect("bytes of a page, one byte short,", 0, p.bytes, 0);
@@ -157,6 +180,17 @@ int main(void) {
     expect("bytes of a page", 0, p.bytes, ROWS);
     for (size_t i = 0; i < ROWS; i++) expect("page byte", i, page[i], (uint8_t)rows_of_seven[i]);
     expect("page byte beyond", ROWS, page[ROWS], '#');
+    p = futtockfig_page(old_seven, sizeof old_seven / 4, page, sizeof page);
+    expect("bytes of the page of old words", 0, p.bytes, ROWS);
+    for (size_t i = 0; i < ROWS; i++) expect("page byte of old words", i, page[i], (uint8_t)rows_of_seven[i]);
+
+    /* Old words start the same graph, and what is saved is new. */
+    r = futtockfig_run(
+        old_seven, sizeof old_seven / 4, rows, 1, calls, 0, vertices, 8 * VERTICES, edges, 12 * EDGES, journal, 12 * CHANGES, answers, answers_len,
+        image, FUTTOCKFIG_IMAGE_WORDS(VERTICES, EDGES));
+    expect("code, old words", 0, r.code, FUTTOCKFIG_OK);
+    expect("words, old words", 0, r.words, seven_len);
+    for (size_t i = 0; i < seven_len; i++) expect("image word, old words", i, image[i], seven[i]);
 
     if (!wrong) printf("seven: %d calls and a page through the C header, as worked out\n", CALLS);
     return wrong;

@@ -22,7 +22,7 @@
 //!     image: &mut image,
 //! };
 //! let done = run(&EMPTY, &[0], &calls.concat(), lent).unwrap();
-//! assert_eq!(done.image, [1, 0, 6, 9, 9, 9, 1, 0, 7]);
+//! assert_eq!(done.image, [1, 0, 6, 10, 10, 10, 1, 0, 7, 0]);
 //! assert!(answers(done.answers).eq([Ok(1), Ok(7)]));
 //! ```
 
@@ -36,7 +36,7 @@ use core::ops::Range;
 use raw::{futtockfig_page, futtockfig_part, futtockfig_run};
 
 /// The version of what a caller sees, that of `include/futtockfig.h`.
-pub const VERSION: u32 = 8;
+pub const VERSION: u32 = 9;
 
 /// Kind, a, b, c, d.
 pub type Call = [u32; 5];
@@ -54,9 +54,10 @@ pub const CHANGE_WORDS: usize = 12;
 /// Bytes of a row of a page.
 pub const PAGE_ROW: usize = 25;
 
-/// Words of an image with this many vertices and edges. With the capacities: what [`Lent::image`] needs.
+/// Words of an image with this many vertices and edges, as one is written. With the capacities: what [`Lent::image`]
+/// needs.
 pub const fn image_words(vertices: usize, edges: usize) -> usize {
-    6 + 3 * vertices + 8 * edges
+    6 + 4 * vertices + 8 * edges
 }
 
 /// The kinds of call. The words that each uses, and its answer, are in `include/futtockfig.h`.
@@ -152,7 +153,8 @@ pub enum Refused {
     Image,
     /// 107: too few bytes for the page.
     Page,
-    /// 108: a vertex or edge record of the start, or of what is to be a page, is bad; the offset of the first bad word, from 0.
+    /// 108: a vertex or edge record of the start, or of what is to be a page, is bad, its degree included; the offset of
+    /// the first bad word, from 0. Degrees come after all other words of records.
     Record(usize),
     /// 109: the records are good and a list is bad; the offset of the first bad word, from 0.
     Incidence(usize),
@@ -222,7 +224,8 @@ impl fmt::Display for Refused {
 
 /// Runs a list of calls from the first to the last.
 ///
-/// `start` is the image to start from ([`EMPTY`] for no vertices), `rows` the type rows, `calls` five words a call.
+/// `start` is the image to start from ([`EMPTY`] for no vertices), `rows` the type rows, `calls` five words a call. It
+/// may be an old image, whose vertex records have three words; the image that is written has four.
 /// A call that is refused answers its code and 0 and changes nothing, and the list goes on.
 pub fn run<'a>(start: &[u32], rows: &[u64], calls: &[u32], lent: Lent<'a>) -> Result<Done<'a>, Refused> {
     let Lent { vertices, edges, journal, answers, image } = lent;
@@ -254,7 +257,7 @@ pub fn run<'a>(start: &[u32], rows: &[u64], calls: &[u32], lent: Lent<'a>) -> Re
     }
 }
 
-/// The answers one by one: the number of an accepted call, or the code (1 to 16) of a refused one.
+/// The answers one by one: the number of an accepted call, or the code (1 to 17) of a refused one.
 pub fn answers(words: &[u32]) -> impl Iterator<Item = Result<u32, u32>> + '_ {
     words.chunks_exact(2).map(|answer| match answer[0] {
         0 => Ok(answer[1]),
@@ -265,16 +268,17 @@ pub fn answers(words: &[u32]) -> impl Iterator<Item = Result<u32, u32>> + '_ {
 /// A part of an image.
 #[derive(Clone, Copy, Debug, PartialEq, Eq)]
 pub enum Part {
-    /// Three words a vertex: number, type, value.
+    /// Four words a vertex: number, type, value, degree, which is the length of its list; in an old image three, without
+    /// the degree.
     Vertices = 1,
     /// Six words an edge: number, alpha, omega, type, reading kind, decimetres.
     Edges = 2,
-    /// The list of each vertex, one after another.
+    /// The list of each vertex, one after another, each as long as its degree.
     Lists = 3,
 }
 
-/// Where that part lies in the words, also where it is empty; `None` where the header (length, offsets, total) is not
-/// sound.
+/// Where that part lies in the words of an image, new or old, also where it is empty; `None` where the header (length,
+/// offsets, total) is not sound.
 pub fn span(words: &[u32], which: Part) -> Option<Range<usize>> {
     // SAFETY: pointer and length are those of a slice.
     let span = unsafe { futtockfig_part(words.as_ptr(), words.len(), which as u32) };
@@ -289,13 +293,13 @@ pub fn part(words: &[u32], which: Part) -> &[u32] {
 
 /// The edges of an image on paper: one row of [`PAGE_ROW`] bytes each, in Eseq order, at the front of `page`.
 ///
-/// The words may be an image with up to 1,000 vertices, 4,000 edges and 64 types; all others are refused with
-/// [`Refused::Start`], [`Refused::Record`] or [`Refused::Incidence`] before the length of `page` is looked at, as a start
-/// is in a run with such capacities and types. The result is the rows; bytes behind them stay. Each ends with a newline
-/// and nothing is added behind the last: a page is no C string.
+/// The words may be an image, new or old, with up to 1,000 vertices, 4,000 edges and 64 types; all others are refused
+/// with [`Refused::Start`], [`Refused::Record`] or [`Refused::Incidence`] before the length of `page` is looked at, as a
+/// start is in a run with such capacities and types. The result is the rows; bytes behind them stay. Each ends with a
+/// newline and nothing is added behind the last: a page is no C string.
 ///
 /// ```
-/// let words = [2, 1, 6, 12, 18, 20, 1, 0, 7, 2, 0, 9, 1, 1, 2, 0, 2, 450, 2, 3];
+/// let words = [2, 1, 6, 14, 20, 22, 1, 0, 7, 1, 2, 0, 9, 1, 1, 1, 2, 0, 2, 450, 2, 3];
 /// assert_eq!(futtockfig::page(&words, &mut [0; 25]), Ok(b"   1    1    2  0    450\n".as_slice()));
 /// ```
 pub fn page<'a>(words: &[u32], page: &'a mut [u8]) -> Result<&'a [u8], Refused> {

@@ -23,17 +23,64 @@ fn seven() -> Vec<u32> {
 #[test]
 fn seven_and_its_parts() {
     let image = seven();
-    assert_eq!(part(&image, Part::Vertices), [1, 0, 0, 2, 0, 0, 3, 0, 0, 4, 0, 0]);
+    assert_eq!(image.len(), 78);
+    assert_eq!(part(&image, Part::Vertices), [1, 0, 0, 6, 2, 0, 0, 4, 3, 0, 0, 0, 4, 0, 0, 4]);
     assert_eq!(part(&image, Part::Edges).len(), 42);
     assert_eq!(part(&image, Part::Lists), [2, 3, 4, 6, 9, 11, 5, 7, 8, 13, 10, 12, 14, 15]);
     // The part lies in the caller's own words.
-    assert_eq!(part(&image, Part::Lists).as_ptr(), image[60..].as_ptr());
+    assert_eq!(part(&image, Part::Lists).as_ptr(), image[64..].as_ptr());
     // An empty part lies where the header says; without a sound header there is none.
     assert_eq!([Part::Vertices, Part::Edges, Part::Lists].map(|which| span(&EMPTY, which)), [Some(6..6), Some(6..6), Some(6..6)]);
+    assert_eq!(span(&[1, 0, 6, 10, 10, 10, 1, 0, 7, 0], Part::Edges), Some(10..10));
     assert_eq!(span(&[1, 0, 6, 9, 9, 9, 1, 0, 7], Part::Edges), Some(9..9));
     assert_eq!(span(&image[1..], Part::Vertices), None);
     assert!(part(&image[1..], Part::Vertices).is_empty());
     assert!(part(&[], Part::Vertices).is_empty());
+}
+
+/// The image without its degrees, as it was up to version 8.
+fn old_words(image: &[u32]) -> Vec<u32> {
+    let (v, e) = (image[0], image[1]);
+    let header = [v, e, 6, 6 + 3 * v, 6 + 3 * v + 6 * e, 6 + 3 * v + 8 * e];
+    let records = part(image, Part::Vertices).chunks(4).flat_map(|record| &record[..3]);
+    header.iter().chain(records).chain(part(image, Part::Edges)).chain(part(image, Part::Lists)).copied().collect()
+}
+
+#[test]
+fn old_and_new_words() {
+    let (new, old) = (seven(), old_words(&seven()));
+    assert_eq!(old.len(), 74);
+    // Both start the same graph, which is saved with its degrees.
+    for start in [&new, &old] {
+        with(&[], start, |done| assert_eq!(done.unwrap().image, new));
+    }
+    let parts = |words, which| part(words, which).to_vec();
+    assert_eq!(parts(&old, Part::Vertices), [1, 0, 0, 2, 0, 0, 3, 0, 0, 4, 0, 0]);
+    assert_eq!((parts(&old, Part::Edges), parts(&old, Part::Lists)), (parts(&new, Part::Edges), parts(&new, Part::Lists)));
+    assert_eq!(span(&old, Part::Lists), Some(60..74));
+    let rows = |words: &[u32]| page(words, &mut [0; 7 * PAGE_ROW]).map(<[u8]>::to_vec);
+    assert_eq!(rows(&old), rows(&new));
+    // The edge offset of one record, and all else of the other.
+    for (words, offset) in [(&new, old[3]), (&old, new[3])] {
+        let mut mixed = words.clone();
+        mixed[3] = offset;
+        assert_eq!(span(&mixed, Part::Vertices), None);
+        with(&[], &mixed, |done| assert_eq!(done, Err(Refused::Start)));
+    }
+}
+
+#[test]
+fn a_list_begins_after_the_degrees_before_it() {
+    let image = seven();
+    let mut lists = part(&image, Part::Lists);
+    let mut found = Vec::new();
+    for record in part(&image, Part::Vertices).chunks(4) {
+        let (list, rest) = lists.split_at(record[3] as usize);
+        found.push(list);
+        lists = rest;
+    }
+    assert_eq!(found, [&[2, 3, 4, 6, 9, 11][..], &[5, 7, 8, 13], &[], &[10, 12, 14, 15]]);
+    assert!(lists.is_empty());
 }
 
 #[test]
@@ -64,12 +111,13 @@ fn lists_refused() {
         start[at] = word;
         with(&[], &start, |done| done.unwrap_err())
     };
-    // The second of two equal numbers; an end that is no vertex; a word twice in a list.
-    assert_eq!(damaged(9, 1), Refused::Record(9));
-    assert_eq!(damaged(20, 5), Refused::Record(20));
-    assert_eq!(damaged(61, 2), Refused::Incidence(61));
-    assert_eq!(damaged(61, 2).to_string(), "refused, code 109: a list is bad at word 61");
-    assert_eq!((damaged(9, 1).code(), damaged(9, 1).offset(), damaged(0, 9).offset()), (108, Some(9), None));
+    // The second of two equal numbers; an end that is no vertex; a degree; a word twice in a list.
+    assert_eq!(damaged(10, 1), Refused::Record(10));
+    assert_eq!(damaged(24, 5), Refused::Record(24));
+    assert_eq!(damaged(9, 5), Refused::Record(9));
+    assert_eq!(damaged(65, 2), Refused::Incidence(65));
+    assert_eq!(damaged(65, 2).to_string(), "refused, code 109: a list is bad at word 65");
+    assert_eq!((damaged(10, 1).code(), damaged(10, 1).offset(), damaged(0, 9).offset()), (108, Some(10), None));
     with(&[], &EMPTY, |done| assert_eq!(done, Ok(Done { answers: &[], image: &EMPTY })));
 }
 
@@ -105,7 +153,7 @@ fn pages() {
     damaged[9] = 1;
     assert_eq!(page(&damaged, &mut []), Err(Refused::Record(9)));
     damaged[9] = image[9];
-    damaged[73] = damaged[72];
-    assert_eq!(page(&damaged, &mut []), Err(Refused::Incidence(73)));
+    damaged[77] = damaged[76];
+    assert_eq!(page(&damaged, &mut []), Err(Refused::Incidence(77)));
     assert_eq!(page(&EMPTY, &mut []), Ok([].as_slice()));
 }

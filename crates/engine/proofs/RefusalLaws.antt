@@ -1,5 +1,5 @@
 -- The code of a list and the number beside it, by which test stops it.
-use Prim.Native.Nat.{ℕ, suc, _+_, _*_, _/_, _%_, _≤_}
+use Prim.Native.Nat.{ℕ, suc, _*_, _/_, _%_, _≤_}
 use mathlib.Core.Path.{_≡_, refl, sym, ap, _∙_}
 use mathlib.Core.Bool.{Bool, true, false, not, _&&_}
 use mathlib.Core.List.{List}
@@ -132,11 +132,11 @@ module _ (l : Lent) (start rows : List ℕ) (calls vertices edges journal answer
           (c, b .1 ∙ λ i. numberBeside (c i) (o i))
 
       module _ (k : codeOf v ≡ 0) where
-        last : listRefusal l ≡ (ltb image (6 + 3 * (vertices / 8) + 8 * (edges / 12)) ⇒ 106 else 0)
+        last : listRefusal l ≡ (ltb image (imageLength (vertices / 8) (edges / 12)) ⇒ 106 else 0)
         last = rest ∙ sound-start v _ k ∙ rw (h .image-is, h .vertices-are, h .edges-are) refl
 
-        pub image-refused : suc image ≤ 6 + 3 * (vertices / 8) + 8 * (edges / 12) → Refuses l 106 0
-        image-refused f = alone 106 (sym (rw (last, lt-ltb image (6 + 3 * (vertices / 8) + 8 * (edges / 12)) f) refl)) (λ o. refl)
+        pub image-refused : suc image ≤ imageLength (vertices / 8) (edges / 12) → Refuses l 106 0
+        image-refused f = alone 106 (sym (rw (last, lt-ltb image (imageLength (vertices / 8) (edges / 12)) f) refl)) (λ o. refl)
 
-        pub none-refused : 6 + 3 * (vertices / 8) + 8 * (edges / 12) ≤ image → Refuses l 0 0
-        none-refused f = alone 0 (sym (rw (last, le-ltb image (6 + 3 * (vertices / 8) + 8 * (edges / 12)) f) refl)) (λ o. refl)
+        pub none-refused : imageLength (vertices / 8) (edges / 12) ≤ image → Refuses l 0 0
+        none-refused f = alone 0 (sym (rw (last, le-ltb image (imageLength (vertices / 8) (edges / 12)) f) refl)) (λ o. refl)

@@ -1,6 +1,8 @@
 // The refusals of a list: the first code in turn that applies, 0 where none does. Nothing is written.
 use image::check;
 use image::code_of;
+use image::layout::VERTEX;
+use image::layout::length;
 use image::offset_of;
 use types::RowsVerdict;
 use types::check_rows;
@@ -87,7 +89,7 @@ pub fn refusal(
             number: offset_of(found),
         };
     }
-    if image < 6 + 3 * v + 8 * e {
+    if image < length(VERTEX, v, e) {
         return Refused {
             code: 106,
             number: 0,

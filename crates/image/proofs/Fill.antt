@@ -6,8 +6,8 @@ use mathlib.Core.Bool.{Bool, true, false, not, _&&_}
 use mathlib.Core.List.{List, [], _∷_, _++_}
 use native.Mathlib.Omega.{arith}
 use lib.Dec.{leb, ltb}
-use lib.ListN.{length, getD, take, drop, length-drop, length-append}
-use lib.Seq.{drop-at, take-append-le, take-append-add, take-add, length-take-le}
+use lib.ListN.{length, getD, take, drop, length-drop, length-append, take-append-drop}
+use lib.Seq.{drop-at, take-append-le, take-append-add, length-take-le}
 use borrow.Author.Tests.{ne-eqb, lt-ltb, le-ltb, le-leb, leb-true}
 use Rattle.lists.specs.Choice.{_⇒_else_, _==_, bit, within}
 use Rattle.lists.specs.Lists.{has, count}
@@ -16,14 +16,15 @@ use Rattle.lists.proofs.Bools.{and-true, and-both}
 use Rattle.lists.proofs.Sums.{has-count, has-not}
 use Rattle.graph.specs.Graph.{Edge, wd, isReading, readingOf}
 use Rattle.graph.specs.WellFormed.{wordsAt}
-use Rattle.image.specs.Image.{vertexSize}
+use Rattle.image.specs.Image.{degreeWord}
 use Rattle.image.specs.Checks.{goodVertex, goodEdge, vertexWalk, edgeWalk, goodList, listWalk}
 use Rattle.image.specs.declared.Verdict.{Verdict}
 use Rattle.image.specs.declared.Verdict.the-variants.{Sound, BadRecord, BadIncidence}
+use Rattle.image.proofs.Sizes.{Size, degree-length}
 use Rattle.image.proofs.Counts.{rem-count, rem-length}
 use Rattle.image.proofs.Ends.{ends}
 use Rattle.image.proofs.Verdicts.{VertexOk, vertex-ok, EdgeOk, edge-ok}
-use Rattle.image.proofs.SoundLoads.{good-alike, reading-known, cut3, cut6}
+use Rattle.image.proofs.SoundLoads.{good-alike, reading-known, cut-vertex, cut6}
 use Rattle.image.proofs.SavedSound.{kind-le, alike-good}
 use Rattle.image.proofs.Offsets.{sound-record, sound-incidence, record-bad, list-bad, vertexAt, vertex-range, edgeAt, edge-range, list-from}
 
@@ -70,45 +71,60 @@ pub record Filled (walk : List ℕ → Verdict) (n j : ℕ) (ws : List ℕ) : Ty
   pub sound : walk words ≡ Sound
   pub begin : take j words ≡ take j ws
 
+-- the same words in front
+begin-after : (h xs ys : List ℕ) (n k : ℕ) → k ≡ length h + n → take n xs ≡ take n ys → take k (h ++ xs) ≡ take k (h ++ ys)
+begin-after h xs ys n k e q = rw e (take-append-add h xs n ∙ ap (λ (l : List ℕ). h ++ l) q ∙ sym (take-append-add h ys n))
+
 -- the first d words, and some of the rest
 after : (d j i : ℕ) (ws us : List ℕ) → length (take d ws) ≡ d → j ≡ d + i → take i us ≡ take i (drop d ws) → take j (take d ws ++ us) ≡ take j ws
-after d j i ws us t e h =
-    let f : j ≡ length (take d ws) + i = omega (arith, t, e) in
-    ap (λ (z : ℕ). take z (take d ws ++ us)) f ∙ take-append-add (take d ws) us i ∙ ap (λ (l : List ℕ). take d ws ++ l) h ∙ sym (take-add d i ws) ∙ ap (λ (z : ℕ). take z ws) (sym e)
+after d j i ws us t e h = begin-after (take d ws) us (drop d ws) i j (omega (arith, t, e)) h ∙ ap (take j) (take-append-drop d ws)
 
 -- ---- vertex records
 
-module _ (cap types : ℕ) (some : 1 ≤ types) where
+module _ (size : ℕ) (z : Size size) (cap types : ℕ) (some : 1 ≤ types) where
   abbrev vwalk : List ℕ → ℕ → ℕ → List ℕ → Verdict
-  vwalk seen k at us = vertexWalk vertexSize cap types seen k us at
+  vwalk seen k at us = vertexWalk size cap types seen k us at
 
-  vertex-cons : (seen : List ℕ) (k at n t x : ℕ) (us : List ℕ) → VertexOk cap types (not (has n seen)) n t x → vwalk (n ∷ seen) k (at + 3) us ≡ Sound →
-      vwalk seen (suc k) at (n ∷ t ∷ x ∷ us) ≡ Sound
+  -- a record and what is behind it
+  abbrev row : ℕ → ℕ → ℕ → ℕ → List ℕ → List ℕ
+  row n t x d us = n ∷ t ∷ x ∷ (degreeWord size d ++ us)
+
+  row-length : (n t x d : ℕ) (us : List ℕ) → length (row n t x d us) ≡ size + length us
+  row-length n t x d us = omega (arith, length-append (degreeWord size d) us, degree-length size z d)
+
+  vertex-cons : (seen : List ℕ) (k at n t x d : ℕ) (us : List ℕ) → VertexOk cap types (not (has n seen)) n t x → vwalk (n ∷ seen) k (at + size) us ≡ Sound →
+      vwalk seen (suc k) at (row n t x d us) ≡ Sound
   unfolding vertexWalk goodVertex
-  vertex-cons seen k at n t x us o s = rw (o .number, o .new, o .type, o .value) s
+  vertex-cons seen k at n t x d us o s =
+      rw (o .number, o .new, o .type, o .value, drop-at (n ∷ t ∷ x ∷ degreeWord size d) us size (omega (arith, degree-length size z d))) s
 
-  pub vertex-fill : (seen : List ℕ) (k at : ℕ) (ws : List ℕ) → length seen + k ≤ cap → Filled (vwalk seen k at) (3 * k) 0 ws
+  pub vertex-fill : (seen : List ℕ) (k at : ℕ) (ws : List ℕ) → length seen + k ≤ cap → Filled (vwalk seen k at) (size * k) 0 ws
   unfolding vertexWalk
-  vertex-fill seen zero at ws h = record { words = []; long = refl; sound = refl; begin = refl }
+  vertex-fill seen zero at ws h = record { words = []; long = omega arith; sound = refl; begin = refl }
   vertex-fill seen (suc k) at ws h =
       let f = free cap seen (omega arith) in
-      let r = vertex-fill (f .n ∷ seen) k (at + 3) ws (omega arith) in
+      let r = vertex-fill (f .n ∷ seen) k (at + size) ws (omega arith) in
       record {
-        words = f .n ∷ 0 ∷ 0 ∷ r .words;
-        long = omega (arith, r .long);
-        sound = vertex-cons seen k at (f .n) 0 0 (r .words) (record { number = f .number; new = ap not (f .new); type = lt-ltb 0 types (omega arith); value = refl }) (r .sound);
+        words = row (f .n) 0 0 0 (r .words);
+        long = omega (arith, r .long, row-length (f .n) 0 0 0 (r .words));
+        sound = vertex-cons seen k at (f .n) 0 0 0 (r .words) (record { number = f .number; new = ap not (f .new); type = lt-ltb 0 types (omega arith); value = refl }) (r .sound);
         begin = refl;
       }
 
   -- the first record, and the rest filled up
   vertex-then : (seen : List ℕ) (k at j n t x : ℕ) (ws : List ℕ) → length seen + suc k ≤ cap → VertexOk cap types (not (has n seen)) n t x →
-      ((us : List ℕ) → take j (n ∷ t ∷ x ∷ us) ≡ take j ws) → Filled (vwalk seen (suc k) at) (3 * suc k) j ws
+      ((us : List ℕ) → take j (n ∷ t ∷ x ∷ us) ≡ take j ws) → Filled (vwalk seen (suc k) at) (size * suc k) j ws
   vertex-then seen k at j n t x ws h o q =
-      let r = vertex-fill (n ∷ seen) k (at + 3) ws (omega arith) in
-      record { words = n ∷ t ∷ x ∷ r .words; long = omega (arith, r .long); sound = vertex-cons seen k at n t x (r .words) o (r .sound); begin = q (r .words) }
+      let r = vertex-fill (n ∷ seen) k (at + size) ws (omega arith) in
+      record {
+        words = row n t x 0 (r .words);
+        long = omega (arith, r .long, row-length n t x 0 (r .words));
+        sound = vertex-cons seen k at n t x 0 (r .words) o (r .sound);
+        begin = q (degreeWord size 0 ++ r .words);
+      }
 
-  vertex-here : (seen : List ℕ) (k at j : ℕ) (ws : List ℕ) → length ws ≡ 3 * suc k → length seen + suc k ≤ cap → j ≡ vertexAt cap types seen ws → j < 3 →
-      Filled (vwalk seen (suc k) at) (3 * suc k) j ws
+  vertex-here : (seen : List ℕ) (k at j : ℕ) (ws : List ℕ) → length ws ≡ size * suc k → length seen + suc k ≤ cap → j ≡ vertexAt cap types seen ws → j < 3 →
+      Filled (vwalk seen (suc k) at) (size * suc k) j ws
   unfolding goodVertex
   vertex-here seen k at j ws e h q l = go (within 1 cap n) (not (has n seen)) (ltb t types) (ltb x (2 ^ 32)) refl refl refl refl q
     where
@@ -121,45 +137,48 @@ module _ (cap types : ℕ) (some : 1 ≤ types) where
       x : ℕ
       x = getD ws 2 0
 
-      cut : n ∷ t ∷ x ∷ drop 3 ws ≡ ws
-      cut = cut3 ws (3 * k) (omega arith)
+      cut : row n t x (getD ws 3 0) (drop size ws) ≡ ws
+      cut = cut-vertex size z ws (size * k) (omega arith)
 
-      go : (p y z u : Bool) → within 1 cap n ≡ p → not (has n seen) ≡ y → ltb t types ≡ z → ltb x (2 ^ 32) ≡ u → j ≡ (not (p && y) ⇒ 0 else not z ⇒ 1 else not u ⇒ 2 else 3) →
-          Filled (vwalk seen (suc k) at) (3 * suc k) j ws
-      go true true true true a b c d q = absurd (omega arith)
-      go true true true false a b c d q =
-          vertex-then seen k at j n t 0 ws h (record { number = a; new = b; type = c; value = refl }) (λ us. rw q (ap (take 2) cut))
-      go true true false u a b c d q =
-          vertex-then seen k at j n 0 0 ws h (record { number = a; new = b; type = lt-ltb 0 types (omega arith); value = refl }) (λ us. rw q (ap (take 1) cut))
-      go true false z u a b c d q = subst (λ (i : ℕ). Filled (vwalk seen (suc k) at) (3 * suc k) i ws) (sym q) (vertex-fill seen (suc k) at ws h)
-      go false y z u a b c d q = subst (λ (i : ℕ). Filled (vwalk seen (suc k) at) (3 * suc k) i ws) (sym q) (vertex-fill seen (suc k) at ws h)
+      go : (p y c u : Bool) → within 1 cap n ≡ p → not (has n seen) ≡ y → ltb t types ≡ c → ltb x (2 ^ 32) ≡ u → j ≡ (not (p && y) ⇒ 0 else not c ⇒ 1 else not u ⇒ 2 else 3) →
+          Filled (vwalk seen (suc k) at) (size * suc k) j ws
+      go true true true true e1 e2 e3 e4 q = absurd (omega arith)
+      go true true true false e1 e2 e3 e4 q =
+          vertex-then seen k at j n t 0 ws h (record { number = e1; new = e2; type = e3; value = refl }) (λ us. rw q (ap (take 2) cut))
+      go true true false u e1 e2 e3 e4 q =
+          vertex-then seen k at j n 0 0 ws h (record { number = e1; new = e2; type = lt-ltb 0 types (omega arith); value = refl }) (λ us. rw q (ap (take 1) cut))
+      go true false c u e1 e2 e3 e4 q = subst (λ (i : ℕ). Filled (vwalk seen (suc k) at) (size * suc k) i ws) (sym q) (vertex-fill seen (suc k) at ws h)
+      go false y c u e1 e2 e3 e4 q = subst (λ (i : ℕ). Filled (vwalk seen (suc k) at) (size * suc k) i ws) (sym q) (vertex-fill seen (suc k) at ws h)
 
-  vertex-more : (seen : List ℕ) (k at n t x : ℕ) (ws : List ℕ) {i j : ℕ} → VertexOk cap types (not (has n seen)) n t x → Filled (vwalk (n ∷ seen) k (at + 3)) (3 * k) i (drop 3 ws) →
-      j ≡ suc (suc (suc i)) → n ∷ t ∷ x ∷ drop 3 ws ≡ ws → Filled (vwalk seen (suc k) at) (3 * suc k) j ws
-  vertex-more seen k at n t x ws {i} {j} o r e cut =
+  -- the first record as it is, and the rest filled up
+  vertex-more : (seen : List ℕ) (k at n t x d : ℕ) (ws : List ℕ) {i j : ℕ} → VertexOk cap types (not (has n seen)) n t x →
+      Filled (vwalk (n ∷ seen) k (at + size)) (size * k) i (drop size ws) → j ≡ size + i → row n t x d (drop size ws) ≡ ws → Filled (vwalk seen (suc k) at) (size * suc k) j ws
+  vertex-more seen k at n t x d ws {i} {j} o r e cut =
       record {
-        words = n ∷ t ∷ x ∷ r .words;
-        long = omega (arith, r .long);
-        sound = vertex-cons seen k at n t x (r .words) o (r .sound);
-        begin = rw e (ap (λ (z : List ℕ). n ∷ t ∷ x ∷ z) (r .begin) ∙ ap (take (suc (suc (suc i)))) cut);
+        words = row n t x d (r .words);
+        long = omega (arith, r .long, row-length n t x d (r .words));
+        sound = vertex-cons seen k at n t x d (r .words) o (r .sound);
+        begin =
+            begin-after (n ∷ t ∷ x ∷ degreeWord size d) (r .words) (drop size ws) i j (omega (arith, e, degree-length size z d)) (r .begin)
+            ∙ ap (take j) cut;
       }
 
-  pub vertex-fit : (seen : List ℕ) (k : ℕ) (ws : List ℕ) (at m j : ℕ) → vertexWalk vertexSize cap types seen k ws at ≡ BadRecord m → at + j ≡ m → length ws ≡ 3 * k →
-      length seen + k ≤ cap → Filled (vwalk seen k at) (3 * k) j ws
+  pub vertex-fit : (seen : List ℕ) (k : ℕ) (ws : List ℕ) (at m j : ℕ) → vertexWalk size cap types seen k ws at ≡ BadRecord m → at + j ≡ m → length ws ≡ size * k →
+      length seen + k ≤ cap → Filled (vwalk seen k at) (size * k) j ws
   unfolding vertexWalk
   vertex-fit seen zero ws at m j h q e l = absurd (sound-record h)
   vertex-fit seen (suc k) ws at m j h q e l =
       let n = getD ws 0 0 in
       let t = getD ws 1 0 in
       let x = getD ws 2 0 in
-      elim (record-bad 3 at (vertexAt cap types seen ws) m (vertexWalk vertexSize cap types (n ∷ seen) k (drop 3 ws) (at + 3)) h) [
+      elim (record-bad 3 at (vertexAt cap types seen ws) m (vertexWalk size cap types (n ∷ seen) k (drop size ws) (at + size)) h) [
         | inl y ↦ vertex-here seen k at j ws e l (omega (arith, q, y .1)) (omega (arith, q, y .0, y .1))
         | inr y ↦
             let o = vertex-ok cap types (not (has n seen)) n t x (y .0) in
-            let g = vertex-range cap types (n ∷ seen) k (drop 3 ws) (at + 3) m (y .1) .0 in
-            let i : j ≡ suc (suc (suc (j - 3))) = omega (arith, q, g) in
-            let r = vertex-fit (n ∷ seen) k (drop 3 ws) (at + 3) m (j - 3) (y .1) (omega (arith, q, g)) (omega (arith, e, length-drop 3 ws)) (omega (arith, l)) in
-            vertex-more seen k at n t x ws o r i (cut3 ws (3 * k) (omega (arith, e)))
+            let g = vertex-range size z cap types (n ∷ seen) k (drop size ws) (at + size) m (y .1) .0 in
+            let i : j ≡ size + (j - size) = omega (arith, q, g) in
+            let r = vertex-fit (n ∷ seen) k (drop size ws) (at + size) m (j - size) (y .1) (omega (arith, q, g)) (omega (arith, e, length-drop size ws)) (omega (arith, l)) in
+            vertex-more seen k at n t x (getD ws 3 0) ws o r i (cut-vertex size z ws (size * k) (omega (arith, e)))
       ]
 
 -- ---- edge records

@@ -1,53 +1,50 @@
--- The offset of a verdict: the part it stands in, and that no words that load begin with the words up to it.
+-- The offset of a verdict: the part it stands in, and that nothing that loads has the words read before it and this one.
 use Prim.Native.Nat.{ℕ, zero, suc, _+_, _*_, _≤_, _<_}
-use mathlib.Core.Path.{_≡_, refl, sym, ap, _∙_}
+use mathlib.Core.Path.{_≡_, refl, sym, ap, ap₂, _∙_, subst}
 use mathlib.Core.Logic.{_⊎_, inl, inr}
 use mathlib.Core.Bool.{Bool, true, false, not, _&&_}
 use mathlib.Core.List.{List, [], _∷_}
 use native.Mathlib.Omega.{arith}
 use lib.Dec.{ltb}
 use lib.ListN.{length, getD, take, drop, length-take, length-drop, List·getD-eq-default}
-use lib.Seq.{getD-take, getD-drop, take-take, take-add, drop-at, length-take-le}
+use lib.Seq.{getD-take, getD-drop, ext-getD}
 use borrow.Author.Tests.{ltb-true, ltb-false}
 use Rattle.lists.specs.Choice.{_⇒_else_}
 use Rattle.lists.specs.Lists.{distinct}
 use Rattle.graph.specs.Graph.{Edge}
 use Rattle.graph.specs.WellFormed.{Bounds, wordsAt}
-use Rattle.image.specs.Image.{vertexSize, vertexOffset, edgeOffset, incidenceOffset, vertexCount, edgeCount, soundHeader, vertexPart, edgePart, incidencePart, edgesFrom, loadable}
-use Rattle.image.specs.Checks.{vertexWalk, edgeWalk, goodList, listWalk, soundCounts, andThen, numbersOf, verdict}
+use Rattle.image.specs.Image.{edgeSize, vertexOffset, edgeOffset, incidenceOffset, lengthAs, vertexCount, edgeCount, recordSize, soundHeader, vertexPart, edgePart, incidencePart, edgesFrom, loadable}
+use Rattle.image.specs.Checks.{vertexWalk, numbersIn, edgeWalk, degreeWalk, goodList, listWalk, soundCounts, numbersOf, edgesOf, vertexVerdict, edgeVerdict, degreeVerdict, listVerdict, partsVerdict, verdict}
+use Rattle.image.specs.FirstBad.{passOf, Begins}
 use Rattle.image.specs.declared.Verdict.{Verdict}
 use Rattle.image.specs.declared.Verdict.the-variants.{Sound, BadHeader, BadRecord, BadIncidence}
+use Rattle.image.proofs.Sizes.{size-range, row-in, row-back, record-size, size-by}
 use Rattle.image.proofs.Ends.{ends, ends-nil, ends-two}
 use Rattle.image.proofs.Headers.{sound-length}
 use Rattle.image.proofs.VertexPass.{walk-distinct}
 use Rattle.image.proofs.EdgePass.{edge-step}
 use Rattle.image.proofs.SoundLoads.{Sounds, sounds}
 use Rattle.image.proofs.SavedSound.{loads-sound}
-use Rattle.image.proofs.Offsets.{sound-record, sound-incidence, header-record, header-incidence, then-record, then-incidence, list-bad, Upto, vertex-range, vertex-no-incidence, vertex-prefix, edge-range, edge-no-incidence, edge-prefix, list-from, list-no-bad-record, list-prefix}
+use Rattle.image.proofs.Offsets.{sound-record, sound-incidence, header-record, header-incidence, then-record, then-incidence, list-bad, row-drop, row-first, Place, vertex-range, vertex-no-incidence, vertex-prefix, edge-range, edge-no-incidence, edge-prefix, degree-wrong, degrees-right, degree-no-incidence, list-from, list-no-bad-record, list-prefix}
+use Rattle.image.proofs.ReadOrder.{header-plain, is-degree, read-plain, read-degree, read-list, read-row, read-edge}
 
 -- ---- the walk that finds the bad word
 
 module _ (b : Bounds) (ws : List ℕ) where
-  abbrev pub first : Verdict
-  first = vertexWalk vertexSize (b .vertices) (b .types) [] (vertexCount ws) (vertexPart ws) vertexOffset
-
-  abbrev pub second : Verdict
-  second = edgeWalk (b .edges) (b .types) (numbersOf ws) [] (edgeCount ws) (edgePart ws) (edgeOffset (vertexCount ws))
-
-  abbrev pub third : Verdict
-  third = listWalk (edgesFrom (edgeCount ws) (edgePart ws)) (numbersOf ws) (incidencePart ws) (incidenceOffset (vertexCount ws) (edgeCount ws))
+  abbrev size : ℕ
+  size = recordSize ws
 
   pub record Headed (v : Verdict) : Type 0 where
     pub header : soundHeader ws ≡ true
     pub counts : soundCounts (b .vertices) (b .edges) (vertexCount ws) (edgeCount ws) ≡ true
-    pub parts : andThen first (andThen second third) ≡ v
+    pub parts : partsVerdict (recordSize ws) b ws ≡ v
 
   headed : (v : Verdict) → (BadHeader ≡ v → ⊥) → verdict b ws ≡ v → Headed v
   unfolding verdict
   headed v n h = go (soundHeader ws) (soundCounts (b .vertices) (b .edges) (vertexCount ws) (edgeCount ws)) refl refl h
     where
       go : (x y : Bool) → soundHeader ws ≡ x → soundCounts (b .vertices) (b .edges) (vertexCount ws) (edgeCount ws) ≡ y →
-          (not (x && y) ⇒ BadHeader else andThen first (andThen second third)) ≡ v → Headed v
+          (not (x && y) ⇒ BadHeader else partsVerdict (recordSize ws) b ws) ≡ v → Headed v
       go true true e f h = record { header = e; counts = f; parts = h }
       go true false e f h = absurd (n h)
       go false y e f h = absurd (n h)
@@ -58,23 +55,40 @@ module _ (b : Bounds) (ws : List ℕ) where
   pub incidence-headed : (k : ℕ) → verdict b ws ≡ BadIncidence k → Headed (BadIncidence k)
   incidence-headed k h = headed (BadIncidence k) header-incidence h
 
-  -- a bad record: of a vertex, or, where all of these are sound, of an edge
-  pub record-found : (k : ℕ) → verdict b ws ≡ BadRecord k → (first ≡ BadRecord k) ⊎ ((first ≡ Sound) × (second ≡ BadRecord k))
-  record-found k h = elim (then-record first (andThen second third) k (record-headed k h .parts)) [
-    | inl x ↦ inl x
-    | inr x ↦ elim (then-record second third k (x .1)) [
-      | inl y ↦ inr (x .0, y)
-      | inr y ↦ absurd (list-no-bad-record (edgesFrom (edgeCount ws) (edgePart ws)) (numbersOf ws) (incidencePart ws) (incidenceOffset (vertexCount ws) (edgeCount ws)) k (y .1))
+  -- a bad record: of a vertex; of an edge, where all of these are sound; or by a degree, where all others are
+  pub data Found (k : ℕ) : Type 0 where
+    in-vertex : vertexVerdict (recordSize ws) b ws ≡ BadRecord k → Found k
+    in-edge : vertexVerdict (recordSize ws) b ws ≡ Sound → edgeVerdict (recordSize ws) b ws ≡ BadRecord k → Found k
+    in-degree : vertexVerdict (recordSize ws) b ws ≡ Sound → edgeVerdict (recordSize ws) b ws ≡ Sound → degreeVerdict (recordSize ws) ws ≡ BadRecord k → Found k
+
+  pub record-found : (k : ℕ) → verdict b ws ≡ BadRecord k → Found k
+  record-found k h = elim (then-record (vertexVerdict size b ws) _ k (record-headed k h .parts)) [
+    | inl x ↦ in-vertex x
+    | inr x ↦ elim (then-record (edgeVerdict size b ws) _ k (x .1)) [
+      | inl y ↦ in-edge (x .0) y
+      | inr y ↦ elim (then-record (degreeVerdict size ws) (listVerdict size ws) k (y .1)) [
+        | inl z ↦ in-degree (x .0) (y .0) z
+        | inr z ↦ absurd (list-no-bad-record (edgesOf size ws) (numbersOf size ws) (incidencePart size ws) (incidenceOffset size (vertexCount ws) (edgeCount ws)) k (z .1))
+      ]
     ]
   ]
 
   -- a bad incidence: all records are sound
-  pub incidence-found : (k : ℕ) → verdict b ws ≡ BadIncidence k → (first ≡ Sound) × (second ≡ Sound) × (third ≡ BadIncidence k)
-  incidence-found k h = elim (then-incidence first (andThen second third) k (incidence-headed k h .parts)) [
-    | inl x ↦ absurd (vertex-no-incidence (b .vertices) (b .types) [] (vertexCount ws) (vertexPart ws) vertexOffset k x)
-    | inr x ↦ elim (then-incidence second third k (x .1)) [
-      | inl y ↦ absurd (edge-no-incidence (b .edges) (b .types) (numbersOf ws) [] (edgeCount ws) (edgePart ws) (edgeOffset (vertexCount ws)) k y)
-      | inr y ↦ (x .0, y .0, y .1)
+  pub record Listed (k : ℕ) : Type 0 where
+    pub vertices : vertexVerdict (recordSize ws) b ws ≡ Sound
+    pub edges : edgeVerdict (recordSize ws) b ws ≡ Sound
+    pub degrees : degreeVerdict (recordSize ws) ws ≡ Sound
+    pub lists : listVerdict (recordSize ws) ws ≡ BadIncidence k
+
+  pub incidence-found : (k : ℕ) → verdict b ws ≡ BadIncidence k → Listed k
+  incidence-found k h = elim (then-incidence (vertexVerdict size b ws) _ k (incidence-headed k h .parts)) [
+    | inl x ↦ absurd (vertex-no-incidence size (record-size ws) (b .vertices) (b .types) [] (vertexCount ws) (vertexPart size ws) vertexOffset k x)
+    | inr x ↦ elim (then-incidence (edgeVerdict size b ws) _ k (x .1)) [
+      | inl y ↦ absurd (edge-no-incidence (b .edges) (b .types) (numbersOf size ws) [] (edgeCount ws) (edgePart size ws) (edgeOffset size (vertexCount ws)) k y)
+      | inr y ↦ elim (then-incidence (degreeVerdict size ws) (listVerdict size ws) k (y .1)) [
+        | inl z ↦ absurd (degree-no-incidence size (record-size ws) (edgesOf size ws) (vertexCount ws) (vertexPart size ws) vertexOffset k z)
+        | inr z ↦ record { vertices = x .0; edges = y .0; degrees = z .0; lists = z .1 }
+      ]
     ]
   ]
 
@@ -103,126 +117,212 @@ list-to es (n ∷ ns) ws at m e h =
 
 module _ (b : Bounds) (ws : List ℕ) (k : ℕ) where
   -- an offset of a bad record names a word of the records
-  pub record-in : verdict b ws ≡ BadRecord k → (vertexOffset ≤ k) × (k < incidenceOffset (vertexCount ws) (edgeCount ws))
-  record-in h = elim (record-found b ws k h) [
-    | inl x ↦
-        let r = vertex-range (b .vertices) (b .types) [] (vertexCount ws) (vertexPart ws) vertexOffset k x in
-        (r .0, omega (arith, r .1))
-    | inr x ↦
-        let r = edge-range (b .edges) (b .types) (numbersOf ws) [] (edgeCount ws) (edgePart ws) (edgeOffset (vertexCount ws)) k (x .1) in
-        (omega (arith, r .0), r .1)
-  ]
+  pub record-in : verdict b ws ≡ BadRecord k → (vertexOffset ≤ k) × (k < incidenceOffset (recordSize ws) (vertexCount ws) (edgeCount ws))
+  record-in h = go (record-found b ws k h)
+    where
+      size′ : ℕ
+      size′ = recordSize ws
+
+      go : Found b ws k → (vertexOffset ≤ k) × (k < incidenceOffset size′ (vertexCount ws) (edgeCount ws))
+      go (in-vertex x) =
+          let r = vertex-range size′ (record-size ws) (b .vertices) (b .types) [] (vertexCount ws) (vertexPart size′ ws) vertexOffset k x in
+          (r .0, omega (arith, r .1))
+      go (in-edge x y) =
+          let r = edge-range (b .edges) (b .types) (numbersOf size′ ws) [] (edgeCount ws) (edgePart size′ ws) (edgeOffset size′ (vertexCount ws)) k y in
+          (omega (arith, r .0), r .1)
+      go (in-degree x y q) =
+          let w = degree-wrong size′ (record-size ws) (edgesOf size′ ws) (vertexCount ws) (vertexPart size′ ws) vertexOffset k q in
+          let p = w .at-row in
+          (omega (arith, p .place), omega (arith, p .place, row-in size′ (p .row) 3 (vertexCount ws) (p .inside) (omega (arith, w .four))))
 
   -- the incidence part is as long as the lists together
-  pub incidences-all : soundHeader ws ≡ true → first b ws ≡ Sound → second b ws ≡ Sound →
-      length (incidencePart ws) ≡ ends (edgesFrom (edgeCount ws) (edgePart ws)) (numbersOf ws)
+  pub incidences-all : soundHeader ws ≡ true → vertexVerdict (recordSize ws) b ws ≡ Sound → edgeVerdict (recordSize ws) b ws ≡ Sound →
+      length (incidencePart (recordSize ws) ws) ≡ ends (edgesOf (recordSize ws) ws) (numbersOf (recordSize ws) ws)
   incidences-all t x y =
+      let size = recordSize ws in
       omega (
         arith,
         sound-length ws t,
-        length-drop (incidenceOffset (vertexCount ws) (edgeCount ws)) ws,
-        walk-ends (b .edges) (b .types) (numbersOf ws) [] (edgeCount ws) (edgePart ws) (edgeOffset (vertexCount ws)) (walk-distinct vertexSize (b .vertices) (b .types) [] (vertexCount ws) (vertexPart ws) vertexOffset x) y,
+        length-drop (incidenceOffset size (vertexCount ws) (edgeCount ws)) ws,
+        walk-ends (b .edges) (b .types) (numbersOf size ws) [] (edgeCount ws) (edgePart size ws) (edgeOffset size (vertexCount ws)) (walk-distinct size (b .vertices) (b .types) [] (vertexCount ws) (vertexPart size ws) vertexOffset x) y,
       )
 
   -- an offset of a bad incidence names a word of the incidence part
-  pub incidence-in : verdict b ws ≡ BadIncidence k → (incidenceOffset (vertexCount ws) (edgeCount ws) ≤ k) × (k < length ws)
+  pub incidence-in : verdict b ws ≡ BadIncidence k → (incidenceOffset (recordSize ws) (vertexCount ws) (edgeCount ws) ≤ k) × (k < length ws)
   incidence-in h =
       let t = incidence-headed b ws k h .header in
       let f = incidence-found b ws k h in
-      let at = incidenceOffset (vertexCount ws) (edgeCount ws) in
-      let es = edgesFrom (edgeCount ws) (edgePart ws) in (
-        list-from es (numbersOf ws) (incidencePart ws) at k (f .2),
-        omega (arith, sound-length ws t, length-drop at ws, list-to es (numbersOf ws) (incidencePart ws) at k (incidences-all t (f .0) (f .1)) (f .2)),
+      let at = incidenceOffset (recordSize ws) (vertexCount ws) (edgeCount ws) in
+      let es = edgesOf (recordSize ws) ws in
+      let ns = numbersOf (recordSize ws) ws in
+      let is = incidencePart (recordSize ws) ws in (
+        list-from es ns is at k (f .lists),
+        omega (arith, sound-length ws t, length-drop at ws, list-to es ns is at k (incidences-all t (f .vertices) (f .edges)) (f .lists)),
       )
 
--- ---- nothing that loads begins with the words up to the bad one
+-- ---- nothing that loads has the words read before the bad one, and this one
 
-begins : (n : ℕ) (us ws : List ℕ) → take n us ≡ take n ws → (i : ℕ) → i < n → getD us i 0 ≡ getD ws i 0
-begins n us ws e i h = sym (getD-take n us i 0 h) ∙ ap (λ (l : List ℕ). getD l i 0) e ∙ getD-take n ws i 0 h
-
-part-words : (m n k : ℕ) (us ws : List ℕ) → take (suc k) us ≡ take (suc k) ws → Upto m k (take n (drop m us)) (take n (drop m ws))
-part-words m n k us ws e i h = go (ltb i n) refl
+-- words of a part
+part-word : (m n i : ℕ) (us ws : List ℕ) → (i < n → getD us (m + i) 0 ≡ getD ws (m + i) 0) → getD (take n (drop m us)) i 0 ≡ getD (take n (drop m ws)) i 0
+part-word m n i us ws e = go (ltb i n) refl
   where
     go : (t : Bool) → ltb i n ≡ t → getD (take n (drop m us)) i 0 ≡ getD (take n (drop m ws)) i 0
     go true f =
         let l = ltb-true i n f in
-        getD-take n (drop m us) i 0 l ∙ getD-drop m us i 0 ∙ begins (suc k) us ws e (m + i) (omega arith) ∙ sym (getD-drop m ws i 0) ∙ sym (getD-take n (drop m ws) i 0 l)
+        getD-take n (drop m us) i 0 l ∙ getD-drop m us i 0 ∙ e l ∙ sym (getD-drop m ws i 0) ∙ sym (getD-take n (drop m ws) i 0 l)
     go false f =
         let l = ltb-false i n f in
         List·getD-eq-default (take n (drop m us)) 0 (omega (arith, length-take n (drop m us))) ∙ sym (List·getD-eq-default (take n (drop m ws)) 0 (omega (arith, length-take n (drop m ws))))
 
-part-of : (m n : ℕ) (ws : List ℕ) → m ≤ length ws → drop m (take (m + n) ws) ≡ take n (drop m ws)
-part-of m n ws h = ap (drop m) (take-add m n ws) ∙ drop-at (take m ws) (take n (drop m ws)) m (length-take-le m ws h)
+-- the numbers of records are their first words
+numbers-same : (size k : ℕ) (us ws : List ℕ) → ((j : ℕ) → j < k → getD us (size * j + 0) 0 ≡ getD ws (size * j + 0) 0) → numbersIn size k us ≡ numbersIn size k ws
+unfolding numbersIn
+numbers-same size zero us ws e = refl
+numbers-same size (suc k) us ws e =
+    ap₂ _∷_ (sym (row-first size 0 us) ∙ e 0 (omega arith) ∙ row-first size 0 ws)
+    (numbers-same size k (drop size us) (drop size ws) (λ j h. row-drop size j 0 us ∙ e (suc j) (omega arith) ∙ sym (row-drop size j 0 ws)))
 
-part-same : (m n k : ℕ) (us ws : List ℕ) → take (suc k) us ≡ take (suc k) ws → m + n ≤ suc k → m ≤ length us → m ≤ length ws → take n (drop m us) ≡ take n (drop m ws)
-part-same m n k us ws e h p q =
-    let f : take (m + n) us ≡ take (m + n) ws = sym (take-take (m + n) (suc k) us h) ∙ ap (take (m + n)) e ∙ take-take (m + n) (suc k) ws h in
-    sym (part-of m n us p) ∙ ap (drop m) f ∙ part-of m n ws q
+module _ (b : Bounds) (ws : List ℕ) (k : ℕ) (us : List ℕ) (before : Begins ws k us) (this : getD us k 0 ≡ getD ws k 0) where
+  -- words that pass 0 reads
+  plain : (i : ℕ) → passOf ws i ≡ 0 → (passOf ws k ≡ 0 → i ≤ k) → getD us i 0 ≡ getD ws i 0
+  plain i e h = go (passOf ws k) refl
+    where
+      at : (t : Bool) → ltb i k ≡ t → passOf ws k ≡ 0 → getD us i 0 ≡ getD ws i 0
+      at true q z = before i (inr (e ∙ sym z, ltb-true i k q))
+      at false q z = let f : k ≡ i = omega (arith, ltb-false i k q, h z) in subst (λ (n : ℕ). getD us n 0 ≡ getD ws n 0) f this
 
-module _ (b : Bounds) (ws : List ℕ) (k : ℕ) (us : List ℕ) (e : take (suc k) us ≡ take (suc k) ws) where
-  -- by a sound verdict of us, as one of its words
+      go : (n : ℕ) → passOf ws k ≡ n → getD us i 0 ≡ getD ws i 0
+      go zero z = at (ltb i k) refl z
+      go (suc n) z = before i (inl (omega (arith, e, z)))
+
+  -- by a sound verdict of us
   module _ (low : vertexOffset ≤ k) (header : soundHeader ws ≡ true) (s : Sounds b us) where
-    same-v : vertexCount us ≡ vertexCount ws
-    same-v = begins (suc k) us ws e 0 (omega arith)
+    abbrev n : ℕ
+    n = recordSize ws
 
-    same-e : edgeCount us ≡ edgeCount ws
-    same-e = begins (suc k) us ws e 1 (omega (arith, low))
+    abbrev v : ℕ
+    v = vertexCount ws
+
+    abbrev e : ℕ
+    e = edgeCount ws
+
+    abbrev o : ℕ
+    o = edgeOffset n v
+
+    abbrev end : ℕ
+    end = incidenceOffset n v e
+
+    head : (i : ℕ) → i < 6 → getD us i 0 ≡ getD ws i 0
+    head i h = plain i (read-plain ws i (header-plain ws i h) (omega arith)) (λ z. omega arith)
+
+    same-size : recordSize us ≡ n
+    same-size = size-by us ws (head 0 (omega arith)) (head 3 (omega arith))
 
     same-length : length us ≡ length ws
-    same-length = omega (arith, same-v, same-e, sound-length us (s .header), sound-length ws header)
+    same-length =
+        let p : lengthAs (recordSize us) (vertexCount us) (edgeCount us) ≡ lengthAs n v e = rw (same-size, head 0 (omega arith), head 1 (omega arith)) in
+        sound-length us (s .header) ∙ p ∙ sym (sound-length ws header)
 
-    vertices-at : vertexWalk vertexSize (b .vertices) (b .types) [] (vertexCount ws) (take (3 * vertexCount ws) (drop 6 us)) vertexOffset ≡ Sound
-    vertices-at = rw same-v at (s .vertices)
+    -- the vertex part of us, in the counts of ws
+    abbrev vs : List ℕ
+    vs = take (n * v) (drop vertexOffset us)
 
-    not-vertex : first b ws ≡ BadRecord k → ⊥
+    abbrev es : List ℕ
+    es = take (edgeSize * e) (drop o us)
+
+    -- a word but a degree of record j, where those up to it are read
+    row-same : (j r : ℕ) → r < 3 → (passOf ws k ≡ 0 → vertexOffset + (n * j + r) ≤ k) → getD vs (n * j + r) 0 ≡ getD (vertexPart n ws) (n * j + r) 0
+    row-same j r l h =
+        part-word vertexOffset (n * v) (n * j + r) us ws
+        (λ q. plain (vertexOffset + (n * j + r)) (read-row ws (vertexOffset + (n * j + r)) r l (record { row = j; inside = row-back n j r v q; place = refl })) h)
+
+    numbers-at : (passOf ws k ≡ 0 → o ≤ k) → numbersIn n v vs ≡ numbersOf n ws
+    numbers-at h =
+        numbers-same n v vs (vertexPart n ws)
+        (λ j q. row-same j 0 (omega arith) (λ z. omega (arith, h z, row-in n j 0 v q (omega (arith, size-range n (record-size ws) .0)))))
+
+    edges-at : (passOf ws k ≡ 0 → end ≤ k) → es ≡ edgePart n ws
+    edges-at h =
+        ext-getD 0 es (edgePart n ws)
+        (omega (
+          arith,
+          same-length,
+          length-take (edgeSize * e) (drop o us),
+          length-take (edgeSize * e) (drop o ws),
+          length-drop o us,
+          length-drop o ws,
+        ))
+        (λ i l. part-word o (edgeSize * e) i us ws (λ q. plain (o + i) (read-edge ws (o + i) (omega arith) (omega arith)) (λ z. omega (arith, h z))))
+
+    vertices-sound : vertexWalk n (b .vertices) (b .types) [] v vs vertexOffset ≡ Sound
+    vertices-sound = rw (same-size, head 0 (omega arith)) at (s .vertices)
+
+    edges-sound : edgeWalk (b .edges) (b .types) (numbersIn n v vs) [] e es o ≡ Sound
+    edges-sound = rw (same-size, head 0 (omega arith), head 1 (omega arith)) at (s .edges)
+
+    degrees-sound : degreeWalk n (edgesFrom e es) v vs vertexOffset ≡ Sound
+    degrees-sound = rw (same-size, head 0 (omega arith), head 1 (omega arith)) at (s .degrees)
+
+    lists-sound : listWalk (edgesFrom e es) (numbersIn n v vs) (drop end us) end ≡ Sound
+    lists-sound = rw (same-size, head 0 (omega arith), head 1 (omega arith)) at (s .lists)
+
+    not-vertex : vertexVerdict n b ws ≡ BadRecord k → ⊥
     not-vertex h =
-        sound-record (sym vertices-at
-        ∙ vertex-prefix (b .vertices) (b .types) [] (vertexCount ws) (take (3 * vertexCount ws) (drop 6 us)) (vertexPart ws) 6 k h (part-words 6 (3 * vertexCount ws) k us ws e))
+        sound-record (sym vertices-sound
+        ∙ vertex-prefix n (record-size ws) (b .vertices) (b .types) [] v vs (vertexPart n ws) vertexOffset k h (λ j r l q. row-same j r l (λ z. q)))
 
-    same-vertices : edgeOffset (vertexCount ws) ≤ suc k → take (3 * vertexCount ws) (drop 6 us) ≡ vertexPart ws
-    same-vertices l = part-same 6 (3 * vertexCount ws) k us ws e l (omega (arith, same-length, sound-length ws header)) (omega (arith, sound-length ws header))
-
-    edges-at : edgeOffset (vertexCount ws) ≤ suc k →
-        edgeWalk (b .edges) (b .types) (numbersOf ws) [] (edgeCount ws) (take (6 * edgeCount ws) (drop (edgeOffset (vertexCount ws)) us)) (edgeOffset (vertexCount ws)) ≡ Sound
-    edges-at l = rw (same-vertices l) at (rw (same-v, same-e) at (s .edges))
-
-    not-edge : second b ws ≡ BadRecord k → ⊥
+    not-edge : edgeVerdict n b ws ≡ BadRecord k → ⊥
     not-edge h =
-        let o = edgeOffset (vertexCount ws) in
-        let r = edge-range (b .edges) (b .types) (numbersOf ws) [] (edgeCount ws) (edgePart ws) o k h in
-        sound-record (sym (edges-at (omega (arith, r .0)))
-        ∙ edge-prefix (b .edges) (b .types) (numbersOf ws) [] (edgeCount ws) (take (6 * edgeCount ws) (drop o us)) (edgePart ws) o k h (part-words o (6 * edgeCount ws) k us ws e))
+        let r = edge-range (b .edges) (b .types) (numbersOf n ws) [] e (edgePart n ws) o k h in
+        let at : edgeWalk (b .edges) (b .types) (numbersOf n ws) [] e es o ≡ Sound = rw (numbers-at (λ z. r .0)) at edges-sound in
+        sound-record (sym at
+        ∙ edge-prefix (b .edges) (b .types) (numbersOf n ws) [] e es (edgePart n ws) o k h
+        (λ i l. part-word o (edgeSize * e) i us ws (λ q. plain (o + i) (read-edge ws (o + i) (omega arith) (omega arith)) (λ z. l))))
 
-    same-edges : incidenceOffset (vertexCount ws) (edgeCount ws) ≤ suc k → take (6 * edgeCount ws) (drop (edgeOffset (vertexCount ws)) us) ≡ edgePart ws
-    same-edges l =
-        part-same (edgeOffset (vertexCount ws)) (6 * edgeCount ws) k us ws e l (omega (arith, same-length, sound-length ws header)) (omega (arith, sound-length ws header))
+    -- a degree that disagrees with the edges does so in us
+    not-degree : degreeVerdict n ws ≡ BadRecord k → ⊥
+    not-degree h =
+        let w = degree-wrong n (record-size ws) (edgesOf n ws) v (vertexPart n ws) vertexOffset k h in
+        let p = w .at-row in
+        let j = p .row in
+        let one : passOf ws k ≡ 1 = read-degree ws k (is-degree ws k (w .four) (subst (λ (x : ℕ). Place x v 3 vertexOffset k) (w .four) p)) in
+        let t = degrees-right n (record-size ws) (edgesFrom e es) (w .four) v vs vertexOffset degrees-sound j (p .inside) in
+        let here : getD vs (n * j + 3) 0 ≡ getD (vertexPart n ws) (n * j + 3) 0 =
+        part-word vertexOffset (n * v) (n * j + 3) us ws (λ q. subst (λ (x : ℕ). getD us x 0 ≡ getD ws x 0) (p .place) this) in
+        let number : getD vs (n * j + 0) 0 ≡ getD (vertexPart n ws) (n * j + 0) 0 = row-same j 0 (omega arith) (λ z. absurd (omega (arith, one, z))) in
+        let edges : edgesFrom e es ≡ edgesOf n ws = ap (edgesFrom e) (edges-at (λ z. absurd (omega (arith, one, z)))) in
+        w .disagrees (sym here ∙ t ∙ ap₂ (λ (x : List Edge) (y : ℕ). length (wordsAt x y)) edges number)
 
-    not-incidence : third b ws ≡ BadIncidence k → ⊥
+    not-incidence : listVerdict n ws ≡ BadIncidence k → ⊥
     not-incidence h =
-        let o = incidenceOffset (vertexCount ws) (edgeCount ws) in
-        let es = edgesFrom (edgeCount ws) (edgePart ws) in
-        let r = list-from es (numbersOf ws) (incidencePart ws) o k h in
-        let at : listWalk es (numbersOf ws) (drop o us) o ≡ Sound = rw (same-vertices (omega (arith, r)), same-edges (omega (arith, r))) at (rw (same-v, same-e) at (s .lists)) in
+        let r = list-from (edgesOf n ws) (numbersOf n ws) (incidencePart n ws) end k h in
+        let two : passOf ws k ≡ 2 = read-list ws k r in
+        let at : listWalk (edgesOf n ws) (numbersOf n ws) (drop end us) end ≡ Sound =
+        rw (numbers-at (λ z. absurd (omega (arith, two, z))), edges-at (λ z. absurd (omega (arith, two, z)))) at lists-sound in
         sound-incidence (sym at
-        ∙ list-prefix es (numbersOf ws) (drop o us) (incidencePart ws) o k (omega (arith, length-drop o us, length-drop o ws, same-length)) h
-        (λ i l. getD-drop o us i 0 ∙ begins (suc k) us ws e (o + i) (omega arith) ∙ sym (getD-drop o ws i 0)))
+        ∙ list-prefix (edgesOf n ws) (numbersOf n ws) (drop end us) (incidencePart n ws) end k (omega (arith, length-drop end us, length-drop end ws, same-length)) h
+        (λ i l. getD-drop end us i 0 ∙ upto (end + i) (omega arith) l two ∙ sym (getD-drop end ws i 0)))
+      where
+        upto : (i : ℕ) → end ≤ i → i ≤ k → passOf ws k ≡ 2 → getD us i 0 ≡ getD ws i 0
+        upto i l m two = go (ltb i k) refl
+          where
+            go : (t : Bool) → ltb i k ≡ t → getD us i 0 ≡ getD ws i 0
+            go true q = before i (inr (read-list ws i l ∙ sym two, ltb-true i k q))
+            go false q = let f : k ≡ i = omega (arith, ltb-false i k q, m) in subst (λ (x : ℕ). getD us x 0 ≡ getD ws x 0) f this
 
   -- the offset is that of a bad record or a bad incidence
   pub nothing-follows : (verdict b ws ≡ BadRecord k) ⊎ (verdict b ws ≡ BadIncidence k) → loadable b us ≡ false
   nothing-follows h = go (loadable b us) refl
     where
+      found : vertexOffset ≤ k → soundHeader ws ≡ true → Sounds b us → Found b ws k → ⊥
+      found low t s (in-vertex x) = not-vertex low t s x
+      found low t s (in-edge x y) = not-edge low t s y
+      found low t s (in-degree x y q) = not-degree low t s q
+
       none : Sounds b us → ⊥
       none s = elim h [
-        | inl x ↦
-            let low = record-in b ws k x .0 in
-            let t = record-headed b ws k x .header in
-            elim (record-found b ws k x) [
-              | inl y ↦ not-vertex low t s y
-              | inr y ↦ not-edge low t s (y .1)
-            ]
-        | inr x ↦
-            let low = incidence-in b ws k x .0 in
-            not-incidence (omega (arith, low)) (incidence-headed b ws k x .header) s (incidence-found b ws k x .2)
+        | inl x ↦ found (record-in b ws k x .0) (record-headed b ws k x .header) s (record-found b ws k x)
+        | inr x ↦ not-incidence (omega (arith, incidence-in b ws k x .0)) (incidence-headed b ws k x .header) s (incidence-found b ws k x .lists)
       ]
 
       go : (t : Bool) → loadable b us ≡ t → t ≡ false

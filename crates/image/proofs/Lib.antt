@@ -1,8 +1,10 @@
 -- the image
+pub mod Sizes
 pub mod Formed
 pub mod RecordWords
 pub mod Ends
 pub mod Loads
+pub mod ListPlaces
 pub mod Counts
 pub mod Room
 pub mod WordSize
@@ -16,10 +18,13 @@ pub mod Verdicts
 pub mod VertexPass
 pub mod EdgePass
 pub mod ListPass
+pub mod DegreePass
 pub mod ScratchPass
 pub mod SoundLoads
 pub mod SavedSound
 pub mod Offsets
+pub mod WithDegrees
+pub mod ReadOrder
 pub mod FirstBad
 pub mod Fill
 pub mod Follows

@@ -97,7 +97,7 @@ list-keeps u v (suc d) own (w ∷ ws) l n h x = go (λ i. list-keeps u v d (set 
 
 -- ---- each vertex's list in turn
 
-has-later : (u v : ℕ) (vs : List ℕ) → has u vs ≡ true → has u (v ∷ vs) ≡ true
+pub has-later : (u v : ℕ) (vs : List ℕ) → has u vs ≡ true → has u (v ∷ vs) ≡ true
 has-later u v vs h = go (v == u)
   where
     go : (t : Bool) → (t || has u vs) ≡ true

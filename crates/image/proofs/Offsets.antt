@@ -14,10 +14,12 @@ use Rattle.lists.specs.Lists.{has}
 use Rattle.lists.specs.Keyed.{rem}
 use Rattle.graph.specs.Graph.{Edge, wd, isReading}
 use Rattle.graph.specs.WellFormed.{wordsAt}
-use Rattle.image.specs.Image.{vertexSize}
-use Rattle.image.specs.Checks.{goodVertex, goodEdge, recordAt, vertexWalk, edgeWalk, goodList, listAt, listWalk, andThen}
+use Rattle.image.specs.Checks.{goodVertex, goodEdge, goodDegree, recordAt, vertexWalk, edgeWalk, degreeWalk, goodList, listAt, listWalk, andThen}
 use Rattle.image.specs.declared.Verdict.{Verdict}
 use Rattle.image.specs.declared.Verdict.the-variants.{Sound, BadHeader, BadRecord, BadIncidence}
+use Rattle.image.proofs.Sizes.{Size, size-range, row-in}
+use Rattle.image.proofs.Verdicts.{record-sound}
+use Rattle.image.proofs.DegreePass.{good-range, good-degree, four-good}
 
 -- ---- verdicts that differ
 
@@ -119,20 +121,55 @@ vertex-cut true true true z′ u′ h k = rw (h (omega arith), k (omega arith))
 abbrev pub vertexAt : ℕ → ℕ → List ℕ → List ℕ → ℕ
 vertexAt cap types seen ws = goodVertex cap types (not (has (getD ws 0 0) seen)) (getD ws 0 0) (getD ws 1 0) (getD ws 2 0)
 
-module _ (cap types : ℕ) where
-  pub vertex-range : (seen : List ℕ) (k : ℕ) (ws : List ℕ) (at m : ℕ) → vertexWalk vertexSize cap types seen k ws at ≡ BadRecord m → (at ≤ m) × (m < at + 3 * k)
+-- us has the words of the records of ws up to the place m, their degrees left aside
+abbrev pub UptoRecords : ℕ → ℕ → ℕ → List ℕ → List ℕ → Type 0
+UptoRecords size at m us ws = (j r : ℕ) → r < 3 → at + (size * j + r) ≤ m → getD us (size * j + r) 0 ≡ getD ws (size * j + r) 0
+
+-- the next record's word in what is behind the first
+pub row-drop : (size j r : ℕ) (ws : List ℕ) → getD (drop size ws) (size * j + r) 0 ≡ getD ws (size * suc j + r) 0
+row-drop size j r ws =
+    let e : size + (size * j + r) ≡ size * suc j + r = omega arith in
+    getD-drop size ws (size * j + r) 0 ∙ ap (λ (i : ℕ). getD ws i 0) e
+
+pub row-first : (size r : ℕ) (ws : List ℕ) → getD ws (size * 0 + r) 0 ≡ getD ws r 0
+row-first size r ws = let e : size * 0 + r ≡ r = omega arith in ap (λ (i : ℕ). getD ws i 0) e
+
+records-drop : (size at m : ℕ) (us ws : List ℕ) → UptoRecords size at m us ws → UptoRecords size (at + size) m (drop size us) (drop size ws)
+records-drop size at m us ws a j r l h = row-drop size j r us ∙ a (suc j) r l (omega arith) ∙ sym (row-drop size j r ws)
+
+-- a place among k records: word r of record j
+pub record Place (size k r at m : ℕ) : Type 0 where
+  pub row : ℕ
+  pub inside : row < k
+  pub place : m ≡ at + (size * row + r)
+
+place-here : (size k r at m : ℕ) → at + r ≡ m → Place size (suc k) r at m
+place-here size k r at m e = record { row = 0; inside = omega arith; place = omega arith }
+
+place-later : (size k r at m : ℕ) → Place size k r (at + size) m → Place size (suc k) r at m
+place-later size k r at m p = record { row = suc (p .row); inside = omega (arith, p .inside); place = omega (arith, p .place) }
+
+module _ (size : ℕ) (z : Size size) (cap types : ℕ) where
+  -- the bad word is one of the first three of a record
+  pub vertex-place : (seen : List ℕ) (k : ℕ) (ws : List ℕ) (at m : ℕ) → vertexWalk size cap types seen k ws at ≡ BadRecord m → (r : ℕ) × (r < 3) × Place size k r at m
   unfolding vertexWalk
-  vertex-range seen zero ws at m h = absurd (sound-record h)
-  vertex-range seen (suc k) ws at m h = elim (record-bad 3 at (vertexAt cap types seen ws) m (vertexWalk vertexSize cap types (getD ws 0 0 ∷ seen) k (drop 3 ws) (at + 3)) h) [
-    | inl x ↦ (omega (arith, x .0, x .1), omega (arith, x .0, x .1))
-    | inr x ↦ let r = vertex-range (getD ws 0 0 ∷ seen) k (drop 3 ws) (at + 3) m (x .1) in (omega (arith, r .0), omega (arith, r .1))
+  vertex-place seen zero ws at m h = absurd (sound-record h)
+  vertex-place seen (suc k) ws at m h = elim (record-bad 3 at (vertexAt cap types seen ws) m (vertexWalk size cap types (getD ws 0 0 ∷ seen) k (drop size ws) (at + size)) h) [
+    | inl x ↦ (vertexAt cap types seen ws, x .0, place-here size k _ at m (x .1))
+    | inr x ↦ let p = vertex-place (getD ws 0 0 ∷ seen) k (drop size ws) (at + size) m (x .1) in (p .0, p .1, place-later size k (p .0) at m (p .2))
   ]
 
-  pub vertex-no-incidence : (seen : List ℕ) (k : ℕ) (ws : List ℕ) (at m : ℕ) → vertexWalk vertexSize cap types seen k ws at ≡ BadIncidence m → ⊥
+  pub vertex-range : (seen : List ℕ) (k : ℕ) (ws : List ℕ) (at m : ℕ) → vertexWalk size cap types seen k ws at ≡ BadRecord m → (at ≤ m) × (m < at + size * k)
+  vertex-range seen k ws at m h =
+      let p = vertex-place seen k ws at m h in
+      let q = p .2 in
+      (omega (arith, q .place), omega (arith, q .place, row-in size (q .row) (p .0) k (q .inside) (omega (arith, p .1, size-range size z .0))))
+
+  pub vertex-no-incidence : (seen : List ℕ) (k : ℕ) (ws : List ℕ) (at m : ℕ) → vertexWalk size cap types seen k ws at ≡ BadIncidence m → ⊥
   unfolding vertexWalk
   vertex-no-incidence seen zero ws at m h = sound-incidence h
   vertex-no-incidence seen (suc k) ws at m h =
-      vertex-no-incidence (getD ws 0 0 ∷ seen) k (drop 3 ws) (at + 3) m (record-no-incidence 3 at (vertexAt cap types seen ws) m _ h)
+      vertex-no-incidence (getD ws 0 0 ∷ seen) k (drop size ws) (at + size) m (record-no-incidence 3 at (vertexAt cap types seen ws) m _ h)
 
   -- the words of a record up to the first bad one decide how many are sound
   vertex-same : (seen us ws : List ℕ) → ((i : ℕ) → i < 3 → i ≤ vertexAt cap types seen ws → getD us i 0 ≡ getD ws i 0) → vertexAt cap types seen us ≡ vertexAt cap types seen ws
@@ -143,22 +180,23 @@ module _ (cap types : ℕ) where
       (λ h. ap (λ (t : ℕ). ltb t types) (a 1 (omega arith) h)) (λ h. ap (λ (x : ℕ). ltb x (2 ^ 32)) (a 2 (omega arith) h)))
 
   -- the place of the bad word, in the record or behind it
-  vertex-near : (seen : List ℕ) (k : ℕ) (ws : List ℕ) (at m i : ℕ) → vertexWalk vertexSize cap types seen (suc k) ws at ≡ BadRecord m → i < 3 → i ≤ vertexAt cap types seen ws → at + i ≤ m
+  vertex-near : (seen : List ℕ) (k : ℕ) (ws : List ℕ) (at m i : ℕ) → vertexWalk size cap types seen (suc k) ws at ≡ BadRecord m → i < 3 → i ≤ vertexAt cap types seen ws → at + i ≤ m
   unfolding vertexWalk
-  vertex-near seen k ws at m i h l g = elim (record-bad 3 at (vertexAt cap types seen ws) m (vertexWalk vertexSize cap types (getD ws 0 0 ∷ seen) k (drop 3 ws) (at + 3)) h) [
+  vertex-near seen k ws at m i h l g = elim (record-bad 3 at (vertexAt cap types seen ws) m (vertexWalk size cap types (getD ws 0 0 ∷ seen) k (drop size ws) (at + size)) h) [
     | inl x ↦ omega (arith, g, x .1)
-    | inr x ↦ omega (arith, vertex-range (getD ws 0 0 ∷ seen) k (drop 3 ws) (at + 3) m (x .1) .0)
+    | inr x ↦ omega (arith, vertex-range (getD ws 0 0 ∷ seen) k (drop size ws) (at + size) m (x .1) .0, size-range size z .0)
   ]
 
-  pub vertex-prefix : (seen : List ℕ) (k : ℕ) (us ws : List ℕ) (at m : ℕ) → vertexWalk vertexSize cap types seen k ws at ≡ BadRecord m → Upto at m us ws →
-      vertexWalk vertexSize cap types seen k us at ≡ BadRecord m
+  pub vertex-prefix : (seen : List ℕ) (k : ℕ) (us ws : List ℕ) (at m : ℕ) → vertexWalk size cap types seen k ws at ≡ BadRecord m → UptoRecords size at m us ws →
+      vertexWalk size cap types seen k us at ≡ BadRecord m
   unfolding vertexWalk
   vertex-prefix seen zero us ws at m h a = h
   vertex-prefix seen (suc k) us ws at m h a =
-      let e : getD us 0 0 ≡ getD ws 0 0 = a 0 (vertex-near seen k ws at m 0 h (omega arith) (omega arith)) in
-      let f = vertex-same seen us ws (λ i l g. a i (vertex-near seen k ws at m i h l g)) in
+      let b : (i : ℕ) → i < 3 → at + i ≤ m → getD us i 0 ≡ getD ws i 0 = λ i l g. sym (row-first size i us) ∙ a 0 i l (omega arith) ∙ row-first size i ws in
+      let e : getD us 0 0 ≡ getD ws 0 0 = b 0 (omega arith) (vertex-near seen k ws at m 0 h (omega arith) (omega arith)) in
+      let f = vertex-same seen us ws (λ i l g. b i l (vertex-near seen k ws at m i h l g)) in
       record-keeps 3 at (vertexAt cap types seen ws) (vertexAt cap types seen us) m _ _ f h
-      (λ l q. rw e (vertex-prefix (getD ws 0 0 ∷ seen) k (drop 3 us) (drop 3 ws) (at + 3) m q (upto-drop 3 at m us ws a)))
+      (λ l q. rw e (vertex-prefix (getD ws 0 0 ∷ seen) k (drop size us) (drop size ws) (at + size) m q (records-drop size at m us ws a)))
 
 -- ---- edge records
 
@@ -220,6 +258,69 @@ module _ (cap types : ℕ) (ns : List ℕ) where
       let f = edge-same seen us ws (λ i l g. a i (edge-near seen k ws at m i h l g)) in
       record-keeps 6 at (edgeAt cap types ns seen ws) (edgeAt cap types ns seen us) m _ _ f h
       (λ l q. rw e (edge-prefix (getD ws 0 0 ∷ seen) k (drop 6 us) (drop 6 ws) (at + 6) m q (upto-drop 6 at m us ws a)))
+
+-- ---- degrees
+
+-- the first degree that disagrees, in records of four words
+pub record Wrong (size : ℕ) (es : List Edge) (k : ℕ) (ws : List ℕ) (at m : ℕ) : Type 0 where
+  pub four : size ≡ 4
+  pub at-row : Place size k 3 at m
+  pub disagrees : getD ws (size * at-row .row + 3) 0 ≡ length (wordsAt es (getD ws (size * at-row .row + 0) 0)) → ⊥
+  pub before : (i : ℕ) → i < at-row .row → getD ws (size * i + 3) 0 ≡ length (wordsAt es (getD ws (size * i + 0) 0))
+
+module _ (size : ℕ) (z : Size size) (es : List Edge) where
+  pub degree-wrong : (k : ℕ) (ws : List ℕ) (at m : ℕ) → degreeWalk size es k ws at ≡ BadRecord m → Wrong size es k ws at m
+  unfolding degreeWalk place-here place-later
+  degree-wrong zero ws at m h = absurd (sound-record h)
+  degree-wrong (suc k) ws at m h =
+      let d = length (wordsAt es (getD ws 0 0)) in
+      let x = getD ws 3 0 in
+      let g = good-range d x in
+      let l = size-range size z in
+      elim (record-bad size at (goodDegree d x) m (degreeWalk size es k (drop size ws) (at + size)) h) [
+        | inl y ↦
+            record {
+              four = omega (arith, g .0, y .0, l .1);
+              at-row = place-here size k 3 at m (omega (arith, g .0, y .0, y .1, l .1));
+              disagrees = λ e. omega (arith, y .0, l .1, good-degree d x (sym (row-first size 3 ws) ∙ e ∙ ap (λ (n : ℕ). length (wordsAt es n)) (row-first size 0 ws)));
+              before = λ i q. absurd (omega arith);
+            }
+        | inr y ↦
+            let w = degree-wrong k (drop size ws) (at + size) m (y .1) in
+            let j = w .at-row .row in
+            record {
+              four = w .four;
+              at-row = place-later size k 3 at m (w .at-row);
+              disagrees = λ e. w .disagrees (row-drop size j 3 ws ∙ e ∙ sym (ap (λ (n : ℕ). length (wordsAt es n)) (row-drop size j 0 ws)));
+              before = λ i q. earlier i q (four-good d x (omega (arith, y .0, w .four))) (w .before);
+            }
+      ]
+    where
+      earlier : (i : ℕ) {j : ℕ} → i < suc j → getD ws 3 0 ≡ length (wordsAt es (getD ws 0 0)) →
+          ((n : ℕ) → n < j → getD (drop size ws) (size * n + 3) 0 ≡ length (wordsAt es (getD (drop size ws) (size * n + 0) 0))) →
+          getD ws (size * i + 3) 0 ≡ length (wordsAt es (getD ws (size * i + 0) 0))
+      earlier zero q e f = row-first size 3 ws ∙ e ∙ ap (λ (n : ℕ). length (wordsAt es n)) (sym (row-first size 0 ws))
+      earlier (suc i) q e f = sym (row-drop size i 3 ws) ∙ f i (omega arith) ∙ ap (λ (n : ℕ). length (wordsAt es n)) (row-drop size i 0 ws)
+
+  -- a sound walk: every degree agrees
+  pub degrees-right : size ≡ 4 → (k : ℕ) (ws : List ℕ) (at : ℕ) → degreeWalk size es k ws at ≡ Sound → (i : ℕ) → i < k →
+      getD ws (size * i + 3) 0 ≡ length (wordsAt es (getD ws (size * i + 0) 0))
+  unfolding degreeWalk
+  degrees-right f zero ws at s i h = absurd (omega arith)
+  degrees-right f (suc k) ws at s zero h =
+      let d = length (wordsAt es (getD ws 0 0)) in
+      let r = record-sound size at (goodDegree d (getD ws 3 0)) (degreeWalk size es k (drop size ws) (at + size)) s in
+      row-first size 3 ws ∙ four-good d (getD ws 3 0) (omega (arith, r .0, f)) ∙ ap (λ (n : ℕ). length (wordsAt es n)) (sym (row-first size 0 ws))
+  degrees-right f (suc k) ws at s (suc i) h =
+      let d = length (wordsAt es (getD ws 0 0)) in
+      let r = record-sound size at (goodDegree d (getD ws 3 0)) (degreeWalk size es k (drop size ws) (at + size)) s in
+      sym (row-drop size i 3 ws) ∙ degrees-right f k (drop size ws) (at + size) (r .1) i (omega arith) ∙ ap (λ (n : ℕ). length (wordsAt es n)) (row-drop size i 0 ws)
+
+  pub degree-no-incidence : (k : ℕ) (ws : List ℕ) (at m : ℕ) → degreeWalk size es k ws at ≡ BadIncidence m → ⊥
+  unfolding degreeWalk
+  degree-no-incidence zero ws at m h = sound-incidence h
+  degree-no-incidence (suc k) ws at m h =
+      degree-no-incidence k (drop size ws) (at + size) m (record-no-incidence size at (goodDegree (length (wordsAt es (getD ws 0 0))) (getD ws 3 0)) m _ h)
 
 -- ---- lists
 

@@ -9,47 +9,47 @@ use lib.Seq.{take-all}
 use borrow.Author.Tests.{ne-eqb}
 use Rattle.lists.specs.Choice.{_⇒_else_, _==_, within}
 use Rattle.lists.proofs.Bools.{tf, within-range}
-use Rattle.image.specs.Image.{edgeOffset, incidenceOffset, soundHeader, vertexCount, edgeCount, vertexPart, edgePart, incidencePart, part}
+use Rattle.image.specs.Image.{edgeSize, edgeOffset, incidenceOffset, recordSize, soundHeader, vertexCount, edgeCount, vertexPart, edgePart, incidencePart, part}
 use Rattle.image.specs.Parts.{hasPart, partBound, partStart, partEnd}
-use Rattle.image.proofs.Headers.{header-words, sound-length}
+use Rattle.image.proofs.Headers.{HeaderWords, header-words}
 
 module _ (ws : List ℕ) (h : soundHeader ws ≡ true) where
   -- each part by its number
-  pub part-1 : part 1 ws ≡ vertexPart ws
+  pub part-1 : part 1 ws ≡ vertexPart (recordSize ws) ws
   unfolding part
   part-1 = rw h
 
-  pub part-2 : part 2 ws ≡ edgePart ws
+  pub part-2 : part 2 ws ≡ edgePart (recordSize ws) ws
   unfolding part
   part-2 = rw h
 
-  pub part-3 : part 3 ws ≡ incidencePart ws
+  pub part-3 : part 3 ws ≡ incidencePart (recordSize ws) ws
   unfolding part
   part-3 = rw h
 
   -- each part between two words of the header
-  cut-1 : take (getD ws 3 0 - getD ws 2 0) (drop (getD ws 2 0) ws) ≡ vertexPart ws
+  w : HeaderWords (recordSize ws) ws
+  w = header-words ws h
+
+  cut-1 : take (getD ws 3 0 - getD ws 2 0) (drop (getD ws 2 0) ws) ≡ vertexPart (recordSize ws) ws
   cut-1 =
-      let w = header-words ws h in
-      let f : edgeOffset (vertexCount ws) - 6 ≡ 3 * vertexCount ws = omega arith in
+      let f : edgeOffset (recordSize ws) (vertexCount ws) - 6 ≡ recordSize ws * vertexCount ws = omega arith in
       rw (w .first, w .second, f)
 
-  cut-2 : take (getD ws 4 0 - getD ws 3 0) (drop (getD ws 3 0) ws) ≡ edgePart ws
+  cut-2 : take (getD ws 4 0 - getD ws 3 0) (drop (getD ws 3 0) ws) ≡ edgePart (recordSize ws) ws
   cut-2 =
-      let w = header-words ws h in
-      let f : incidenceOffset (vertexCount ws) (edgeCount ws) - edgeOffset (vertexCount ws) ≡ 6 * edgeCount ws = omega arith in
+      let f : incidenceOffset (recordSize ws) (vertexCount ws) (edgeCount ws) - edgeOffset (recordSize ws) (vertexCount ws) ≡ edgeSize * edgeCount ws = omega arith in
       rw (w .second, w .third, f)
 
-  cut-3 : take (getD ws 5 0 - getD ws 4 0) (drop (getD ws 4 0) ws) ≡ incidencePart ws
+  cut-3 : take (getD ws 5 0 - getD ws 4 0) (drop (getD ws 4 0) ws) ≡ incidencePart (recordSize ws) ws
   cut-3 =
-      let w = header-words ws h in
-      take-all (getD ws 5 0 - getD ws 4 0) (drop (getD ws 4 0) ws) (omega (arith, length-drop (getD ws 4 0) ws, w .total, sound-length ws h)) ∙ rw (w .third)
+      take-all (getD ws 5 0 - getD ws 4 0) (drop (getD ws 4 0) ws) (omega (arith, length-drop (getD ws 4 0) ws, w .total, w .long)) ∙ rw (w .third)
 
   ends-in : (k : ℕ) → 1 ≤ k → k ≤ 3 → (getD ws (k + 1) 0 ≤ getD ws (k + 2) 0) × (getD ws (k + 2) 0 ≤ length ws)
   ends-in zero l m = absurd (omega arith)
-  ends-in (suc zero) l m = let w = header-words ws h in (omega (arith, w .first, w .second), omega (arith, w .second, sound-length ws h))
-  ends-in (suc (suc zero)) l m = let w = header-words ws h in (omega (arith, w .second, w .third), omega (arith, w .third, sound-length ws h))
-  ends-in (suc (suc (suc zero))) l m = let w = header-words ws h in (omega (arith, w .third, w .total), omega (arith, w .total, sound-length ws h))
+  ends-in (suc zero) l m = (omega (arith, w .first, w .second), omega (arith, w .second, w .long))
+  ends-in (suc (suc zero)) l m = (omega (arith, w .second, w .third), omega (arith, w .third, w .long))
+  ends-in (suc (suc (suc zero))) l m = (omega (arith, w .third, w .total), omega (arith, w .total, w .long))
   ends-in (suc (suc (suc (suc k)))) l m = absurd (omega arith)
 
 -- a part's ends are in order and within the words
@@ -69,7 +69,7 @@ unfolding partBound part
 part-cut k ws = go (soundHeader ws) (within 1 3 k) refl refl
   where
     numbered : (e : soundHeader ws ≡ true) → (n : ℕ) → 1 ≤ n → n ≤ 3 →
-        take (getD ws (n + 2) 0 - getD ws (n + 1) 0) (drop (getD ws (n + 1) 0) ws) ≡ ((n == 1) ⇒ vertexPart ws else (n == 2) ⇒ edgePart ws else (n == 3) ⇒ incidencePart ws else [])
+        take (getD ws (n + 2) 0 - getD ws (n + 1) 0) (drop (getD ws (n + 1) 0) ws) ≡ ((n == 1) ⇒ vertexPart (recordSize ws) ws else (n == 2) ⇒ edgePart (recordSize ws) ws else (n == 3) ⇒ incidencePart (recordSize ws) ws else [])
     numbered e zero l m = absurd (omega arith)
     numbered e (suc zero) l m = cut-1 ws e
     numbered e (suc (suc zero)) l m = cut-2 ws e
@@ -78,7 +78,7 @@ part-cut k ws = go (soundHeader ws) (within 1 3 k) refl refl
 
     go : (s t : Bool) → soundHeader ws ≡ s → within 1 3 k ≡ t →
         take ((s && t ⇒ getD ws (k + 2) 0 else 0) - (s && t ⇒ getD ws (k + 1) 0 else 0)) (drop (s && t ⇒ getD ws (k + 1) 0 else 0) ws)
-        ≡ (not s ⇒ [] else (k == 1) ⇒ vertexPart ws else (k == 2) ⇒ edgePart ws else (k == 3) ⇒ incidencePart ws else [])
+        ≡ (not s ⇒ [] else (k == 1) ⇒ vertexPart (recordSize ws) ws else (k == 2) ⇒ edgePart (recordSize ws) ws else (k == 3) ⇒ incidencePart (recordSize ws) ws else [])
     go true true e f = let r = within-range 1 3 k f in numbered e k (r .0) (r .1)
     go true false e f =
         let other : (n : ℕ) → within 1 3 n ≡ true → k ≡ n → ⊥ = λ n y q. tf (sym y ∙ ap (within 1 3) (sym q) ∙ f) in

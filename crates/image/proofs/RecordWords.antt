@@ -4,7 +4,7 @@ use mathlib.Core.Path.{_≡_, refl, ap₂}
 use mathlib.Core.Bool.{true}
 use mathlib.Core.List.{List, [], _∷_}
 use native.Mathlib.Omega.{arith}
-use lib.ListN.{length}
+use lib.ListN.{length, length-append}
 use lib.Seq.{take-at, drop-at}
 use borrow.Author.Tests.{eqb-true, eq-eqb}
 use Rattle.lists.specs.Choice.{_==_}
@@ -12,8 +12,9 @@ use Rattle.lists.specs.Lists.{each, same}
 use Rattle.lists.proofs.Bools.{ft, and-true, and-both}
 use Rattle.graph.specs.Graph.{Vertex, Edge}
 use Rattle.graph.specs.WellFormed.{wordsAt}
-use Rattle.image.specs.Image.{vertexSize, vertexRecord, edgeSize, edgeRecord, incidencesOf, edgesFrom, verticesFrom}
+use Rattle.image.specs.Image.{vertexRecord, edgeSize, edgeRecord, incidencesOf, edgesFrom, verticesFrom}
 use Rattle.graph.proofs.Readings.{reading-back}
+use Rattle.image.proofs.Sizes.{Size, degree-length}
 
 pub same-eq : (xs ys : List ℕ) → same xs ys ≡ true → xs ≡ ys
 same-eq [] [] e = refl
@@ -27,9 +28,13 @@ pub same-refl : (xs : List ℕ) → same xs xs ≡ true
 same-refl [] = refl
 same-refl (x ∷ xs) = and-both (x == x) (same xs xs) (eq-eqb x x refl) (same-refl xs)
 
-pub vertices-length : (vs : List Vertex) → length (each vertexRecord vs) ≡ vertexSize * length vs
-vertices-length [] = refl
-vertices-length (v ∷ vs) = omega (arith, vertices-length vs)
+pub record-length : (size : ℕ) → Size size → (v : Vertex) → length (vertexRecord size v) ≡ size
+record-length size z v = omega (arith, degree-length size z (length (v .incidences)))
+
+pub vertices-length : (size : ℕ) → Size size → (vs : List Vertex) → length (each (vertexRecord size) vs) ≡ size * length vs
+vertices-length size z [] = omega arith
+vertices-length size z (v ∷ vs) =
+    omega (arith, length-append (vertexRecord size v) (each (vertexRecord size) vs), record-length size z v, vertices-length size z vs)
 
 pub edges-length : (es : List Edge) → length (each edgeRecord es) ≡ edgeSize * length es
 edges-length [] = refl
@@ -48,8 +53,14 @@ unfoldable pub Fits : List Edge → List Vertex → Type 0
 Fits es [] = Unit {0}
 Fits es (v ∷ vs) = (length (v .incidences) ≡ length (wordsAt es (v .number))) × Fits es vs
 
-pub vertices-back : (es : List Edge) (vs : List Vertex) → Fits es vs → verticesFrom vertexSize es (length vs) (each vertexRecord vs) (each incidencesOf vs) ≡ vs
+pub vertices-back : (size : ℕ) → Size size → (es : List Edge) (vs : List Vertex) → Fits es vs →
+    verticesFrom size es (length vs) (each (vertexRecord size) vs) (each incidencesOf vs) ≡ vs
 unfolding verticesFrom Fits
-vertices-back es [] f = refl
-vertices-back es (v ∷ vs) f =
-    rw (take-at (v .incidences) (each incidencesOf vs) _ (f .0), drop-at (v .incidences) (each incidencesOf vs) _ (f .0), vertices-back es vs (f .1))
+vertices-back size z es [] f = refl
+vertices-back size z es (v ∷ vs) f =
+    rw (
+      drop-at (vertexRecord size v) (each (vertexRecord size) vs) size (record-length size z v),
+      take-at (v .incidences) (each incidencesOf vs) _ (f .0),
+      drop-at (v .incidences) (each incidencesOf vs) _ (f .0),
+      vertices-back size z es vs (f .1),
+    )

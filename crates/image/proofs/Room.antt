@@ -1,4 +1,4 @@
--- Code 106: what a graph within the capacities saves as has room in 6 + 3 × vertices + 8 × edges words.
+-- Code 106: what a graph within the capacities saves as has room in 6 + 4 × vertices + 8 × edges words.
 use Prim.Native.Nat.{ℕ, suc, _+_, _≤_}
 use mathlib.Core.Path.{_≡_, refl, ap}
 use mathlib.Core.Bool.{Bool, true, false}

@@ -6,7 +6,7 @@ use mathlib.Core.Bool.{Bool, true, false, not, _||_}
 use mathlib.Core.List.{List, [], _∷_, _++_, map}
 use native.Mathlib.Omega.{arith}
 use lib.Dec.{leb}
-use lib.ListN.{length}
+use lib.ListN.{length, drop}
 use lib.Seq.{drop-at}
 use borrow.Author.Tests.{eq-eqb, eqb-true, le-ltb, le-leb, not-true}
 use Rattle.lists.specs.Choice.{_==_, _⇒_else_}
@@ -18,16 +18,18 @@ use Rattle.graph.specs.declared.Reading.{Reading}
 use Rattle.graph.specs.declared.Reading.the-variants.{Untested, Silent, Heard}
 use Rattle.graph.specs.Graph.{Vertex, Edge, Graph, vn, en, wd, isVertex, hasVertex, readingKind}
 use Rattle.graph.specs.WellFormed.{Bounds, wordsAt, soundVertex, soundEdge, wellFormed}
-use Rattle.image.specs.Image.{vertexSize, vertexRecord, edgeRecord, incidencesOf, vertexOffset, edgeOffset, incidenceOffset, save, loadable}
-use Rattle.image.specs.Checks.{goodVertex, goodEdge, vertexWalk, numbersIn, edgeWalk, goodList, listWalk, soundCounts, verdict}
+use Rattle.image.specs.Image.{vertexRecord, edgeRecord, incidencesOf, vertexOffset, edgeOffset, incidenceOffset, saveAs, vertexCount, edgeCount, recordSize, load, loadable}
+use Rattle.image.specs.Checks.{goodVertex, goodEdge, vertexWalk, numbersIn, edgeWalk, degreeWalk, goodList, listWalk, soundCounts, partsVerdict, verdict}
 use Rattle.image.specs.declared.Verdict.the-variants.{Sound}
+use Rattle.image.proofs.Sizes.{Size, record-size}
 use Rattle.image.proofs.Formed.{Formed, formed, vertex-facts, edge-facts}
-use Rattle.image.proofs.RecordWords.{edges-back}
-use Rattle.image.proofs.Ends.{has-number}
-use Rattle.image.proofs.Loads.{vertex-words, edge-words, incidence-words, header-sound, loads}
+use Rattle.image.proofs.RecordWords.{record-length, edges-back, Fits}
+use Rattle.image.proofs.Ends.{has-number, sound-fits}
+use Rattle.image.proofs.Loads.{vertex-words, edge-words, incidence-words, loaded}
 use Rattle.image.proofs.Counts.{self-one, rem-count, rem-length}
 use Rattle.image.proofs.Room.{few-vertices, few-edges}
 use Rattle.image.proofs.VertexPass.{has-self}
+use Rattle.image.proofs.DegreePass.{degree-whole}
 use Rattle.image.proofs.SoundLoads.{sound-loads}
 
 -- later numbers are not seen, once n is
@@ -40,21 +42,36 @@ later n seen ns f k m h = go (n == m) refl
 
 -- ---- vertices
 
-vertices-walk : (b : Bounds) (g : Graph) (seen : List ℕ) (vs : List Vertex) (at : ℕ) → all (soundVertex b g) vs ≡ true → distinct (map vn vs) ≡ true →
-    ((m : ℕ) → has m (map vn vs) ≡ true → has m seen ≡ false) → vertexWalk vertexSize (b .vertices) (b .types) seen (length vs) (each vertexRecord vs) at ≡ Sound
-unfolding vertexWalk goodVertex
-vertices-walk b g seen [] at h d k = refl
-vertices-walk b g seen (v ∷ vs) at h d k =
-    let a = and-true (soundVertex b g v) (all (soundVertex b g) vs) h in
-    let f = vertex-facts b g v (a .0) in
-    let e = and-true (not (has (v .number) (map vn vs))) (distinct (map vn vs)) d in
-    rw (f .number, f .type, f .value, k (v .number) (has-self (v .number) (map vn vs)))
-    (vertices-walk b g (v .number ∷ seen) vs (at + 3) (a .1) (e .1) (later (v .number) seen (map vn vs) (not-true (has (v .number) (map vn vs)) (e .0)) k))
+module _ (size : ℕ) (z : Size size) where
+  behind : (v : Vertex) (vs : List Vertex) → drop size (vertexRecord size v ++ each (vertexRecord size) vs) ≡ each (vertexRecord size) vs
+  behind v vs = drop-at (vertexRecord size v) (each (vertexRecord size) vs) size (record-length size z v)
 
-numbers-each : (vs : List Vertex) → numbersIn vertexSize (length vs) (each vertexRecord vs) ≡ map vn vs
-unfolding numbersIn
-numbers-each [] = refl
-numbers-each (v ∷ vs) = ap (λ (l : List ℕ). v .number ∷ l) (numbers-each vs)
+  vertices-walk : (b : Bounds) (g : Graph) (seen : List ℕ) (vs : List Vertex) (at : ℕ) → all (soundVertex b g) vs ≡ true → distinct (map vn vs) ≡ true →
+      ((m : ℕ) → has m (map vn vs) ≡ true → has m seen ≡ false) → vertexWalk size (b .vertices) (b .types) seen (length vs) (each (vertexRecord size) vs) at ≡ Sound
+  unfolding vertexWalk goodVertex
+  vertices-walk b g seen [] at h d k = refl
+  vertices-walk b g seen (v ∷ vs) at h d k =
+      let a = and-true (soundVertex b g v) (all (soundVertex b g) vs) h in
+      let f = vertex-facts b g v (a .0) in
+      let e = and-true (not (has (v .number) (map vn vs))) (distinct (map vn vs)) d in
+      rw (f .number, f .type, f .value, k (v .number) (has-self (v .number) (map vn vs)), behind v vs)
+      (vertices-walk b g (v .number ∷ seen) vs (at + size) (a .1) (e .1) (later (v .number) seen (map vn vs) (not-true (has (v .number) (map vn vs)) (e .0)) k))
+
+  numbers-each : (vs : List Vertex) → numbersIn size (length vs) (each (vertexRecord size) vs) ≡ map vn vs
+  unfolding numbersIn
+  numbers-each [] = refl
+  numbers-each (v ∷ vs) = rw (behind v vs) (ap (λ (l : List ℕ). v .number ∷ l) (numbers-each vs))
+
+  -- each degree is the length of its list, and so the ends of its vertex
+  degrees-walk : (es : List Edge) (vs : List Vertex) (at : ℕ) → Fits es vs → degreeWalk size es (length vs) (each (vertexRecord size) vs) at ≡ Sound
+  unfolding degreeWalk Fits
+  degrees-walk es [] at f = refl
+  degrees-walk es (v ∷ vs) at f =
+      rw (
+        le-ltb _ size (degree-whole size z (v .number) (v .type) (v .value) (length (wordsAt es (v .number))) (length (v .incidences)) (each (vertexRecord size) vs) (f .0)),
+        behind v vs,
+      )
+      (degrees-walk es vs (at + size) (f .1))
 
 -- ---- edges
 
@@ -115,15 +132,6 @@ module _ (b : Bounds) (g : Graph) (h : wellFormed b g ≡ true) where
   p : Formed b g
   p = formed b g h
 
-  first : vertexWalk vertexSize (b .vertices) (b .types) [] (length (g .vseq)) (each vertexRecord (g .vseq)) vertexOffset ≡ Sound
-  first = vertices-walk b g [] (g .vseq) vertexOffset (p .vertices-sound) (p .vertex-numbers) (λ m e. refl)
-
-  second : (at : ℕ) → edgeWalk (b .edges) (b .types) (map vn (g .vseq)) [] (length (g .eseq)) (each edgeRecord (g .eseq)) at ≡ Sound
-  second at = edges-walk b g (map vn (g .vseq)) [] (g .eseq) at (λ m. has-number m (g .vseq)) (p .edges-sound) (p .edge-numbers) (λ m e. refl)
-
-  third : (at : ℕ) → listWalk (g .eseq) (map vn (g .vseq)) (each incidencesOf (g .vseq)) at ≡ Sound
-  third at = lists-walk b g (g .vseq) at (p .vertices-sound)
-
   counted : soundCounts (b .vertices) (b .edges) (length (g .vseq)) (length (g .eseq)) ≡ true
   unfolding soundCounts
   counted =
@@ -134,14 +142,38 @@ module _ (b : Bounds) (g : Graph) (h : wellFormed b g ≡ true) where
       go true e = eq-eqb (length (g .eseq)) 0 (no-edges b g (eqb-true (length (g .vseq)) 0 e) (p .edges-sound))
       go false e = refl
 
-  saved-sound : verdict b (save g) ≡ Sound
-  unfolding verdict save
-  saved-sound =
-      rw (header-sound b g h, counted, vertex-words g, edge-words g, incidence-words g, numbers-each (g .vseq), edges-back (g .eseq), first)
-      (rw (second (edgeOffset (length (g .vseq)))) (third (incidenceOffset (length (g .vseq)) (length (g .eseq)))))
+  module _ (size : ℕ) (z : Size size) where
+    first : vertexWalk size (b .vertices) (b .types) [] (length (g .vseq)) (each (vertexRecord size) (g .vseq)) vertexOffset ≡ Sound
+    first = vertices-walk size z b g [] (g .vseq) vertexOffset (p .vertices-sound) (p .vertex-numbers) (λ m e. refl)
+
+    second : (at : ℕ) → edgeWalk (b .edges) (b .types) (map vn (g .vseq)) [] (length (g .eseq)) (each edgeRecord (g .eseq)) at ≡ Sound
+    second at = edges-walk b g (map vn (g .vseq)) [] (g .eseq) at (λ m. has-number m (g .vseq)) (p .edges-sound) (p .edge-numbers) (λ m e. refl)
+
+    third : degreeWalk size (g .eseq) (length (g .vseq)) (each (vertexRecord size) (g .vseq)) vertexOffset ≡ Sound
+    third = degrees-walk size z (g .eseq) (g .vseq) vertexOffset (sound-fits b g (g .vseq) (p .vertices-sound))
+
+    fourth : (at : ℕ) → listWalk (g .eseq) (map vn (g .vseq)) (each incidencesOf (g .vseq)) at ≡ Sound
+    fourth at = lists-walk b g (g .vseq) at (p .vertices-sound)
+
+    -- all four walks over saved words
+    saved-sound : (soundCounts (b .vertices) (b .edges) (vertexCount (saveAs size g)) (edgeCount (saveAs size g)) ≡ true) × (partsVerdict size b (saveAs size g) ≡ Sound)
+    unfolding saveAs
+    saved-sound = (
+      counted,
+      rw (vertex-words size z g, edge-words size z g, incidence-words size z g, numbers-each size z (g .vseq), edges-back (g .eseq), first)
+          (rw (second (edgeOffset size (length (g .vseq)))) (rw third (fourth (incidenceOffset size (length (g .vseq)) (length (g .eseq)))))),
+    )
 
 pub loads-sound : (b : Bounds) (ws : List ℕ) → loadable b ws ≡ true → verdict b ws ≡ Sound
-loads-sound b ws h = let s = loads b ws .0 h in subst (λ (l : List ℕ). verdict b l ≡ Sound) (s .2) (saved-sound b (s .0) (s .1))
+unfolding verdict
+loads-sound b ws h =
+    let l = loaded b ws h in
+    let s = saved-sound b (load ws) (l .formed) (recordSize ws) (record-size ws) in
+    rw (
+      l .header,
+      subst (λ (us : List ℕ). soundCounts (b .vertices) (b .edges) (vertexCount us) (edgeCount us) ≡ true) (l .again) (s .0),
+    )
+    (subst (λ (us : List ℕ). partsVerdict (recordSize ws) b us ≡ Sound) (l .again) (s .1))
 
 -- a verdict is sound for exactly the words that load
 pub sound-exactly : (b : Bounds) (ws : List ℕ) → (verdict b ws ≡ Sound) ↔ (loadable b ws ≡ true)

@@ -1,6 +1,6 @@
--- The three passes over scratch of zeros are the verdict.
-use Prim.Native.Nat.{ℕ, zero, suc, _+_, _*_, _≤_, _<_}
-use mathlib.Core.Path.{_≡_, refl, sym, ap, _∙_, subst}
+-- The four passes over scratch of zeros are the verdict.
+use Prim.Native.Nat.{ℕ, zero, suc, _+_, _*_, _-_, _≤_, _<_}
+use mathlib.Core.Path.{_≡_, refl, sym, ap, ap₂, _∙_, subst}
 use mathlib.Core.Bool.{true, false}
 use mathlib.Core.List.{List, [], _∷_}
 use native.Mathlib.Omega.{arith}
@@ -10,10 +10,10 @@ use lib.ListN.{length, getD, drop, replicate, length-drop, length-replicate}
 use borrow.Author.Tests.{eq-eqb, ne-eqb}
 use Rattle.lists.specs.Choice.{_==_, bit}
 use Rattle.lists.specs.Lists.{has}
-use Rattle.graph.specs.WellFormed.{Bounds}
-use Rattle.image.specs.Image.{vertexSize, vertexOffset, edgeOffset, incidenceOffset, soundHeader, vertexCount, edgeCount, part, edgesFrom}
-use Rattle.image.specs.Checks.{bounds, vertexWalk, numbersIn, edgeWalk, listWalk, soundCounts, andThen, verdict}
-use Rattle.image.specs.Scratch.{vertexRun, vertexMarks, edgeRun, edgeDegrees, edgeOwners, incidenceRun, scratchRun}
+use Rattle.graph.specs.WellFormed.{Bounds, wordsAt}
+use Rattle.image.specs.Image.{vertexOffset, edgeOffset, incidenceOffset, recordSize, soundHeader, vertexCount, edgeCount, part, edgesFrom}
+use Rattle.image.specs.Checks.{bounds, vertexWalk, numbersIn, edgeWalk, degreeWalk, listWalk, soundCounts, andThen, verdict}
+use Rattle.image.specs.Scratch.{vertexRun, vertexMarks, edgeRun, edgeDegrees, edgeOwners, degreeRun, incidenceRun, scratchRun}
 use Rattle.image.specs.declared.Verdict.{Verdict}
 use Rattle.image.specs.declared.Verdict.the-variants.{Sound, BadHeader}
 use Rattle.image.proofs.Verdict.{the-type}
@@ -23,6 +23,7 @@ use Rattle.image.proofs.Parts.{part-1, part-2, part-3}
 use Rattle.image.proofs.VertexPass.{Small, small-take, small-drop, Indicator, vertex-agrees, marks-agree, walk-distinct, walk-positive}
 use Rattle.image.proofs.EdgePass.{Marked, Seen, Paired, marked-by, edge-agrees, degrees-agree, owners-agree}
 use Rattle.image.proofs.ListPass.{positive, incidence-agrees}
+use Rattle.image.proofs.DegreePass.{degree-agrees}
 
 zeros : (n i : ℕ) → _≡_ {A = ℕ} (getD (replicate n 0) i 0) 0
 zeros zero i = refl
@@ -31,21 +32,22 @@ zeros (suc n) (suc i) = zeros n i
 
 module _ (deg own : List ℕ) (deg-zero : (i : ℕ) → getD deg i 0 ≡ 0) (own-zero : (i : ℕ) → getD own i 0 ≡ 0)
     (b : Bounds) (deg-room : b .vertices < length deg) (own-room : 2 * b .edges + 1 < length own) where
-  scratch-agrees : (v e : ℕ) (vs es is : List ℕ) → Small vs →
-      scratchRun deg own b v e vs es is
-      ≡ andThen (vertexWalk vertexSize (b .vertices) (b .types) [] v vs vertexOffset)
-      (andThen (edgeWalk (b .edges) (b .types) (numbersIn vertexSize v vs) [] e es (edgeOffset v))
-      (listWalk (edgesFrom e es) (numbersIn vertexSize v vs) is (incidenceOffset v e)))
+  scratch-agrees : (size v e : ℕ) (vs es is : List ℕ) → Small vs →
+      scratchRun deg own b size v e vs es is
+      ≡ andThen (vertexWalk size (b .vertices) (b .types) [] v vs vertexOffset)
+      (andThen (edgeWalk (b .edges) (b .types) (numbersIn size v vs) [] e es (edgeOffset size v))
+      (andThen (degreeWalk size (edgesFrom e es) v vs vertexOffset)
+      (listWalk (edgesFrom e es) (numbersIn size v vs) is (incidenceOffset size v e))))
   unfolding scratchRun
-  scratch-agrees v e vs es is small =
-      rw (vertex-agrees vertexSize (b .vertices) (b .types) deg [] v vs vertexOffset deg-room deg-zero small)
-      (then-same (vertexWalk vertexSize (b .vertices) (b .types) [] v vs vertexOffset) _ _ after-vertices)
+  scratch-agrees size v e vs es is small =
+      rw (vertex-agrees size (b .vertices) (b .types) deg [] v vs vertexOffset deg-room deg-zero small)
+      (then-same (vertexWalk size (b .vertices) (b .types) [] v vs vertexOffset) _ _ after-vertices)
     where
       numbers : List ℕ
-      numbers = numbersIn vertexSize v vs
+      numbers = numbersIn size v vs
 
       marks : List ℕ
-      marks = vertexMarks vertexSize deg v vs
+      marks = vertexMarks size deg v vs
 
       seen0 : Seen [] own
       seen0 n = eq-eqb (getD own (2 * n) 0) 0 (own-zero (2 * n))
@@ -53,50 +55,63 @@ module _ (deg own : List ℕ) (deg-zero : (i : ℕ) → getD deg i 0 ≡ 0) (own
       paired0 : Paired own
       paired0 n e = own-zero (2 * n + 1)
 
-      after-vertices : vertexWalk vertexSize (b .vertices) (b .types) [] v vs vertexOffset ≡ Sound →
-          andThen (edgeRun (b .edges) (b .types) marks own e es (edgeOffset v)) (incidenceRun vertexSize (edgeDegrees marks e es) (edgeOwners own e es) v vs is (incidenceOffset v e))
-          ≡ andThen (edgeWalk (b .edges) (b .types) numbers [] e es (edgeOffset v)) (listWalk (edgesFrom e es) numbers is (incidenceOffset v e))
+      after-vertices : vertexWalk size (b .vertices) (b .types) [] v vs vertexOffset ≡ Sound →
+          andThen (edgeRun (b .edges) (b .types) marks own e es (edgeOffset size v))
+          (andThen (degreeRun size (edgeDegrees marks e es) v vs vertexOffset) (incidenceRun size (edgeDegrees marks e es) (edgeOwners own e es) v vs is (incidenceOffset size v e)))
+          ≡ andThen (edgeWalk (b .edges) (b .types) numbers [] e es (edgeOffset size v))
+          (andThen (degreeWalk size (edgesFrom e es) v vs vertexOffset) (listWalk (edgesFrom e es) numbers is (incidenceOffset size v e)))
       after-vertices s =
-          rw (edge-agrees (b .edges) (b .types) numbers nz marks own [] e es (edgeOffset v) own-room marked seen0)
-          (then-same (edgeWalk (b .edges) (b .types) numbers [] e es (edgeOffset v)) _ _ λ q.
-          incidence-agrees vertexSize (edgesFrom e es) (edgeDegrees marks e es) (edgeOwners own e es) v vs is (incidenceOffset v e)
-          (λ n h.
-          let m : getD marks n 0 ≡ 1 = indicator n ∙ ap bit h in
-          omega (arith, m, degrees-agree (b .edges) (b .types) numbers nz marks [] e es (edgeOffset v) marked q n))
+          rw (edge-agrees (b .edges) (b .types) numbers nz marks own [] e es (edgeOffset size v) own-room marked seen0)
+          (then-same (edgeWalk (b .edges) (b .types) numbers [] e es (edgeOffset size v)) _ _ λ q.
+          ap₂ andThen (degree-agrees size (edgesFrom e es) (edgeDegrees marks e es) v vs vertexOffset (counted q))
+          (incidence-agrees size (edgesFrom e es) (edgeDegrees marks e es) (edgeOwners own e es) v vs is (incidenceOffset size v e)
+          (counted q)
           (λ n h w.
           let p = positive n numbers nz h in
           let z : (0 == n) ≡ false = ne-eqb 0 n (λ r. omega arith) in
           let y : bit (getD own w 0 == n) ≡ 0 = rw (own-zero w, z) in
-          omega (arith, y, owners-agree (b .edges) (b .types) numbers nz own [] e es (edgeOffset v) own-room seen0 paired0 q n p w))
+          omega (arith, y, owners-agree (b .edges) (b .types) numbers nz own [] e es (edgeOffset size v) own-room seen0 paired0 q n p w))
           nz
-          (walk-distinct vertexSize (b .vertices) (b .types) [] v vs vertexOffset s))
+          (walk-distinct size (b .vertices) (b .types) [] v vs vertexOffset s)))
         where
           nz : has 0 numbers ≡ false
-          nz = walk-positive vertexSize (b .vertices) (b .types) [] v vs vertexOffset s
+          nz = walk-positive size (b .vertices) (b .types) [] v vs vertexOffset s
 
           indicator : Indicator numbers marks
-          indicator = marks-agree vertexSize (b .vertices) (b .types) deg [] v vs vertexOffset deg-room deg-zero s
+          indicator = marks-agree size (b .vertices) (b .types) deg [] v vs vertexOffset deg-room deg-zero s
 
           marked : Marked numbers marks
           marked = marked-by numbers marks indicator
 
+          -- deg has 1 more than the ends of each vertex
+          counted : edgeWalk (b .edges) (b .types) numbers [] e es (edgeOffset size v) ≡ Sound →
+              (n : ℕ) → has n numbers ≡ true → getD (edgeDegrees marks e es) n 0 - 1 ≡ length (wordsAt (edgesFrom e es) n)
+          counted q n h =
+              let m : getD marks n 0 ≡ 1 = indicator n ∙ ap bit h in
+              omega (arith, m, degrees-agree (b .edges) (b .types) numbers nz marks [] e es (edgeOffset size v) marked q n)
+
 -- ---- the passes one by one
 
-module _ (deg own : List ℕ) (b : Bounds) (v e : ℕ) (vs es is : List ℕ) (r : Verdict) (first-pass : r ≡ vertexRun vertexSize (b .vertices) (b .types) deg v vs vertexOffset) where
-  pub pass-1 : OneOf (1 ∷ 2 ∷ 3 ∷ []) (tagOf the-type r) → r ≡ scratchRun deg own b v e vs es is
+module _ (deg own : List ℕ) (b : Bounds) (size v e : ℕ) (vs es is : List ℕ) (r : Verdict) (first-pass : r ≡ vertexRun size (b .vertices) (b .types) deg v vs vertexOffset) where
+  pub pass-1 : OneOf (1 ∷ 2 ∷ 3 ∷ []) (tagOf the-type r) → r ≡ scratchRun deg own b size v e vs es is
   unfolding scratchRun
   pass-1 k = rw (← first-pass) (stop r _ k)
 
-  module _ (sound : r ≡ Sound) (d : List ℕ) (marks : d ≡ vertexMarks vertexSize deg v vs)
-      (q : Verdict) (second-pass : q ≡ edgeRun (b .edges) (b .types) d own e es (edgeOffset v)) where
-    pub pass-2 : OneOf (1 ∷ 2 ∷ 3 ∷ []) (tagOf the-type q) → q ≡ scratchRun deg own b v e vs es is
+  module _ (sound : r ≡ Sound) (d : List ℕ) (marks : d ≡ vertexMarks size deg v vs)
+      (q : Verdict) (second-pass : q ≡ edgeRun (b .edges) (b .types) d own e es (edgeOffset size v)) where
+    pub pass-2 : OneOf (1 ∷ 2 ∷ 3 ∷ []) (tagOf the-type q) → q ≡ scratchRun deg own b size v e vs es is
     unfolding scratchRun
     pass-2 k = rw (← first-pass, sound, ← marks, ← second-pass) (stop q _ k)
 
-    pub pass-3 : q ≡ Sound → (d′ o′ : List ℕ) → d′ ≡ edgeDegrees d e es → o′ ≡ edgeOwners own e es →
-        (z : Verdict) → z ≡ incidenceRun vertexSize d′ o′ v vs is (incidenceOffset v e) → z ≡ scratchRun deg own b v e vs es is
-    unfolding scratchRun
-    pass-3 t d′ o′ x y z g = rw (← first-pass, sound, ← marks, ← second-pass, t, ← x, ← y) g
+    module _ (sound′ : q ≡ Sound) (d′ : List ℕ) (degrees : d′ ≡ edgeDegrees d e es) (y : Verdict) (third-pass : y ≡ degreeRun size d′ v vs vertexOffset) where
+      pub pass-3 : OneOf (1 ∷ 2 ∷ 3 ∷ []) (tagOf the-type y) → y ≡ scratchRun deg own b size v e vs es is
+      unfolding scratchRun
+      pass-3 k = rw (← first-pass, sound, ← marks, ← second-pass, sound′, ← degrees, ← third-pass) (stop y _ k)
+
+      pub pass-4 : y ≡ Sound → (o′ : List ℕ) → o′ ≡ edgeOwners own e es →
+          (z : Verdict) → z ≡ incidenceRun size d′ o′ v vs is (incidenceOffset size v e) → z ≡ scratchRun deg own b size v e vs es is
+      unfolding scratchRun
+      pass-4 t o′ x z g = rw (← first-pass, sound, ← marks, ← second-pass, sound′, ← degrees, ← third-pass, t, ← x) g
 
 -- ---- what the check needs
 
@@ -109,15 +124,18 @@ module _ (ws : List ℕ) (h : soundHeader ws ≡ true) where
   unfolding verdict
   bad-counts b k = rw (h, k)
 
-  pub incidences-few : (v e : ℕ) → v ≡ vertexCount ws → e ≡ edgeCount ws → v ≤ 1000 → e ≤ 4000 → (is : List ℕ) → is ≡ part 3 ws → length is ≤ 100000
-  incidences-few v e hv he lv le is q =
-      omega (arith, sound-length ws h, ap length (q ∙ part-3 ws h), length-drop (incidenceOffset (vertexCount ws) (edgeCount ws)) ws)
+  pub incidences-few : (e : ℕ) → e ≡ edgeCount ws → e ≤ 4000 → (is : List ℕ) → is ≡ part 3 ws → length is ≤ 8000
+  incidences-few e he le is q =
+      omega (arith, sound-length ws h, ap length (q ∙ part-3 ws h), length-drop (incidenceOffset (recordSize ws) (vertexCount ws) (edgeCount ws)) ws)
 
-  pub verdict-by : Small ws → (vcap ecap types v e : ℕ) → vcap ≤ 1000 → ecap ≤ 4000 → v ≡ vertexCount ws → e ≡ edgeCount ws → soundCounts vcap ecap v e ≡ true →
-      (vs es is : List ℕ) → vs ≡ part 1 ws → es ≡ part 2 ws → is ≡ part 3 ws → (r : Verdict) →
-      r ≡ scratchRun (replicate 1001 0) (replicate 8002 0) (bounds vcap ecap types) v e vs es is → r ≡ verdict (bounds vcap ecap types) ws
+  pub verdict-by : Small ws → (vcap ecap types size v e : ℕ) → vcap ≤ 1000 → ecap ≤ 4000 → size ≡ recordSize ws → v ≡ vertexCount ws → e ≡ edgeCount ws →
+      soundCounts vcap ecap v e ≡ true → (vs es is : List ℕ) → vs ≡ part 1 ws → es ≡ part 2 ws → is ≡ part 3 ws → (r : Verdict) →
+      r ≡ scratchRun (replicate 1001 0) (replicate 8002 0) (bounds vcap ecap types) size v e vs es is → r ≡ verdict (bounds vcap ecap types) ws
   unfolding verdict
-  verdict-by m vcap ecap types v e lv le hv he k vs es is p q s r g =
+  verdict-by m vcap ecap types size v e lv le hs hv he k vs es is p q s r g =
       let k′ : soundCounts vcap ecap (vertexCount ws) (edgeCount ws) ≡ true = rw (hv, he) at k in
-      let t = scratch-agrees (replicate 1001 0) (replicate 8002 0) (zeros 1001) (zeros 8002) (bounds vcap ecap types) (rw length-replicate (omega arith)) (rw length-replicate (omega arith)) v e vs es is (subst (λ (l : List ℕ). Small l) (sym (p ∙ part-1 ws h)) (small-take (vertexSize * vertexCount ws) (drop vertexOffset ws) (small-drop vertexOffset ws m))) in
-      rw (h, k′) (rw (p ∙ part-1 ws h, q ∙ part-2 ws h, s ∙ part-3 ws h, hv, he) at (g ∙ t))
+      let n = recordSize ws in
+      let small : Small vs = subst (λ (l : List ℕ). Small l) (sym (p ∙ part-1 ws h)) (small-take (n * vertexCount ws) (drop vertexOffset ws) (small-drop vertexOffset ws m)) in
+      let t =
+      scratch-agrees (replicate 1001 0) (replicate 8002 0) (zeros 1001) (zeros 8002) (bounds vcap ecap types) (rw length-replicate (omega arith)) (rw length-replicate (omega arith)) size v e vs es is small in
+      rw (h, k′) (rw (p ∙ part-1 ws h, q ∙ part-2 ws h, s ∙ part-3 ws h, hs, hv, he) at (g ∙ t))

@@ -1,32 +1,33 @@
 -- Words with a sound verdict are loadable.
-use Prim.Native.Nat.{ℕ, zero, suc, _+_, _*_, _^_, _≤_}
-use mathlib.Core.Path.{_≡_, refl, sym, ap, _∙_, subst}
+use Prim.Native.Nat.{ℕ, zero, suc, _+_, _*_, _-_, _^_, _≤_}
+use mathlib.Core.Path.{_≡_, refl, sym, ap, ap₂, _∙_, subst}
 use mathlib.Core.Bool.{Bool, true, false, not, _&&_, _||_}
 use mathlib.Core.List.{List, [], _∷_, _++_, map}
 use native.Mathlib.Omega.{arith}
 use lib.Dec.{leb, ltb, eqb}
-use lib.ListN.{length, getD, take, drop, length-take, length-drop, take-append-drop}
-use lib.Seq.{drop-drop}
+use lib.ListN.{length, getD, take, drop, length-drop, take-append-drop}
+use lib.Seq.{drop-drop, length-take-le}
 use borrow.Author.Tests.{ne-eqb, eqb-true, eqb-false, leb-true, not-true}
 use Rattle.lists.specs.Choice.{_==_, _⇒_else_, bit, within}
-use Rattle.lists.specs.Lists.{all, has, count, distinct, same, each}
+use Rattle.lists.specs.Lists.{all, has, count, distinct, each}
 use Rattle.lists.specs.Keyed.{rem}
-use Rattle.lists.proofs.Bools.{tf, ft, and-true, and-both}
-use Rattle.lists.proofs.Sums.{has-count, Alike, alike-same}
+use Rattle.lists.proofs.Bools.{tf, ft, and-both}
+use Rattle.lists.proofs.Sums.{has-count, Alike, alike-same, alike-length}
 use Rattle.graph.specs.declared.Reading.the-variants.{Untested, Silent, Heard}
 use Rattle.graph.specs.Graph.{Edge, Graph, vn, en, wd, hasVertex, vertexNumbers, edgeNumbers, readingKind, decimetres, readingOf, isReading}
 use Rattle.graph.specs.WellFormed.{Bounds, wordsAt, sameWords, soundVertex, soundEdge, wellFormed}
-use Rattle.image.specs.Image.{vertexSize, vertexRecord, edgeSize, edgeRecord, incidencesOf, vertexOffset, edgeOffset, incidenceOffset, imageLength, headerOf, save, vertexCount, edgeCount, soundHeader, vertexPart, edgePart, incidencePart, edgesFrom, verticesFrom, load, loadable}
-use Rattle.image.specs.Checks.{vertexWalk, numbersIn, edgeWalk, goodList, listWalk, soundCounts, andThen, numbersOf, verdict}
-use Rattle.image.specs.declared.Verdict.{Verdict}
+use Rattle.image.specs.Image.{degreeWord, vertexRecord, edgeSize, edgeRecord, incidencesOf, vertexOffset, edgeOffset, incidenceOffset, saveAs, vertexCount, edgeCount, recordSize, soundHeader, vertexPart, edgePart, incidencePart, edgesFrom, verticesFrom, load, loadable}
+use Rattle.image.specs.Checks.{vertexWalk, numbersIn, edgeWalk, degreeWalk, goodList, listWalk, soundCounts, numbersOf, edgesOf, vertexVerdict, edgeVerdict, degreeVerdict, listVerdict, partsVerdict, verdict}
 use Rattle.image.specs.declared.Verdict.the-variants.{Sound, BadHeader}
-use Rattle.image.proofs.RecordWords.{same-eq, same-refl}
+use Rattle.image.proofs.Sizes.{Size, size-range, degree-cut, record-size}
+use Rattle.image.proofs.Loads.{saves-by, saves-loads}
 use Rattle.image.proofs.Ends.{has-number}
 use Rattle.image.proofs.Counts.{rem-count, rem-length}
-use Rattle.image.proofs.Headers.{sound-length}
+use Rattle.image.proofs.Headers.{sound-length, sound-front}
 use Rattle.image.proofs.Verdicts.{header-not, list-sound, ended-nil, then-sound}
 use Rattle.image.proofs.VertexPass.{has-self, vertex-step, walk-distinct}
 use Rattle.image.proofs.EdgePass.{edge-step}
+use Rattle.image.proofs.DegreePass.{degree-step}
 
 -- ---- one list
 
@@ -143,7 +144,7 @@ edges-sound b g vs seen (suc k) ws at s u =
 
 -- ---- the words again
 
-pub cut3 : (ws : List ℕ) (m : ℕ) → length ws ≡ 3 + m → getD ws 0 0 ∷ getD ws 1 0 ∷ getD ws 2 0 ∷ drop 3 ws ≡ ws
+cut3 : (ws : List ℕ) (m : ℕ) → length ws ≡ 3 + m → getD ws 0 0 ∷ getD ws 1 0 ∷ getD ws 2 0 ∷ drop 3 ws ≡ ws
 cut3 [] m e = absurd (omega arith)
 cut3 (a ∷ []) m e = absurd (omega arith)
 cut3 (a ∷ b ∷ []) m e = absurd (omega arith)
@@ -155,14 +156,30 @@ cut6 [] m e = absurd (omega arith)
 cut6 (a ∷ []) m e = absurd (omega arith)
 cut6 (a ∷ b ∷ []) m e = absurd (omega arith)
 
-vertices-again : (es : List Edge) (k : ℕ) (vs ws : List ℕ) → length vs ≡ vertexSize * k →
-    (each vertexRecord (verticesFrom vertexSize es k vs ws) ≡ vs) × (length (verticesFrom vertexSize es k vs ws) ≡ k)
-unfolding verticesFrom
-vertices-again es zero [] ws e = (refl, refl)
-vertices-again es zero (x ∷ vs) ws e = absurd (omega arith)
-vertices-again es (suc k) vs ws e =
-    let r = vertices-again es k (drop 3 vs) (drop (length (wordsAt es (getD vs 0 0))) ws) (omega (arith, length-drop 3 vs)) in
-    (ap (λ (l : List ℕ). getD vs 0 0 ∷ getD vs 1 0 ∷ getD vs 2 0 ∷ l) (r .0) ∙ cut3 vs (3 * k) (omega arith), ap suc (r .1))
+pub cut-vertex : (size : ℕ) → Size size → (ws : List ℕ) (m : ℕ) → length ws ≡ size + m →
+    getD ws 0 0 ∷ getD ws 1 0 ∷ getD ws 2 0 ∷ (degreeWord size (getD ws 3 0) ++ drop size ws) ≡ ws
+cut-vertex size z ws m e =
+    ap (λ (l : List ℕ). getD ws 0 0 ∷ getD ws 1 0 ∷ getD ws 2 0 ∷ l) (degree-cut size z ws m e)
+    ∙ cut3 ws (size - 3 + m) (omega (arith, size-range size z .0))
+
+-- where degrees and lists are sound, the records have their words again
+vertices-again : (size : ℕ) → Size size → (es : List Edge) (k : ℕ) (vs ws : List ℕ) (at to : ℕ) → degreeWalk size es k vs at ≡ Sound →
+    listWalk es (numbersIn size k vs) ws to ≡ Sound → length vs ≡ size * k →
+    (each (vertexRecord size) (verticesFrom size es k vs ws) ≡ vs) × (length (verticesFrom size es k vs ws) ≡ k)
+unfolding verticesFrom listWalk numbersIn
+vertices-again size z es zero [] ws at to s l e = (refl, refl)
+vertices-again size z es zero (x ∷ vs) ws at to s l e = absurd (omega arith)
+vertices-again size z es (suc k) vs ws at to s l e =
+    let n = getD vs 0 0 in
+    let wanted = wordsAt es n in
+    let d = length wanted in
+    let q = list-sound d to (goodList d wanted ws) (listWalk es (numbersIn size k (drop size vs)) (drop d ws) (to + d)) l in
+    let c = degree-step size z es k vs at s in
+    let r = vertices-again size z es k (drop size vs) (drop d ws) (at + size) (to + d) (c .1) (q .1) (omega (arith, length-drop size vs)) in
+    let t : length (take d ws) ≡ d = alike-length (take d ws) wanted (good-alike d wanted ws refl (q .0)) in (
+      ap (λ (l : List ℕ). n ∷ getD vs 1 0 ∷ getD vs 2 0 ∷ l) (ap₂ _++_ (ap (degreeWord size) t ∙ sym (c .0)) (r .0)) ∙ cut-vertex size z vs (size * k) (omega arith),
+      ap suc (r .1),
+    )
 
 edges-again : (cap types : ℕ) (vs seen : List ℕ) (k : ℕ) (ws : List ℕ) (at : ℕ) → edgeWalk cap types vs seen k ws at ≡ Sound → length ws ≡ edgeSize * k →
     (each edgeRecord (edgesFrom k ws) ≡ ws) × (length (edgesFrom k ws) ≡ k)
@@ -185,55 +202,65 @@ lists-again size es (suc k) vs ws at l =
     let q = list-sound d at (goodList d wanted ws) (listWalk es (numbersIn size k (drop size vs)) (drop d ws) (at + d)) l in
     ap (λ (z : List ℕ). take d ws ++ z) (lists-again size es k (drop size vs) (drop d ws) (at + d) (q .1)) ∙ take-append-drop d ws
 
-pub split-words : (ws : List ℕ) → take 6 ws ++ (vertexPart ws ++ (edgePart ws ++ incidencePart ws)) ≡ ws
-split-words ws =
+pub split-words : (size : ℕ) (ws : List ℕ) → take 6 ws ++ (vertexPart size ws ++ (edgePart size ws ++ incidencePart size ws)) ≡ ws
+split-words size ws =
     let v = vertexCount ws in
     let e = edgeCount ws in
-    let p : drop (vertexSize * v) (drop 6 ws) ≡ drop (edgeOffset v) ws = drop-drop (vertexSize * v) 6 ws in
-    let q : drop (edgeSize * e) (drop (edgeOffset v) ws) ≡ drop (incidenceOffset v e) ws = drop-drop (edgeSize * e) (edgeOffset v) ws in
-    let r : edgePart ws ++ incidencePart ws ≡ drop (edgeOffset v) ws = ap (λ (l : List ℕ). edgePart ws ++ l) (sym q) ∙ take-append-drop (edgeSize * e) (drop (edgeOffset v) ws) in
-    ap (λ (l : List ℕ). take 6 ws ++ (vertexPart ws ++ l)) (r ∙ sym p)
-    ∙ ap (λ (l : List ℕ). take 6 ws ++ l) (take-append-drop (vertexSize * v) (drop 6 ws))
+    let o = edgeOffset size v in
+    let p : drop (size * v) (drop 6 ws) ≡ drop o ws = drop-drop (size * v) 6 ws in
+    let q : drop (edgeSize * e) (drop o ws) ≡ drop (incidenceOffset size v e) ws = drop-drop (edgeSize * e) o ws in
+    let r : edgePart size ws ++ incidencePart size ws ≡ drop o ws = ap (λ (l : List ℕ). edgePart size ws ++ l) (sym q) ∙ take-append-drop (edgeSize * e) (drop o ws) in
+    ap (λ (l : List ℕ). take 6 ws ++ (vertexPart size ws ++ l)) (r ∙ sym p)
+    ∙ ap (λ (l : List ℕ). take 6 ws ++ l) (take-append-drop (size * v) (drop 6 ws))
     ∙ take-append-drop 6 ws
+
+-- the lengths of the parts of words with a sound header
+module _ (ws : List ℕ) (h : soundHeader ws ≡ true) where
+  pub long-vertices : length (vertexPart (recordSize ws) ws) ≡ recordSize ws * vertexCount ws
+  long-vertices = length-take-le (recordSize ws * vertexCount ws) (drop vertexOffset ws) (omega (arith, length-drop vertexOffset ws, sound-length ws h))
+
+  pub long-edges : length (edgePart (recordSize ws) ws) ≡ edgeSize * edgeCount ws
+  long-edges =
+      let o = edgeOffset (recordSize ws) (vertexCount ws) in
+      length-take-le (edgeSize * edgeCount ws) (drop o ws) (omega (arith, length-drop o ws, sound-length ws h))
 
 -- ---- the parts of a sound verdict
 
 pub record Sounds (b : Bounds) (ws : List ℕ) : Type 0 where
   pub header : soundHeader ws ≡ true
-  pub vertices : vertexWalk vertexSize (b .vertices) (b .types) [] (vertexCount ws) (vertexPart ws) vertexOffset ≡ Sound
-  pub edges : edgeWalk (b .edges) (b .types) (numbersOf ws) [] (edgeCount ws) (edgePart ws) (edgeOffset (vertexCount ws)) ≡ Sound
-  pub lists : listWalk (edgesFrom (edgeCount ws) (edgePart ws)) (numbersOf ws) (incidencePart ws) (incidenceOffset (vertexCount ws) (edgeCount ws)) ≡ Sound
+  pub vertices : vertexVerdict (recordSize ws) b ws ≡ Sound
+  pub edges : edgeVerdict (recordSize ws) b ws ≡ Sound
+  pub degrees : degreeVerdict (recordSize ws) ws ≡ Sound
+  pub lists : listVerdict (recordSize ws) ws ≡ Sound
 
 pub sounds : (b : Bounds) (ws : List ℕ) → verdict b ws ≡ Sound → Sounds b ws
 unfolding verdict
 sounds b ws h = go (soundHeader ws) (soundCounts (b .vertices) (b .edges) (vertexCount ws) (edgeCount ws)) refl h
   where
-    first : Verdict
-    first = vertexWalk vertexSize (b .vertices) (b .types) [] (vertexCount ws) (vertexPart ws) vertexOffset
+    size : ℕ
+    size = recordSize ws
 
-    second : Verdict
-    second = edgeWalk (b .edges) (b .types) (numbersOf ws) [] (edgeCount ws) (edgePart ws) (edgeOffset (vertexCount ws))
-
-    third : Verdict
-    third = listWalk (edgesFrom (edgeCount ws) (edgePart ws)) (numbersOf ws) (incidencePart ws) (incidenceOffset (vertexCount ws) (edgeCount ws))
-
-    go : (x y : Bool) → soundHeader ws ≡ x → (not (x && y) ⇒ BadHeader else andThen first (andThen second third)) ≡ Sound → Sounds b ws
+    go : (x y : Bool) → soundHeader ws ≡ x → (not (x && y) ⇒ BadHeader else partsVerdict size b ws) ≡ Sound → Sounds b ws
     go true true e h =
-        let p = then-sound first (andThen second third) h in
-        let q = then-sound second third (p .1) in
-        record { header = e; vertices = p .0; edges = q .0; lists = q .1 }
+        let p = then-sound (vertexVerdict size b ws) _ h in
+        let q = then-sound (edgeVerdict size b ws) _ (p .1) in
+        let r = then-sound (degreeVerdict size ws) (listVerdict size ws) (q .1) in
+        record { header = e; vertices = p .0; edges = q .0; degrees = r .0; lists = r .1 }
     go true false e h = absurd (header-not h)
     go false y e h = absurd (header-not h)
 
 pub sound-loads : (b : Bounds) (ws : List ℕ) → verdict b ws ≡ Sound → loadable b ws ≡ true
-unfolding loadable load save wellFormed soundHeader
-sound-loads b ws h =
-    and-both (soundHeader ws && wellFormed b (load ws)) (same ws (save (load ws)))
-    (and-both (soundHeader ws) (wellFormed b (load ws)) (s .header) formed)
-    (subst (λ (l : List ℕ). same ws l ≡ true) again (same-refl ws))
+unfolding load saveAs wellFormed
+sound-loads b ws h = saves-loads b (load ws) formed ws (saves-by size z (load ws) ws again)
   where
     s : Sounds b ws
     s = sounds b ws h
+
+    size : ℕ
+    size = recordSize ws
+
+    z : Size size
+    z = record-size ws
 
     v : ℕ
     v = vertexCount ws
@@ -242,12 +269,18 @@ sound-loads b ws h =
     e = edgeCount ws
 
     es : List Edge
-    es = edgesFrom e (edgePart ws)
+    es = edgesOf size ws
 
-    numbers : map vn (load ws .vseq) ≡ numbersOf ws
-    numbers = numbers-load vertexSize es v (vertexPart ws) (incidencePart ws)
+    vs : List ℕ
+    vs = vertexPart size ws
 
-    known : (k : ℕ) → has k (numbersOf ws) ≡ true → hasVertex (load ws) k ≡ true
+    is : List ℕ
+    is = incidencePart size ws
+
+    numbers : map vn (load ws .vseq) ≡ numbersOf size ws
+    numbers = numbers-load size es v vs is
+
+    known : (k : ℕ) → has k (numbersOf size ws) ≡ true → hasVertex (load ws) k ≡ true
     known k x = has-number k (load ws .vseq) ∙ ap (has k) numbers ∙ x
 
     formed : wellFormed b (load ws) ≡ true
@@ -255,28 +288,18 @@ sound-loads b ws h =
         and-both _ (all (soundEdge b (load ws)) (load ws .eseq))
         (and-both _ (all (soundVertex b (load ws)) (load ws .vseq))
         (and-both (distinct (vertexNumbers (load ws))) (distinct (edgeNumbers (load ws)))
-        (ap distinct numbers ∙ walk-distinct vertexSize (b .vertices) (b .types) [] v (vertexPart ws) vertexOffset (s .vertices))
-        (edges-distinct (b .edges) (b .types) (numbersOf ws) [] e (edgePart ws) (edgeOffset v) (s .edges)))
-        (vertices-sound vertexSize b (load ws) [] v (vertexPart ws) (incidencePart ws) vertexOffset (incidenceOffset v e) (s .vertices) (s .lists)))
-        (edges-sound b (load ws) (numbersOf ws) [] e (edgePart ws) (edgeOffset v) (s .edges) known)
+        (ap distinct numbers ∙ walk-distinct size (b .vertices) (b .types) [] v vs vertexOffset (s .vertices))
+        (edges-distinct (b .edges) (b .types) (numbersOf size ws) [] e (edgePart size ws) (edgeOffset size v) (s .edges)))
+        (vertices-sound size b (load ws) [] v vs is vertexOffset (incidenceOffset size v e) (s .vertices) (s .lists)))
+        (edges-sound b (load ws) (numbersOf size ws) [] e (edgePart size ws) (edgeOffset size v) (s .edges) known)
 
-    total : length ws ≡ imageLength v e
-    total = sound-length ws (s .header)
+    vs-again : (each (vertexRecord size) (load ws .vseq) ≡ vs) × (length (load ws .vseq) ≡ v)
+    vs-again = vertices-again size z es v vs is vertexOffset (incidenceOffset size v e) (s .degrees) (s .lists) (long-vertices ws (s .header))
 
-    vs-again : (each vertexRecord (load ws .vseq) ≡ vertexPart ws) × (length (load ws .vseq) ≡ v)
-    vs-again =
-        vertices-again es v (vertexPart ws) (incidencePart ws)
-        (omega (arith, total, length-take (vertexSize * v) (drop vertexOffset ws), length-drop vertexOffset ws))
+    es-again : (each edgeRecord es ≡ edgePart size ws) × (length es ≡ e)
+    es-again = edges-again (b .edges) (b .types) (numbersOf size ws) [] e (edgePart size ws) (edgeOffset size v) (s .edges) (long-edges ws (s .header))
 
-    es-again : (each edgeRecord es ≡ edgePart ws) × (length es ≡ e)
-    es-again =
-        edges-again (b .edges) (b .types) (numbersOf ws) [] e (edgePart ws) (edgeOffset v) (s .edges)
-        (omega (arith, total, length-take (edgeSize * e) (drop (edgeOffset v) ws), length-drop (edgeOffset v) ws))
-
-    head : take 6 ws ≡ headerOf v e
-    head = same-eq (take 6 ws) (headerOf v e) (and-true (same (take 6 ws) (headerOf v e)) _ (s .header) .0)
-
-    again : ws ≡ save (load ws)
+    again : saveAs size (load ws) ≡ ws
     again =
-        sym (split-words ws)
-        ∙ rw (head, vs-again .1, es-again .1, vs-again .0, es-again .0, lists-again vertexSize es v (vertexPart ws) (incidencePart ws) (incidenceOffset v e) (s .lists))
+        rw (vs-again .1, es-again .1, vs-again .0, es-again .0, lists-again size es v vs is (incidenceOffset size v e) (s .lists))
+        (ap (λ (l : List ℕ). l ++ (vs ++ (edgePart size ws ++ is))) (sym (sound-front ws (s .header))) ∙ split-words size ws)

@@ -12,7 +12,7 @@ use borrow.Author.Tests.{eq-eqb, ne-eqb, lt-ltb, le-ltb, leb-true}
 use Rattle.lists.specs.Choice.{_==_, _⇒_else_}
 use Rattle.graph.specs.Graph.{isReading}
 use Rattle.image.specs.Checks.{goodVertex, goodEdge}
-use Rattle.image.specs.Scratch.{Below, bumped, ends, owned, edgeGood, edgeEnds, edgeOwned, vertexRun, vertexMarks, edgeRun, edgeDegrees, edgeOwners, listRun, listOwners, incidenceRun}
+use Rattle.image.specs.Scratch.{Below, bumped, ends, owned, edgeGood, edgeEnds, edgeOwned, vertexRun, vertexMarks, edgeRun, edgeDegrees, edgeOwners, degreeRun, listRun, listOwners, incidenceRun}
 use Rattle.image.specs.declared.Verdict.the-variants.{Sound, BadRecord, BadIncidence}
 
 -- ---- the word at a place of the rest
@@ -77,6 +77,15 @@ module _ (count i : ℕ) (ws : List ℕ) (from at : ℕ) (turn : i < count) wher
   unfolding edgeOwners
   owners-go own = rw left (ap₂ (λ (o l : List ℕ). edgeOwners o (count - (i + 1)) l) (owned-here own) (sym (drop-drop 6 at ws)))
 
+  module _ (size : ℕ) (four : size ≡ 4) (deg : List ℕ) (d x : ℕ) (degree : d ≡ getD deg (getD ws at 0) 0 - 1) (word : x ≡ getD ws (at + 3) 0) where
+    pub degree-stop : (x ≡ d → ⊥) → BadRecord (from + at + 3) ≡ degreeRun size deg (count - i) (drop at ws) (from + at)
+    unfolding degreeRun
+    degree-stop h = rw (left, first-at ws at, word-at ws at 3, ← degree, ← word, ne-eqb x d h, four)
+
+    pub degree-go : x ≡ d → degreeRun size deg (count - (i + 1)) (drop (at + size) ws) (from + (at + size)) ≡ degreeRun size deg (count - i) (drop at ws) (from + at)
+    unfolding degreeRun
+    degree-go h = rw (left, first-at ws at, word-at ws at 3, ← degree, ← word, eq-eqb x d h, four, drop-drop 4 at ws, along 4)
+
 -- ---- the end of a loop over records
 
 module _ (count i : ℕ) (ws : List ℕ) (at : ℕ) (over : count ≤ i) where
@@ -91,6 +100,10 @@ module _ (count i : ℕ) (ws : List ℕ) (at : ℕ) (over : count ≤ i) where
       (edgeRun cap types deg own (count - i) ws at ≡ Sound) × (edgeDegrees deg (count - i) ws ≡ deg) × (edgeOwners own (count - i) ws ≡ own)
   unfolding edgeRun edgeDegrees edgeOwners
   edge-end cap types deg own = (rw none, rw none, rw none)
+
+  pub degree-end : (size : ℕ) (deg : List ℕ) → degreeRun size deg (count - i) ws at ≡ Sound
+  unfolding degreeRun
+  degree-end size deg = rw none
 
 -- a good edge record's number is within the capacity
 good-number : (cap types : ℕ) (f a o : Bool) (n t k d : ℕ) → 6 ≤ goodEdge cap types f a o n t k d → n ≤ cap
@@ -244,8 +257,11 @@ put-by deg ws new at n m x e1 e2 e = cc
 pub own-by : (own ws : List ℕ) (i w x : ℕ) → w ≡ getD ws i 0 → x ≡ getD own w 0 → getD own (getD ws i 0) 0 ≡ x
 own-by own ws i w x e f = cc
 
+pub degree-at : (deg vs : List ℕ) (i m x d : ℕ) → m ≡ getD vs i 0 → x ≡ getD deg m 0 → d ≡ x - 1 → d ≡ getD deg (getD vs i 0) 0 - 1
+degree-at deg vs i m x d e1 e2 e = cc
+
 pub degree-by : (deg vs : List ℕ) (i v m x d : ℕ) → v ≡ getD vs i 0 → m ≡ v → x ≡ getD deg m 0 → d ≡ x - 1 → d ≡ getD deg (getD vs i 0) 0 - 1
-degree-by deg vs i v m x d e1 e2 e3 e = cc
+degree-by deg vs i v m x d e1 e2 e3 e = degree-at deg vs i m x d (e2 ∙ e1) e3 e
 
 pub list-by : (own vs rest : List ℕ) (i v d g : ℕ) → v ≡ getD vs i 0 → g ≡ listRun v d own rest → g ≡ listRun (getD vs i 0) d own rest
 list-by own vs rest i v d g e f = cc

@@ -1,20 +1,21 @@
 -- Every saved word is below 2^32.
-use Prim.Native.Nat.{ℕ, zero, suc, _^_, _≤_, _<_}
+use Prim.Native.Nat.{ℕ, zero, suc, _*_, _^_, _≤_, _<_}
 use mathlib.Core.Path.{_≡_, refl}
 use mathlib.Core.Bool.{Bool, true, false, _||_}
 use mathlib.Core.List.{List, [], _∷_, _++_}
 use native.Mathlib.Omega.{arith}
-use lib.ListN.{length, getD}
+use lib.ListN.{length, getD, length-append}
 use borrow.Author.Tests.{ltb-true, eqb-true}
 use Rattle.lists.specs.Choice.{_⇒_else_, _==_}
 use Rattle.lists.specs.Lists.{any, all, each, All, done, more}
 use Rattle.lists.proofs.Bools.{ft, and-true, within-range}
-use Rattle.lists.proofs.Sums.{all-append, all-bool}
+use Rattle.lists.proofs.Sums.{all-append, all-bool, bit-le, alike-length}
 use Rattle.lists.proofs.Members.{all-counted, counted-all}
 use Rattle.graph.specs.Graph.{Vertex, Edge, Graph, isVertex, hasVertex, readingKind, decimetres, outWord, inWord}
 use Rattle.graph.specs.WellFormed.{Bounds, wordsOf, wordsAt, soundVertex, soundEdge, wellFormed}
 use Rattle.graph.proofs.Readings.{reading-range}
-use Rattle.image.specs.Image.{vertexRecord, edgeRecord, incidencesOf, vertexOffset, edgeOffset, incidenceOffset, imageLength, save}
+use Rattle.image.specs.Image.{vertexSize, vertexRecord, edgeRecord, incidencesOf, vertexOffset, edgeOffset, incidenceOffset, imageLength, save}
+use Rattle.image.proofs.Ends.{words-length}
 use Rattle.image.proofs.Formed.{formed, vertex-facts, edge-facts}
 use Rattle.image.proofs.Room.{few-vertices, few-edges}
 
@@ -66,11 +67,19 @@ module _ (b : Bounds) (u : InRange b) (g : Graph) (h : wellFormed b g ≡ true) 
   words-of v [] s = done
   words-of v (e ∷ es) s = let a = and-true (soundEdge b g e) (all (soundEdge b g) es) s in all-append (word-of v e (a .0)) (words-of v es (a .1))
 
-  vertex-small : (v : Vertex) → soundVertex b g v ≡ true → All Word (vertexRecord v)
+  words-few : (v : ℕ) (es : List Edge) → length (wordsAt es v) ≤ 2 * length es
+  unfolding wordsAt
+  words-few v [] = omega arith
+  words-few v (e ∷ es) =
+      omega (arith, length-append (wordsOf v e) (wordsAt es v), words-length v e, bit-le (v == e .alpha), bit-le (v == e .omega), words-few v es)
+
+  -- a degree is at most two for each edge
+  vertex-small : (v : Vertex) → soundVertex b g v ≡ true → All Word (vertexRecord vertexSize v)
   vertex-small v s =
       let f = vertex-facts b g v s in
       word (v .number) (omega (arith, within-range 1 (b .vertices) (v .number) (f .number) .1, u .vertices))
-      (word (v .type) (omega (arith, ltb-true (v .type) (b .types) (f .type), u .types)) (more (ltb-true (v .value) (2 ^ 32) (f .value)) done))
+      (word (v .type) (omega (arith, ltb-true (v .type) (b .types) (f .type), u .types)) (word (v .value) (ltb-true (v .value) (2 ^ 32) (f .value))
+      (word (length (v .incidences)) (omega (arith, alike-length (v .incidences) (wordsAt (g .eseq) (v .number)) (f .words), words-few (v .number) (g .eseq), few-edges b g h, u .edges)) done)))
 
   list-small : (v : Vertex) → soundVertex b g v ≡ true → All Word (v .incidences)
   list-small v s =
@@ -112,10 +121,10 @@ module _ (b : Bounds) (u : InRange b) (g : Graph) (h : wellFormed b g ≡ true) 
       word v (omega arith)
       (word e (omega arith)
       (word vertexOffset (omega arith)
-      (word (edgeOffset v) (omega arith)
-      (word (incidenceOffset v e) (omega arith)
+      (word (edgeOffset vertexSize v) (omega arith)
+      (word (incidenceOffset vertexSize v e) (omega arith)
       (word (imageLength v e) (omega arith)
-      (all-append (all-each vertexRecord (all-bool (soundVertex b g) vertex-small (g .vseq) (formed b g h .vertices-sound)))
+      (all-append (all-each (vertexRecord vertexSize) (all-bool (soundVertex b g) vertex-small (g .vseq) (formed b g h .vertices-sound)))
       (all-append (all-each edgeRecord (all-bool (soundEdge b g) edge-small (g .eseq) (formed b g h .edges-sound)))
       (all-each incidencesOf (all-bool (soundVertex b g) list-small (g .vseq) (formed b g h .vertices-sound))))))))))
 

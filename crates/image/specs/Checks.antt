@@ -11,12 +11,14 @@ use Rattle.graph.specs.Graph.{Edge, wd, isReading}
 use Rattle.graph.specs.WellFormed.{Bounds, wordsAt}
 use Rattle.image.specs.Image.{
   vertexSize,
+  oldVertexSize,
   edgeSize,
   vertexOffset,
   edgeOffset,
   incidenceOffset,
   vertexCount,
   edgeCount,
+  recordSize,
   soundHeader,
   vertexPart,
   edgePart,
@@ -43,9 +45,16 @@ offsetOf (BadIncidence at) = at
 abbrev pub bounds : ℕ → ℕ → ℕ → Bounds
 bounds vertices edges types = record { vertices = vertices; edges = edges; types = types }
 
+-- a check has scratch for the limits of a run (REFERENCE 12.1): larger capacities are checked as these
+abbrev pub smaller : ℕ → ℕ → ℕ
+smaller limit n = ltb limit n ⇒ limit else n
+
+abbrev pub checked : ℕ → ℕ → ℕ → Bounds
+checked vertices edges types = bounds (smaller 1000 vertices) (smaller 4000 edges) types
+
 -- ---- one record
 
--- how many words a vertex record begins with are sound: 3 is all
+-- how many words a vertex record begins with are sound: 3 is all but the degree
 unfoldable pub goodVertex : ℕ → ℕ → Bool → ℕ → ℕ → ℕ → ℕ
 goodVertex cap types fresh n t x =
     not (within 1 cap n && fresh) ⇒ 0 else not (ltb t types) ⇒ 1 else not (ltb x (2 ^ 32)) ⇒ 2 else 3
@@ -72,7 +81,8 @@ unfoldable pub vertexWalk : ℕ → ℕ → ℕ → List ℕ → ℕ → List �
 unfolding goodVertex
 vertexWalk size cap types seen zero ws at = Sound
 vertexWalk size cap types seen (suc k) ws at =
-    recordAt 3 at (goodVertex cap types (not (has (getD ws 0 0) seen)) (getD ws 0 0) (getD ws 1 0) (getD ws 2 0))
+    recordAt oldVertexSize at
+    (goodVertex cap types (not (has (getD ws 0 0) seen)) (getD ws 0 0) (getD ws 1 0) (getD ws 2 0))
     (vertexWalk size cap types (getD ws 0 0 ∷ seen) k (drop size ws) (at + size))
 
 -- k edge records in turn; vs has the vertices' numbers, seen the edges' numbers before
@@ -80,10 +90,23 @@ unfoldable pub edgeWalk : ℕ → ℕ → List ℕ → List ℕ → ℕ → List
 unfolding goodEdge
 edgeWalk cap types vs seen zero ws at = Sound
 edgeWalk cap types vs seen (suc k) ws at =
-    recordAt 6 at
+    recordAt edgeSize at
     (goodEdge cap types (not (has (getD ws 0 0) seen)) (has (getD ws 1 0) vs) (has (getD ws 2 0) vs)
     (getD ws 0 0) (getD ws 3 0) (getD ws 4 0) (getD ws 5 0))
     (edgeWalk cap types vs (getD ws 0 0 ∷ seen) k (drop edgeSize ws) (at + edgeSize))
+
+-- how many words of a vertex record are sound, the others being so: all where the fourth is the degree
+abbrev pub goodDegree : ℕ → ℕ → ℕ
+goodDegree degree d = (d == degree) ⇒ vertexSize else oldVertexSize
+
+-- the degrees of k vertex records in turn, each held against the ends that the edges name; records of three words
+-- have none
+unfoldable pub degreeWalk : ℕ → List Edge → ℕ → List ℕ → ℕ → Verdict
+unfolding wordsAt
+degreeWalk size es zero ws at = Sound
+degreeWalk size es (suc k) ws at =
+    recordAt size at (goodDegree (length (wordsAt es (getD ws 0 0))) (getD ws 3 0))
+    (degreeWalk size es k (drop size ws) (at + size))
 
 -- how many words are in turn among those still wanted, until none is
 unfoldable pub goodList : ℕ → List ℕ → List ℕ → ℕ
@@ -120,18 +143,41 @@ andThen BadHeader y = BadHeader
 andThen (BadRecord at) y = BadRecord at
 andThen (BadIncidence at) y = BadIncidence at
 
-abbrev pub numbersOf : List ℕ → List ℕ
-numbersOf ws = numbersIn vertexSize (vertexCount ws) (vertexPart ws)
+-- the numbers and the edges of words with records of this size
+abbrev pub numbersOf : ℕ → List ℕ → List ℕ
+numbersOf size ws = numbersIn size (vertexCount ws) (vertexPart size ws)
+
+abbrev pub edgesOf : ℕ → List ℕ → List Edge
+edgesOf size ws = edgesFrom (edgeCount ws) (edgePart size ws)
+
+-- the four walks: vertex records but their degrees, edge records, degrees, lists
+abbrev pub vertexVerdict : ℕ → Bounds → List ℕ → Verdict
+vertexVerdict size b ws =
+    vertexWalk size (b .vertices) (b .types) [] (vertexCount ws) (vertexPart size ws) vertexOffset
+
+abbrev pub edgeVerdict : ℕ → Bounds → List ℕ → Verdict
+edgeVerdict size b ws =
+    edgeWalk (b .edges) (b .types) (numbersOf size ws) [] (edgeCount ws) (edgePart size ws)
+    (edgeOffset size (vertexCount ws))
+
+abbrev pub degreeVerdict : ℕ → List ℕ → Verdict
+degreeVerdict size ws = degreeWalk size (edgesOf size ws) (vertexCount ws) (vertexPart size ws) vertexOffset
+
+abbrev pub listVerdict : ℕ → List ℕ → Verdict
+listVerdict size ws =
+    listWalk (edgesOf size ws) (numbersOf size ws) (incidencePart size ws)
+    (incidenceOffset size (vertexCount ws) (edgeCount ws))
+
+abbrev pub partsVerdict : ℕ → Bounds → List ℕ → Verdict
+partsVerdict size b ws =
+    andThen (vertexVerdict size b ws)
+    (andThen (edgeVerdict size b ws) (andThen (degreeVerdict size ws) (listVerdict size ws)))
 
 unfoldable pub verdict : Bounds → List ℕ → Verdict
-unfolding soundHeader vertexWalk numbersIn edgeWalk listWalk soundCounts edgesFrom
+unfolding soundHeader recordSize vertexWalk numbersIn edgeWalk degreeWalk listWalk soundCounts edgesFrom
 verdict b ws =
-    let v = vertexCount ws in
-    let e = edgeCount ws in
-    not (soundHeader ws && soundCounts (b .vertices) (b .edges) v e) ⇒ BadHeader
-    else andThen (vertexWalk vertexSize (b .vertices) (b .types) [] v (vertexPart ws) vertexOffset)
-    (andThen (edgeWalk (b .edges) (b .types) (numbersOf ws) [] e (edgePart ws) (edgeOffset v))
-    (listWalk (edgesFrom e (edgePart ws)) (numbersOf ws) (incidencePart ws) (incidenceOffset v e)))
+    not (soundHeader ws && soundCounts (b .vertices) (b .edges) (vertexCount ws) (edgeCount ws)) ⇒ BadHeader
+    else partsVerdict (recordSize ws) b ws
 
 -- the code and the offset of words (proofs/LoadCodes: the code is 0 exactly where they load)
 abbrev pub loadCode : Bounds → List ℕ → ℕ

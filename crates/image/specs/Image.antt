@@ -1,6 +1,8 @@
 -- The image of a graph (REFERENCE 10.1 to 10.7): the words that it saves as, and the graph that words say.
-use Prim.Native.Nat.{ℕ, zero, suc, _+_, _*_}
-use mathlib.Core.Bool.{Bool, not, _&&_}
+use Prim.Native.Nat.{ℕ, zero, suc, _+_, _*_, _-_}
+use mathlib.Core.Path.{_≡_}
+use mathlib.Core.Logic.{_⊎_}
+use mathlib.Core.Bool.{Bool, not, _&&_, _||_}
 use mathlib.Core.List.{List, [], _∷_, _++_}
 use lib.ListN.{length, getD, take, drop}
 use Rattle.lists.specs.Choice.{_⇒_else_, _==_}
@@ -10,12 +12,19 @@ use Rattle.graph.specs.WellFormed.{Bounds, wordsAt, wellFormed}
 
 -- ---- saving
 
--- REFERENCE 10.2
+-- REFERENCE 10.2: the words of a vertex record, as it is saved and as older images have it
 abbrev pub vertexSize : ℕ
-vertexSize = 3
+vertexSize = 4
 
-abbrev pub vertexRecord : Vertex → List ℕ
-vertexRecord v = v .number ∷ v .type ∷ v .value ∷ []
+abbrev pub oldVertexSize : ℕ
+oldVertexSize = 3
+
+-- in a record of four words the degree is the last; older ones have none
+abbrev pub degreeWord : ℕ → ℕ → List ℕ
+degreeWord size d = take (size - oldVertexSize) (d ∷ [])
+
+abbrev pub vertexRecord : ℕ → Vertex → List ℕ
+vertexRecord size v = v .number ∷ v .type ∷ v .value ∷ degreeWord size (length (v .incidences))
 
 -- REFERENCE 10.3
 abbrev pub edgeSize : ℕ
@@ -28,27 +37,44 @@ edgeRecord e = e .number ∷ e .alpha ∷ e .omega ∷ e .type ∷ readingKind (
 abbrev pub incidencesOf : Vertex → List ℕ
 incidencesOf v = v .incidences
 
--- where the parts begin, and the length
+-- where the parts begin, and the length, in records of this size; an edge is in two lists
 abbrev pub vertexOffset : ℕ
 vertexOffset = 6
 
-abbrev pub edgeOffset : ℕ → ℕ
-edgeOffset v = vertexOffset + vertexSize * v
+abbrev pub edgeOffset : ℕ → ℕ → ℕ
+edgeOffset size v = vertexOffset + size * v
 
-abbrev pub incidenceOffset : ℕ → ℕ → ℕ
-incidenceOffset v e = edgeOffset v + edgeSize * e
+abbrev pub incidenceOffset : ℕ → ℕ → ℕ → ℕ
+incidenceOffset size v e = edgeOffset size v + edgeSize * e
+
+abbrev pub lengthAs : ℕ → ℕ → ℕ → ℕ
+lengthAs size v e = edgeOffset size v + (edgeSize + 2) * e
 
 abbrev pub imageLength : ℕ → ℕ → ℕ
-imageLength v e = edgeOffset v + 8 * e
+imageLength v e = lengthAs vertexSize v e
 
 -- REFERENCE 10.1
-abbrev pub headerOf : ℕ → ℕ → List ℕ
-headerOf v e = v ∷ e ∷ vertexOffset ∷ edgeOffset v ∷ incidenceOffset v e ∷ imageLength v e ∷ []
+abbrev pub headerOf : ℕ → ℕ → ℕ → List ℕ
+headerOf size v e =
+    v ∷ e ∷ vertexOffset ∷ edgeOffset size v ∷ incidenceOffset size v e ∷ lengthAs size v e ∷ []
 
+unfoldable pub saveAs : ℕ → Graph → List ℕ
+saveAs size g =
+    headerOf size (length (g .vseq)) (length (g .eseq))
+    ++ (each (vertexRecord size) (g .vseq) ++ (each edgeRecord (g .eseq) ++ each incidencesOf (g .vseq)))
+
+-- what a graph saves as, and what it was saved as before records had a degree
 unfoldable pub save : Graph → List ℕ
-save g =
-    headerOf (length (g .vseq)) (length (g .eseq))
-    ++ (each vertexRecord (g .vseq) ++ (each edgeRecord (g .eseq) ++ each incidencesOf (g .vseq)))
+unfolding saveAs
+save g = saveAs vertexSize g
+
+unfoldable pub saveOld : Graph → List ℕ
+unfolding saveAs
+saveOld g = saveAs oldVertexSize g
+
+-- both count as words that the graph saves as (REFERENCE 10.6)
+abbrev pub SavesAs : Graph → List ℕ → Type 0
+SavesAs g ws = (save g ≡ ws) ⊎ (saveOld g ≡ ws)
 
 -- ---- the header and the parts
 
@@ -58,27 +84,52 @@ vertexCount ws = getD ws 0 0
 abbrev pub edgeCount : List ℕ → ℕ
 edgeCount ws = getD ws 1 0
 
--- REFERENCE 10.5
+-- the words of a vertex record, by the offset of the edge part; without vertices both are the same
+unfoldable pub recordSize : List ℕ → ℕ
+recordSize ws =
+    (getD ws 3 0 == edgeOffset vertexSize (vertexCount ws)) ⇒ vertexSize
+    else (getD ws 3 0 == edgeOffset oldVertexSize (vertexCount ws)) ⇒ oldVertexSize else vertexSize
+
+-- REFERENCE 10.5: length, offsets and total fit records of one size
+unfoldable pub headerAs : ℕ → List ℕ → Bool
+headerAs size ws =
+    same (take 6 ws) (headerOf size (vertexCount ws) (edgeCount ws))
+    && (length ws == lengthAs size (vertexCount ws) (edgeCount ws))
+
 unfoldable pub soundHeader : List ℕ → Bool
-soundHeader ws =
-    same (take 6 ws) (headerOf (vertexCount ws) (edgeCount ws))
-    && (length ws == imageLength (vertexCount ws) (edgeCount ws))
+unfolding headerAs recordSize
+soundHeader ws = headerAs (recordSize ws) ws
 
-abbrev pub vertexPart : List ℕ → List ℕ
-vertexPart ws = take (vertexSize * vertexCount ws) (drop vertexOffset ws)
+abbrev pub vertexPart : ℕ → List ℕ → List ℕ
+vertexPart size ws = take (size * vertexCount ws) (drop vertexOffset ws)
 
-abbrev pub edgePart : List ℕ → List ℕ
-edgePart ws = take (edgeSize * edgeCount ws) (drop (edgeOffset (vertexCount ws)) ws)
+abbrev pub edgePart : ℕ → List ℕ → List ℕ
+edgePart size ws = take (edgeSize * edgeCount ws) (drop (edgeOffset size (vertexCount ws)) ws)
 
-abbrev pub incidencePart : List ℕ → List ℕ
-incidencePart ws = drop (incidenceOffset (vertexCount ws) (edgeCount ws)) ws
+abbrev pub incidencePart : ℕ → List ℕ → List ℕ
+incidencePart size ws = drop (incidenceOffset size (vertexCount ws) (edgeCount ws)) ws
 
 -- the vertex, edge or list part (1, 2, 3) where the header is sound; every other is empty (REFERENCE 10.7)
 unfoldable pub part : ℕ → List ℕ → List ℕ
-unfolding soundHeader
+unfolding soundHeader recordSize
 part k ws =
     not (soundHeader ws) ⇒ [] else
-    (k == 1) ⇒ vertexPart ws else (k == 2) ⇒ edgePart ws else (k == 3) ⇒ incidencePart ws else []
+    (k == 1) ⇒ vertexPart (recordSize ws) ws else (k == 2) ⇒ edgePart (recordSize ws) ws
+    else (k == 3) ⇒ incidencePart (recordSize ws) ws else []
+
+-- in records of four, the degree of record i from 0, and where the list of its vertex begins: behind those before it
+abbrev pub degreeOf : List ℕ → ℕ → ℕ
+degreeOf ws i = getD ws (vertexOffset + vertexSize * i + 3) 0
+
+unfoldable pub listOffset : List ℕ → ℕ → ℕ
+listOffset ws zero = incidenceOffset vertexSize (vertexCount ws) (edgeCount ws)
+listOffset ws (suc i) = listOffset ws i + degreeOf ws i
+
+-- record i is that of vertex v, whose list stands at that place, as long as the degree says (proofs/ListPlaces)
+pub record ListAt (ws : List ℕ) (i : ℕ) (v : Vertex) : Type 0 where
+  pub number : getD ws (vertexOffset + vertexSize * i) 0 ≡ v .number
+  pub degree : degreeOf ws i ≡ length (v .incidences)
+  pub list : take (degreeOf ws i) (drop (listOffset ws i) ws) ≡ v .incidences
 
 -- ---- loading: the only graph that can have saved as these words
 
@@ -108,13 +159,18 @@ verticesFrom size es (suc k) vs ws =
     }
     ∷ verticesFrom size es k (drop size vs) (drop (length (wordsAt es (getD vs 0 0))) ws)
 
-unfoldable pub load : List ℕ → Graph
+unfoldable pub loadAs : ℕ → List ℕ → Graph
 unfolding edgesFrom verticesFrom
-load ws =
-    let es = edgesFrom (edgeCount ws) (edgePart ws) in
-    record { vseq = verticesFrom vertexSize es (vertexCount ws) (vertexPart ws) (incidencePart ws); eseq = es }
+loadAs size ws =
+    let es = edgesFrom (edgeCount ws) (edgePart size ws) in
+    record { vseq = verticesFrom size es (vertexCount ws) (vertexPart size ws) (incidencePart size ws); eseq = es }
+
+unfoldable pub load : List ℕ → Graph
+unfolding loadAs recordSize
+load ws = loadAs (recordSize ws) ws
 
 -- REFERENCE 10.6, as a test (proofs/Loads: loads)
 unfoldable pub loadable : Bounds → List ℕ → Bool
-unfolding soundHeader load save wellFormed
-loadable b ws = soundHeader ws && wellFormed b (load ws) && same ws (save (load ws))
+unfolding soundHeader load save saveOld wellFormed
+loadable b ws =
+    soundHeader ws && wellFormed b (load ws) && (same ws (save (load ws)) || same ws (saveOld (load ws)))

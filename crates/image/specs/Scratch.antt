@@ -8,8 +8,8 @@ use lib.Dec.{ltb}
 use Rattle.lists.specs.Choice.{_⇒_else_, _==_}
 use Rattle.graph.specs.Graph.{outWord, inWord}
 use Rattle.graph.specs.WellFormed.{Bounds}
-use Rattle.image.specs.Image.{vertexSize, edgeSize, vertexOffset, edgeOffset, incidenceOffset}
-use Rattle.image.specs.Checks.{goodVertex, goodEdge, recordAt, ended, listAt, andThen}
+use Rattle.image.specs.Image.{oldVertexSize, edgeSize, vertexOffset, edgeOffset, incidenceOffset}
+use Rattle.image.specs.Checks.{goodVertex, goodEdge, goodDegree, recordAt, ended, listAt, andThen}
 use Rattle.image.specs.declared.Verdict.{Verdict}
 use Rattle.image.specs.declared.Verdict.the-variants.{Sound}
 
@@ -23,7 +23,7 @@ Below k s = (i : ℕ) → getD s i 0 ≤ k
 unfoldable pub vertexRun : ℕ → ℕ → ℕ → List ℕ → ℕ → List ℕ → ℕ → Verdict
 vertexRun size cap types deg zero ws at = Sound
 vertexRun size cap types deg (suc k) ws at =
-    recordAt 3 at (goodVertex cap types (getD deg (getD ws 0 0) 0 == 0) (getD ws 0 0) (getD ws 1 0) 0)
+    recordAt oldVertexSize at (goodVertex cap types (getD deg (getD ws 0 0) 0 == 0) (getD ws 0 0) (getD ws 1 0) 0)
     (vertexRun size cap types (set deg (getD ws 0 0) 1) k (drop size ws) (at + size))
 
 unfoldable pub vertexMarks : ℕ → List ℕ → ℕ → List ℕ → List ℕ
@@ -57,7 +57,7 @@ edgeOwned ws at own = owned (getD ws at 0) (getD ws (at + 1) 0) (getD ws (at + 2
 unfoldable pub edgeRun : ℕ → ℕ → List ℕ → List ℕ → ℕ → List ℕ → ℕ → Verdict
 edgeRun cap types deg own zero ws at = Sound
 edgeRun cap types deg own (suc k) ws at =
-    recordAt 6 at (edgeGood cap types deg own ws 0)
+    recordAt edgeSize at (edgeGood cap types deg own ws 0)
     (edgeRun cap types (edgeEnds ws 0 deg) (edgeOwned ws 0 own) k (drop edgeSize ws) (at + edgeSize))
 
 unfoldable pub edgeDegrees : List ℕ → ℕ → List ℕ → List ℕ
@@ -67,6 +67,15 @@ edgeDegrees deg (suc k) ws = edgeDegrees (edgeEnds ws 0 deg) k (drop edgeSize ws
 unfoldable pub edgeOwners : List ℕ → ℕ → List ℕ → List ℕ
 edgeOwners own zero ws = own
 edgeOwners own (suc k) ws = edgeOwners (edgeOwned ws 0 own) k (drop edgeSize ws)
+
+-- ---- degrees
+
+-- deg has 1 more than the degree
+unfoldable pub degreeRun : ℕ → List ℕ → ℕ → List ℕ → ℕ → Verdict
+degreeRun size deg zero ws at = Sound
+degreeRun size deg (suc k) ws at =
+    recordAt size at (goodDegree (getD deg (getD ws 0 0) 0 - 1) (getD ws 3 0))
+    (degreeRun size deg k (drop size ws) (at + size))
 
 -- ---- incidences
 
@@ -90,12 +99,13 @@ incidenceRun size deg own (suc k) vs ws at =
     (incidenceRun size deg (listOwners (getD deg (getD vs 0 0) 0 - 1) own ws) k
     (drop size vs) (drop (getD deg (getD vs 0 0) 0 - 1) ws) (at + (getD deg (getD vs 0 0) 0 - 1)))
 
--- ---- the three passes, over the parts of v vertices and e edges
+-- ---- the four passes, over the parts of v vertices, in records of size words, and e edges
 
-unfoldable pub scratchRun : List ℕ → List ℕ → Bounds → ℕ → ℕ → List ℕ → List ℕ → List ℕ → Verdict
-unfolding vertexRun vertexMarks edgeRun edgeDegrees edgeOwners incidenceRun
-scratchRun deg own b v e vs es is =
-    andThen (vertexRun vertexSize (b .vertices) (b .types) deg v vs vertexOffset)
-    (andThen (edgeRun (b .edges) (b .types) (vertexMarks vertexSize deg v vs) own e es (edgeOffset v))
-    (incidenceRun vertexSize (edgeDegrees (vertexMarks vertexSize deg v vs) e es) (edgeOwners own e es)
-    v vs is (incidenceOffset v e)))
+unfoldable pub scratchRun : List ℕ → List ℕ → Bounds → ℕ → ℕ → ℕ → List ℕ → List ℕ → List ℕ → Verdict
+unfolding vertexRun vertexMarks edgeRun edgeDegrees edgeOwners degreeRun incidenceRun
+scratchRun deg own b size v e vs es is =
+    let marks = vertexMarks size deg v vs in
+    andThen (vertexRun size (b .vertices) (b .types) deg v vs vertexOffset)
+    (andThen (edgeRun (b .edges) (b .types) marks own e es (edgeOffset size v))
+    (andThen (degreeRun size (edgeDegrees marks e es) v vs vertexOffset)
+    (incidenceRun size (edgeDegrees marks e es) (edgeOwners own e es) v vs is (incidenceOffset size v e))))

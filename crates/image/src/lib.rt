@@ -1,16 +1,17 @@
 // The image of a graph: whether words can be loaded, and their parts. REFERENCE 10.5 to 10.7.
+pub mod layout; // layout.rt: the words of header and records, where the parts begin, and which records words have
 mod words; // words.rt: words of slices, with nothing past the end
 mod header; // header.rt: the header and the counts in it
 mod records; // records.rt: one vertex record, one edge record
 mod passes; // passes.rt: each part in turn, over scratch
 
 ghost use mathlib.Core.Path.{_≡_};
-ghost use Prim.Native.Nat.{_≤_, _<_, _^_};
+ghost use Prim.Native.Nat.{_<_, _^_};
 ghost use Rattle.image.specs.Image.{part as partOf};
 ghost use Rattle.image.specs.Parts.{partBound, partStart, LiesAt};
-ghost use Rattle.image.specs.Checks.{bounds, verdict, codeOf, offsetOf};
+ghost use Rattle.image.specs.Checks.{checked, verdict, codeOf, offsetOf};
 
-// What words are: those that some graph saves as, or the offset of the first word that cannot follow those before it.
+// What words are: those that some graph saves as, or the offset of the first word that cannot follow those read before.
 // Where the header or a count is bad there is no offset.
 pub enum Verdict {
     Sound,
@@ -73,27 +74,29 @@ pub fn part(words: &[u32], which: u32) -> &[u32]
 }
 
 // Whether the words are those that some graph within the capacities and types saves as, and if not, what is bad.
-// The capacities are those of a run that passed code 103: the scratch of the check is made for them.
+// Capacities above the limits of a run are checked as these: the scratch of the check is made for them.
 pub fn check(words: &[u32], vertices: u32, edges: u32, types: u32) -> Verdict
-    requires { ⌜ (vertices ≤ 1000) × (edges ≤ 4000) ⌝ }
-    ensures { λ r. ⌜ r ≡ verdict (bounds vertices edges types) (now (words .entry)) ⌝ }
+    ensures { λ r. ⌜ r ≡ verdict (checked vertices edges types) (now (words .entry)) ⌝ }
 {
     if !header::sound(words) {
         return Verdict::BadHeader;
     }
     let v = words::get(words, 0);
     let e = words::get(words, 1);
-    if !header::counts(vertices, edges, v, e) {
+    let vcap = header::smaller(1000, vertices);
+    let ecap = header::smaller(4000, edges);
+    if !header::counts(vcap, ecap, v, e) {
         return Verdict::BadHeader;
     }
     passes::all(
         part(words, 1),
         part(words, 2),
         part(words, 3),
+        layout::record_size(words),
         v,
         e,
-        vertices,
-        edges,
+        vcap,
+        ecap,
         types,
     )
 }

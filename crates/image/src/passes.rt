@@ -6,8 +6,12 @@ ghost use lib.ListN.{length, getD, drop, replicate};
 ghost use Rattle.image.specs.Checks.{bounds};
 ghost use Rattle.image.specs.Scratch.{Below, ends, owned, edgeGood, edgeEnds, edgeOwned};
 ghost use Rattle.image.specs.Scratch.{vertexRun, vertexMarks, edgeRun, edgeDegrees, edgeOwners};
-ghost use Rattle.image.specs.Scratch.{listRun, listOwners, incidenceRun, scratchRun};
+ghost use Rattle.image.specs.Scratch.{degreeRun, listRun, listOwners, incidenceRun, scratchRun};
 use crate::Verdict;
+use crate::layout::EDGE;
+use crate::layout::VERTEX;
+use crate::layout::edge_offset;
+use crate::layout::incidence_offset;
 use crate::records::good_edge;
 use crate::records::good_vertex;
 use crate::words::bump;
@@ -113,7 +117,28 @@ fn edges(
             return Verdict::BadRecord(from + at as u32 + good);
         }
         edge_enter(part, at, deg, own);
-        at += 6;
+        at += EDGE;
+        i += 1;
+    }
+    Verdict::Sound
+}
+
+// The degrees of count vertex records of size words, where they have one: deg has 1 more than each.
+fn degrees(part: &[u32], size: usize, count: u32, deg: &[u32]) -> Verdict
+    requires { ⌜ (size ≤ 4) × (count ≤ 1000) ⌝ }
+    ensures { λ r. ⌜ r ≡ degreeRun size (now (deg .entry)) count (now (part .entry)) 6 ⌝ }
+{
+    if size < VERTEX {
+        return Verdict::Sound;
+    }
+    let mut i: u32 = 0;
+    let mut at = 0;
+    while i < count {
+        let d = less_one(get(deg, word(part, at)));
+        if get(part, at + 3) != d {
+            return Verdict::BadRecord(6 + at as u32 + 3);
+        }
+        at += size;
         i += 1;
     }
     Verdict::Sound
@@ -176,31 +201,37 @@ fn incidences(
     Verdict::Sound
 }
 
-// The three passes over the parts of v vertices and e edges.
+// The four passes over the parts of v vertices, in records of size words, and e edges.
 pub fn all(
     vs: &[u32],
     es: &[u32],
     is: &[u32],
+    size: usize,
     v: u32,
     e: u32,
     vcap: u32,
     ecap: u32,
     types: u32,
 ) -> Verdict
-    requires { ⌜ (v ≤ 1000) × (e ≤ 4000) × (ecap ≤ 4000) × (length (now is) ≤ 100000) ⌝ }
+    requires { ⌜ (size ≤ 4) × (v ≤ 1000) × (e ≤ 4000) × (ecap ≤ 4000) × (length (now is) ≤ 8000) ⌝ }
     ensures { λ r. ⌜ r ≡ scratchRun (replicate 1001 0) (replicate 8002 0) (bounds vcap ecap types)
-        v e (now (vs .entry)) (now (es .entry)) (now (is .entry)) ⌝ }
+        size v e (now (vs .entry)) (now (es .entry)) (now (is .entry)) ⌝ }
 {
     let mut deg = [0u32; 1001];
     let mut own = [0u32; 8002];
-    let r = vertices(vs, 3, v, &mut deg, vcap, types);
-    let Verdict::Sound = r else {
-        return r;
+    let first = vertices(vs, size, v, &mut deg, vcap, types);
+    let Verdict::Sound = first else {
+        return first;
     };
-    let second = 6 + 3 * v;
-    let q = edges(es, e, second, &mut deg, &mut own, ecap, types);
-    let Verdict::Sound = q else {
-        return q;
+    let behind = edge_offset(size, wide(v));
+    let second = edges(es, e, behind as u32, &mut deg, &mut own, ecap, types);
+    let Verdict::Sound = second else {
+        return second;
     };
-    incidences(vs, 3, v, is, second + 6 * e, &deg, &mut own)
+    let third = degrees(vs, size, v, &deg);
+    let Verdict::Sound = third else {
+        return third;
+    };
+    let end = incidence_offset(size, wide(v), wide(e));
+    incidences(vs, size, v, is, end as u32, &deg, &mut own)
 }

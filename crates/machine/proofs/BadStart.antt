@@ -1,5 +1,5 @@
 -- What 108 and 109 say of a list's start chart, and the number beside them.
-use Prim.Native.Nat.{ℕ, _*_, _/_, _%_, _≤_, _<_}
+use Prim.Native.Nat.{ℕ, _+_, _*_, _/_, _%_, _≤_, _<_}
 use mathlib.Core.Path.{_≡_, refl}
 use mathlib.Core.Bool.{Bool, true, false, not, _&&_}
 use native.Mathlib.Omega.{arith}
@@ -10,12 +10,12 @@ use Rattle.lists.specs.Choice.{_⇒_else_, _==_, within}
 use Rattle.lists.specs.Lists.{all}
 use Rattle.lists.proofs.Bools.{and-true, within-range}
 use Rattle.types.specs.Rows.{rowFits, goodRows}
-use Rattle.image.specs.Image.{vertexOffset, incidenceOffset, imageLength, vertexCount, edgeCount}
+use Rattle.image.specs.Image.{vertexSize, vertexOffset, incidenceOffset, imageLength, vertexCount, edgeCount, recordSize}
 use Rattle.image.specs.Checks.{codeOf, loadCode, verdict}
-use Rattle.image.specs.FirstBad.{FirstBad}
+use Rattle.image.specs.FirstBad.{isDegree, FirstBad, FirstDegree}
 use Rattle.image.specs.declared.Verdict.{Verdict}
 use Rattle.image.specs.declared.Verdict.the-variants.{Sound, BadHeader, BadRecord, BadIncidence}
-use Rattle.image.proofs.LoadCodes.{bad-record, bad-incidence}
+use Rattle.image.proofs.LoadCodes.{bad-record, bad-degree, bad-incidence}
 use Rattle.machine.specs.Calls.{boundsIn}
 use Rattle.machine.specs.Run.{Lent, parametersOf, listRefusal, listNumber}
 use Rattle.machine.proofs.ListRows.{startRows}
@@ -51,16 +51,22 @@ module _ (l : Lent) where
 
   -- 108: the number is the offset of the first bad word, which stands among the records
   pub record-number : listRefusal l ≡ 108 →
-      FirstBad (boundsIn (parametersOf l)) (l .start) (listNumber l) × (vertexOffset ≤ listNumber l) × (listNumber l < incidenceOffset (vertexCount (l .start)) (edgeCount (l .start)))
+      FirstBad (boundsIn (parametersOf l)) (l .start) (listNumber l) × (vertexOffset ≤ listNumber l) × (listNumber l < incidenceOffset (recordSize (l .start)) (vertexCount (l .start)) (edgeCount (l .start)))
   unfolding listNumber
   record-number e =
       let f = found 108 e (omega arith) in
       let r = bad-record (boundsIn (parametersOf l)) (l .start) (f .0) in
       rw e (r .2 (f .1), r .0, r .1)
 
+  -- 108 at a degree: that of record i, the first that disagrees with the edges
+  pub degree-number : listRefusal l ≡ 108 → isDegree (l .start) (listNumber l) ≡ true →
+      (i : ℕ) × (listNumber l ≡ vertexOffset + vertexSize * i + 3) × FirstDegree (l .start) i
+  unfolding listNumber
+  degree-number e d = let f = found 108 e (omega arith) in rw e (bad-degree (boundsIn (parametersOf l)) (l .start) (f .0) (rw e at d))
+
   -- 109: it stands in the incidence part
   pub incidence-number : listRefusal l ≡ 109 →
-      FirstBad (boundsIn (parametersOf l)) (l .start) (listNumber l) × (incidenceOffset (vertexCount (l .start)) (edgeCount (l .start)) ≤ listNumber l)
+      FirstBad (boundsIn (parametersOf l)) (l .start) (listNumber l) × (incidenceOffset (recordSize (l .start)) (vertexCount (l .start)) (edgeCount (l .start)) ≤ listNumber l)
   unfolding listNumber
   incidence-number e =
       let f = found 109 e (omega arith) in

@@ -1,14 +1,16 @@
 -- The twelve cases of Seven, together: one test that is computed over the table.
 use mathlib.Core.Path.{_≡_, refl}
+use mathlib.Core.Logic.{inl}
 use mathlib.Core.Bool.{true}
-use mathlib.Core.List.{[], _∷_}
+use mathlib.Core.List.{List, [], _∷_}
+use Prim.Native.Nat.{ℕ}
 use lib.ListN.{replicate}
 use Rattle.lists.specs.Choice.{pick}
 use Rattle.lists.specs.Lists.{all, All, same}
 use Rattle.lists.proofs.Sums.{all-bool}
 use Rattle.graph.specs.Graph.{Graph, empty}
 use Rattle.graph.specs.WellFormed.{wellFormed}
-use Rattle.image.specs.Image.{save}
+use Rattle.image.specs.Image.{save, saveOld}
 use Rattle.image.proofs.RecordWords.{same-eq}
 use Rattle.image.proofs.Loads.{one-graph}
 use Rattle.history.specs.Machine.{fresh, present}
@@ -18,7 +20,7 @@ use Rattle.history.specs.Machine.{stepOf}
 use Rattle.commands.specs.Commands.{commandOf}
 use Rattle.machine.specs.Codes.{refusal}
 use Rattle.machine.specs.Machine.{stepTo, last}
-use Rattle.machine.specs.Run.{listRefusal}
+use Rattle.machine.specs.Run.{Lent, listRefusal}
 use Rattle.machine.specs.Seven.{parameters, seven, making, then, delete, undo, Case, twelve}
 
 computed : all (λ (c : Case). same (c .found) (c .said)) twelve ≡ true
@@ -34,7 +36,7 @@ formed = refl
 
 -- graphs that save as the same words are the same
 same-graph : (g : Graph) → wellFormed (boundsIn parameters) g ≡ true → same (save g) (save seven) ≡ true → g ≡ seven
-same-graph g f e = one-graph (boundsIn parameters) (boundsIn parameters) g seven f formed (same-eq (save g) (save seven) e)
+same-graph g f e = one-graph (boundsIn parameters) (boundsIn parameters) g seven f formed (inl (same-eq (save g) (save seven) e)) (inl refl)
 
 -- the calls that make Seven
 pub made : present (last parameters (fresh empty) making) ≡ seven
@@ -46,16 +48,28 @@ pub case-g : present (then (delete 1 ∷ undo ∷ [])) ≡ seven
 unfolding then save wellFormed pick
 case-g = same-graph _ refl refl
 
--- lists are accepted: Seven with no calls
-pub accepted-one : listRefusal (record {
-  start = save seven;
+-- a list of no calls, from a start chart, at capacities 10, 10, 20
+abbrev idle : List ℕ → ℕ → Lent
+idle start room = record {
+  start = start;
   rows = parameters .rows;
   calls = [];
   vertexTable = 80;
   edgeTable = 120;
   changeTable = 240;
   answers = [];
-  end = replicate 116 0;
-}) ≡ 0
+  end = replicate room 0;
+}
+
+-- lists are accepted: Seven by its new and its old words; the end image asks for 126 words
+pub accepted-one : listRefusal (idle (save seven) 126) ≡ 0
 unfolding listRefusal save wellFormed pick
 accepted-one = refl
+
+pub accepted-old : listRefusal (idle (saveOld seven) 126) ≡ 0
+unfolding listRefusal saveOld wellFormed pick
+accepted-old = refl
+
+pub no-room : listRefusal (idle (save seven) 125) ≡ 106
+unfolding listRefusal save wellFormed pick
+no-room = refl

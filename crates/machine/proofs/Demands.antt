@@ -1,12 +1,12 @@
 -- Every list meets demands 1 and 2.
 use Prim.Native.Nat.{ℕ, suc}
-use mathlib.Core.Path.{_≡_, refl, sym, ap, _∙_}
+use mathlib.Core.Path.{_≡_, sym, ap, _∙_}
 use mathlib.Core.Bool.{true}
 use mathlib.Core.List.{List, [], _∷_}
 use native.Mathlib.Omega.{arith}
 use borrow.Author.Tests.{eq-eqb, ne-eqb}
 use Rattle.lists.specs.Choice.{_==_}
-use Rattle.image.proofs.Loads.{saved-same, loads}
+use Rattle.image.proofs.Loads.{loads-back, saved-same, saved-loads, loads}
 use Rattle.history.specs.Machine.{Machine, present}
 use Rattle.commands.specs.declared.Command.{Command}
 use Rattle.commands.specs.Calls.{Call, callsOf}
@@ -72,9 +72,9 @@ demand-2 l = record {
   answered = λ h.
       (answers (parametersOf l) (begins l) (callsOf (l .calls)), demand-3 l (not-refused l h) .answered, each (OfTheGraph (parametersOf l)) (parametersOf l) (of-the-graph (parametersOf l)) (begins l) (callsOf (l .calls)));
   loads = loads (boundsIn (parametersOf l));
-  same = saved-same (boundsIn (parametersOf l));
+  same = loads-back (boundsIn (parametersOf l));
   ends = λ h f.
       let e = not-refused l h in
       let g = end-formed (parametersOf l) _ (callsOf (l .calls)) (start-formed l e) f in
-      (demand-3 l e .saved, loads (boundsIn (parametersOf l)) _ .1 (_, g, refl), saved-same (boundsIn (parametersOf l)) _ g);
+      (demand-3 l e .saved, saved-loads (boundsIn (parametersOf l)) _ g, saved-same (boundsIn (parametersOf l)) _ g);
 }

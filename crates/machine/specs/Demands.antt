@@ -10,7 +10,7 @@ use lib.ListN.{length}
 use Rattle.lists.specs.Lists.{All, over}
 use Rattle.graph.specs.Graph.{Graph}
 use Rattle.graph.specs.WellFormed.{wellFormed}
-use Rattle.image.specs.Image.{save, load, loadable}
+use Rattle.image.specs.Image.{save, SavesAs, load, loadable}
 use Rattle.history.specs.Machine.{Machine, present}
 use Rattle.commands.specs.declared.Question.{Question}
 use Rattle.commands.specs.declared.PriceCall.{PriceCall}
@@ -58,11 +58,11 @@ pub record Demand2 (l : Lent) (r : RunResult) : Type 0 where
   pub answered : NoneApplies (listTable l) →
       ((bs : List Answer) × (r .answers ≡ over (answerWords bs) (l .answers))
       × Each (OfTheGraph (parametersOf l)) (parametersOf l) (begins l) (callsOf (l .calls)) bs)
-  -- words load exactly where some graph within the capacities saves as them, and then they are that graph
+  -- words load exactly where some graph within the capacities saves as them, new or old, and then they are that graph
   pub loads : (ws : List ℕ)
       → (loadable (boundsIn (parametersOf l)) ws ≡ true) ↔ ((g : Graph)
-      × (wellFormed (boundsIn (parametersOf l)) g ≡ true) × (save g ≡ ws))
-  pub same : (g : Graph) → wellFormed (boundsIn (parametersOf l)) g ≡ true → load (save g) ≡ g
+      × (wellFormed (boundsIn (parametersOf l)) g ≡ true) × SavesAs g ws)
+  pub same : (g : Graph) → wellFormed (boundsIn (parametersOf l)) g ≡ true → (ws : List ℕ) → SavesAs g ws → load ws ≡ g
   -- and so is the end image of this list
   pub ends : NoneApplies (listTable l) → All Words (callsOf (l .calls)) →
       (r .end ≡ over (save (present (after l (callsOf (l .calls))))) (l .end))

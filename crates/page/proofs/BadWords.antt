@@ -1,5 +1,5 @@
 -- What stands beside the code of a page that is refused: with 108 and 109 the offset of the first bad word, else 0.
-use Prim.Native.Nat.{ℕ, _≤_, _<_}
+use Prim.Native.Nat.{ℕ, _+_, _*_, _≤_, _<_}
 use mathlib.Core.Path.{_≡_, refl, sym, ap, _∙_}
 use mathlib.Core.Logic.{_⊎_, inl, inr, ⊎-elim}
 use mathlib.Core.Bool.{Bool, true, false}
@@ -9,12 +9,12 @@ use lib.Dec.{ltb}
 use lib.ListN.{length}
 use borrow.Author.Tests.{ltb-true, ltb-false, eqb-true, eqb-false}
 use Rattle.lists.specs.Choice.{_==_}
-use Rattle.image.specs.Image.{vertexOffset, incidenceOffset, vertexCount, edgeCount}
+use Rattle.image.specs.Image.{vertexSize, vertexOffset, incidenceOffset, vertexCount, edgeCount, recordSize}
 use Rattle.image.specs.Checks.{codeOf, offsetOf, loadCode, loadOffset, verdict}
-use Rattle.image.specs.FirstBad.{FirstBad}
+use Rattle.image.specs.FirstBad.{isDegree, FirstBad, FirstDegree}
 use Rattle.image.specs.declared.Verdict.{Verdict}
 use Rattle.image.specs.declared.Verdict.the-variants.{Sound, BadHeader, BadRecord, BadIncidence}
-use Rattle.image.proofs.LoadCodes.{no-offset, bad-record, bad-incidence}
+use Rattle.image.proofs.LoadCodes.{no-offset, bad-record, bad-degree, bad-incidence}
 use Rattle.page.specs.Page.{PageResult, pageBounds, pageBytes, pageOf}
 use Rattle.page.proofs.PageLaws.{page-refused, page-under, page-full}
 
@@ -54,15 +54,22 @@ module _ (ws page : List ℕ) where
   -- 108: the offset of the first bad word, which stands among the records
   pub record-bytes : pageOf ws page .code ≡ 108 →
       FirstBad pageBounds ws (pageOf ws page .bytes) × (vertexOffset ≤ pageOf ws page .bytes)
-      × (pageOf ws page .bytes < incidenceOffset (vertexCount ws) (edgeCount ws))
+      × (pageOf ws page .bytes < incidenceOffset (recordSize ws) (vertexCount ws) (edgeCount ws))
   record-bytes e =
       let f = coded 108 e (omega arith) in
       let r = bad-record pageBounds ws (f .0) in
       rw (f .1) (r .2 (omega arith), r .0, r .1)
 
+  -- 108 at a degree: that of record i, the first that disagrees with the edges
+  pub degree-bytes : pageOf ws page .code ≡ 108 → isDegree ws (pageOf ws page .bytes) ≡ true →
+      (i : ℕ) × (pageOf ws page .bytes ≡ vertexOffset + vertexSize * i + 3) × FirstDegree ws i
+  degree-bytes e d =
+      let f = coded 108 e (omega arith) in
+      rw (f .1) (bad-degree pageBounds ws (f .0) (ap (isDegree ws) (sym (f .1)) ∙ d))
+
   -- 109: it stands in the incidence part
   pub incidence-bytes : pageOf ws page .code ≡ 109 →
-      FirstBad pageBounds ws (pageOf ws page .bytes) × (incidenceOffset (vertexCount ws) (edgeCount ws) ≤ pageOf ws page .bytes)
+      FirstBad pageBounds ws (pageOf ws page .bytes) × (incidenceOffset (recordSize ws) (vertexCount ws) (edgeCount ws) ≤ pageOf ws page .bytes)
   incidence-bytes e =
       let f = coded 109 e (omega arith) in
       let r = bad-incidence pageBounds ws (f .0) in

@@ -66,6 +66,22 @@ word-twice : pageOf (1 ∷ 1 ∷ 6 ∷ 9 ∷ 15 ∷ 17 ∷ 1 ∷ 0 ∷ 5 ∷ 3 �
 unfolding pageOf verdict pick
 word-twice = refl
 
+-- the same in new words, and with the degree of a loop counted once: the degree is told, before the incidence
+word-twice-new : pageOf (1 ∷ 1 ∷ 6 ∷ 10 ∷ 16 ∷ 18 ∷ 1 ∷ 0 ∷ 5 ∷ 2 ∷ 3 ∷ 1 ∷ 1 ∷ 2 ∷ 1 ∷ 0 ∷ 7 ∷ 7 ∷ []) []
+    ≡ record { code = 109; bytes = 17; page = [] }
+unfolding pageOf verdict pick
+word-twice-new = refl
+
+loop-once : pageOf (1 ∷ 1 ∷ 6 ∷ 10 ∷ 16 ∷ 18 ∷ 1 ∷ 0 ∷ 5 ∷ 1 ∷ 3 ∷ 1 ∷ 1 ∷ 2 ∷ 1 ∷ 0 ∷ 7 ∷ 7 ∷ []) []
+    ≡ record { code = 108; bytes = 9; page = [] }
+unfolding pageOf verdict pick
+loop-once = refl
+
+-- offsets of old records with a total of new ones
+mixed : pageOf (1 ∷ 0 ∷ 6 ∷ 9 ∷ 9 ∷ 10 ∷ 1 ∷ 0 ∷ 5 ∷ 0 ∷ []) [] ≡ record { code = 105; bytes = 0; page = [] }
+unfolding pageOf verdict
+mixed = refl
+
 -- a loop at vertex 1, silent: 24 bytes are too few, and of 26 the last stays
 loop-words : List ℕ
 loop-words = 1 ∷ 1 ∷ 6 ∷ 9 ∷ 15 ∷ 17 ∷ 1 ∷ 0 ∷ 5 ∷ 3 ∷ 1 ∷ 1 ∷ 2 ∷ 1 ∷ 0 ∷ 6 ∷ 7 ∷ []

@@ -11,12 +11,14 @@ use Rattle.lists.specs.Lists.{each, over}
 use Rattle.decimal.specs.Stored.{Stored}
 use Rattle.decimal.proofs.Stores.{stored-over}
 use Rattle.graph.specs.Graph.{Graph}
-use Rattle.image.specs.Image.{soundHeader, part, edgeCount, edgePart, edgesFrom, load, save, loadable}
+use Rattle.graph.specs.WellFormed.{wellFormed}
+use Rattle.image.specs.Image.{SavesAs, recordSize, soundHeader, part, edgeCount, edgePart, load, loadable}
 use Rattle.image.specs.Checks.{loadCode, loadOffset, verdict}
 use Rattle.image.proofs.Verdicts.{zero-sound}
 use Rattle.image.proofs.LoadCodes.{code-loads}
-use Rattle.image.proofs.Loads.{loaded, edge-words}
-use Rattle.image.proofs.RecordWords.{edges-length}
+use Rattle.image.proofs.Loads.{loads-back, saves-loads, loaded}
+use Rattle.image.proofs.SavedSound.{loads-sound}
+use Rattle.image.proofs.SoundLoads.{long-edges}
 use Rattle.image.proofs.Room.{few-edges}
 use Rattle.page.specs.Rows.{rowOf, rowsOf, rowsFrom}
 use Rattle.page.specs.Page.{PageResult, pageBounds, pageBytes, pageCode, pageOf}
@@ -44,17 +46,29 @@ unfolding pageOf pageCode
 page-full ws page z k =
     rw (zero-sound (verdict pageBounds ws) z, le-ltb (length page) (pageBytes ws) k)
 
+-- the page is the same for new and old words of a graph
+pub page-same : (g : Graph) → wellFormed pageBounds g ≡ true → (us ws page : List ℕ) → SavesAs g us → SavesAs g ws →
+    pageOf us page ≡ pageOf ws page
+unfolding pageOf pageCode
+page-same g h us ws page s t =
+    let e : load us ≡ load ws = loads-back pageBounds g h us s ∙ sym (loads-back pageBounds g h ws t) in
+    rw (
+      loads-sound pageBounds us (saves-loads pageBounds g h us s),
+      loads-sound pageBounds ws (saves-loads pageBounds g h ws t),
+      e,
+    )
+
 -- ---- the edge part of words that load
 
-part-two : (ws : List ℕ) → soundHeader ws ≡ true → part 2 ws ≡ edgePart ws
+part-two : (ws : List ℕ) → soundHeader ws ≡ true → part 2 ws ≡ edgePart (recordSize ws) ws
 unfolding part
 part-two ws h = rw h
 
 eseq-count : (ws : List ℕ) → length (load ws .eseq) ≡ edgeCount ws
 unfolding load
-eseq-count ws = from-length (edgeCount ws) (edgePart ws)
+eseq-count ws = from-length (edgeCount ws) (edgePart (recordSize ws) ws)
 
-load-rows : (ws : List ℕ) → rowsOf (load ws) ≡ rowsFrom (edgeCount ws) (edgePart ws)
+load-rows : (ws : List ℕ) → rowsOf (load ws) ≡ rowsFrom (edgeCount ws) (edgePart (recordSize ws) ws)
 unfolding rowsOf load
 load-rows ws = refl
 
@@ -62,13 +76,11 @@ module _ (ws rs : List ℕ) (z : loadCode pageBounds ws ≡ 0) (e : rs ≡ part 
   h : loadable pageBounds ws ≡ true
   h = code-loads pageBounds ws .0 z
 
-  records : rs ≡ edgePart ws
+  records : rs ≡ edgePart (recordSize ws) ws
   records = e ∙ part-two ws (loaded pageBounds ws h .header)
 
   records-length : length rs ≡ 6 * edgeCount ws
-  records-length =
-      let a : edgePart ws ≡ edgePart (save (load ws)) = ap edgePart (sym (loaded pageBounds ws h .again)) in
-      omega (arith, ap length (records ∙ a ∙ edge-words (load ws)), edges-length (load ws .eseq), eseq-count ws)
+  records-length = ap length records ∙ long-edges ws (loaded pageBounds ws h .header)
 
   counted : length rs / 6 ≡ edgeCount ws
   counted = omega (arith, records-length)

@@ -10,6 +10,7 @@ ghost use Rattle.page.specs.Page.{pageOf, printed};
 use decimal::bytes;
 use image::check;
 use image::code_of;
+use image::layout::EDGE;
 use image::offset_of;
 use image::part;
 
@@ -98,7 +99,7 @@ fn rows(words: &[u32], count: usize, out: &mut [u8]) -> usize
     let mut at = 0;
     while i < count {
         at = row(&words[from..], out, at);
-        from += 6;
+        from += EDGE;
         i += 1;
     }
     at
@@ -118,7 +119,7 @@ pub fn print(words: &[u32], page: &mut [u8]) -> Printed
         };
     }
     let records = part(words, 2);
-    let count = records.len() / 6;
+    let count = records.len() / EDGE;
     if page.len() < 25 * count {
         return Printed {
             code: 107,

@@ -18,7 +18,9 @@ use Rattle.graph.specs.Graph.{Vertex, Edge, Graph, vn, en, readingOf}
 use Rattle.graph.specs.WellFormed.{Bounds, Ordered, WellFormed, VertexIn, EdgeIn, Within}
 use Rattle.graph.specs.Edits.{Fits}
 use Rattle.graph.proofs.Readings.{reading-back}
-use Rattle.image.specs.Image.{vertexRecord, edgeRecord, load}
+use Rattle.image.specs.Image.{vertexRecord, edgeRecord, recordSize, load}
+use Rattle.image.proofs.Sizes.{size-range, record-size}
+use Rattle.image.proofs.RecordWords.{record-length}
 use Rattle.tables.specs.declared.Head.{Head}
 use Rattle.tables.specs.Tables.{State, st, vlane, elane, vends, eends, VIn, EIn, insertVertexS, CanInsertVertex, placeEdgeS, CanPlaceEdge}
 use Rattle.tables.specs.Holds.{Core}
@@ -69,8 +71,8 @@ module _ {A : Type 0} (key : A → ℕ) (lane : Lane) (t : List ℕ) (e : Ends) 
 abbrev pub VCore : State → List Vertex → Type 0
 VCore s u = Core s (map withoutList u) []
 
-module _ (b : Bounds) (g : Graph) (wf : WellFormed g) (wi : Within b g) (few : length (g .vseq) ≤ 1000)
-    (part : List ℕ) (s : State) (at : ℕ) (z : Sized b s) (t : Turn vertexRecord VCore (g .vseq) part s at) where
+module _ (size : ℕ) (b : Bounds) (g : Graph) (wf : WellFormed g) (wi : Within b g) (few : length (g .vseq) ≤ 1000)
+    (part : List ℕ) (s : State) (at : ℕ) (z : Sized b s) (t : Turn (vertexRecord size) VCore (g .vseq) part s at) where
   abbrev x : Vertex
   x = t .here
 
@@ -173,20 +175,26 @@ module _ (b : Bounds) (g : Graph) (wf : WellFormed g) (wi : Within b g) (few : l
 -- ---- for callers: a turn of each pass
 
 module _ (words vt₀ et₀ : List ℕ) (k : CanLoad words vt₀ et₀) (part : List ℕ) (at : ℕ) (h : Head) (vt et : List ℕ) (p : length vt ≡ length vt₀) (q : length et ≡ length et₀) where
-  module _ (t : Turn vertexRecord VCore (load words .vseq) part (st h vt et) at) where
-    pub vertex-can : (at + 3 ≤ length part) × CanInsertVertex (getD part at 0) (h .vlast) (st h vt et)
+  module _ (t : Turn (vertexRecord (recordSize words)) VCore (load words .vseq) part (st h vt et) at) where
+    size : length (vertexRecord (recordSize words) (t .here)) ≡ recordSize words
+    size = record-length (recordSize words) (record-size words) (t .here)
+
+    -- the record stands in the part, and its vertex can be put in
+    pub vertex-can : (at + recordSize words ≤ length part) × (at + 3 ≤ length part) × CanInsertVertex (getD part at 0) (h .vlast) (st h vt et)
     vertex-can =
-        let f = given words vt₀ et₀ k in (
-          fill-room vertexRecord VCore (load words .vseq) part (st h vt et) at t (omega arith),
-          can-vertex (k .bounds) (load words) (f .formed) (f .within) (most-vertices words vt₀ et₀ k) part (st h vt et) at (sized-by words vt₀ et₀ k h vt et p q) t,
+        let f = given words vt₀ et₀ k in
+        let r = fill-room (vertexRecord (recordSize words)) VCore (load words .vseq) part (st h vt et) at t (omega arith) in (
+          omega (arith, r, size),
+          omega (arith, r, size, size-range (recordSize words) (record-size words) .0),
+          can-vertex (recordSize words) (k .bounds) (load words) (f .formed) (f .within) (most-vertices words vt₀ et₀ k) part (st h vt et) at (sized-by words vt₀ et₀ k h vt et p q) t,
         )
 
-    pub vertex-next : (s′ : State) → s′ ≡ vertexS part at (st h vt et) → Fill vertexRecord VCore (load words .vseq) part s′ (at + 3)
+    pub vertex-next : (s′ : State) → s′ ≡ vertexS part at (st h vt et) → Fill (vertexRecord (recordSize words)) VCore (load words .vseq) part s′ (at + recordSize words)
     vertex-next s′ e =
         let f = given words vt₀ et₀ k in
-        fill-next vertexRecord VCore (load words .vseq) part (st h vt et) at t 3 refl s′ (
+        fill-next (vertexRecord (recordSize words)) VCore (load words .vseq) part (st h vt et) at t (recordSize words) size s′ (
         subst (λ (r : State). VCore r (t .past ++ t .here ∷ [])) (sym e)
-        (next-vertex (k .bounds) (load words) (f .formed) (f .within) (most-vertices words vt₀ et₀ k) part (st h vt et) at (sized-by words vt₀ et₀ k h vt et p q) t)
+        (next-vertex (recordSize words) (k .bounds) (load words) (f .formed) (f .within) (most-vertices words vt₀ et₀ k) part (st h vt et) at (sized-by words vt₀ et₀ k h vt et p q) t)
         )
 
   module _ (vs : List Vertex) (t : Turn edgeRecord (ECore vs) (load words .eseq) part (st h vt et) at) where

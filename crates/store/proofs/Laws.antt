@@ -10,8 +10,8 @@ use Rattle.lists.specs.Lists.{over}
 use Rattle.graph.specs.Graph.{Graph}
 use Rattle.graph.specs.WellFormed.{Bounds, Within, wellFormed}
 use Rattle.graph.proofs.Facts.{to-facts, from-facts}
-use Rattle.image.specs.Image.{imageLength, save, load, loadable}
-use Rattle.image.proofs.Loads.{image-length, saved-same, saved-loads, loaded, loaded-same}
+use Rattle.image.specs.Image.{vertexSize, imageLength, save, recordSize, load, loadable}
+use Rattle.image.proofs.Loads.{image-length, saved-same, saved-loads, loaded, loaded-same, saved-anew}
 use Rattle.image.proofs.Room.{few-vertices, few-edges}
 use Rattle.tables.specs.Tables.{State, st, noHead}
 use Rattle.tables.specs.Holds.{Holds}
@@ -58,20 +58,29 @@ module _ (b : Bounds) (s : State) (g : Graph) (h : Holds s g) (i : Within b g) (
   pub saved-loaded : (s′ : State) → Holds s′ (load (take n out′)) → Holds s′ g
   saved-loaded s′ r = subst (λ (x : Graph). Holds s′ x) (ap load saved-front ∙ saved-same b g (from-facts b g (h .sound) i)) r
 
--- ---- loaded, then saved: the same words
+-- ---- loaded, then saved: new words for the same graph
 
 module _ (b : Bounds) (words : List ℕ) (k : loadable b words ≡ true) (s : State) (h : Holds s (load words)) where
-  pub can-save-loaded : (size : ℕ) → Sized b s → length words ≤ size → CanSave s size
+  pub can-save-loaded : (size : ℕ) → Sized b s → length (save (load words)) ≤ size → CanSave s size
   can-save-loaded size z r = record {
     graph = load words;
     bounds = b;
     holds = h;
     within = within-loaded b words k;
     sized = z;
-    room = omega (arith, h .core .vertices, h .core .edges, image-length b (load words) (loaded b words k .formed), ap length (loaded-same b words k));
+    room = omega (arith, h .core .vertices, h .core .edges, image-length b (load words) (loaded b words k .formed));
   }
 
-  pub loaded-saved : (out out′ : List ℕ) (n : ℕ) → Saved s out out′ n → (out′ ≡ over words out) × (n ≡ length words)
-  loaded-saved out out′ n q =
-      let e = loaded-same b words k in
-      (q (load words) h .0 ∙ ap (λ (l : List ℕ). over l out) e, q (load words) h .1 ∙ ap length e)
+  module _ (out out′ : List ℕ) (n : ℕ) (q : Saved s out out′ n) where
+    -- of whichever record the words were
+    pub loaded-anew : (recordSize (take n out′) ≡ vertexSize) × (load (take n out′) ≡ load words)
+    loaded-anew =
+        let e = saved-front b s (load words) h (within-loaded b words k) out out′ n q in
+        let a = saved-anew b words k in
+        (ap recordSize e ∙ a .0, ap load e ∙ a .2)
+
+    -- new words as they were
+    pub loaded-saved : recordSize words ≡ vertexSize → (out′ ≡ over words out) × (n ≡ length words)
+    loaded-saved z =
+        let e = loaded-same b words k z in
+        (q (load words) h .0 ∙ ap (λ (l : List ℕ). over l out) e, q (load words) h .1 ∙ ap length e)

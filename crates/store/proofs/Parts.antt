@@ -9,7 +9,8 @@ use Rattle.lists.specs.Lists.{each}
 use Rattle.graph.specs.Graph.{Graph}
 use Rattle.graph.specs.WellFormed.{Bounds, WellFormed, Within}
 use Rattle.graph.proofs.Facts.{to-facts}
-use Rattle.image.specs.Image.{vertexRecord, edgeRecord, incidencesOf, vertexPart, edgePart, incidencePart, part, load, loadable}
+use Rattle.image.specs.Image.{vertexRecord, edgeRecord, incidencesOf, recordSize, vertexPart, edgePart, incidencePart, part, load, loadable}
+use Rattle.image.proofs.Sizes.{record-size}
 use Rattle.image.proofs.Loads.{loaded, vertex-words, edge-words, incidence-words}
 use Rattle.image.proofs.Parts.{part-1, part-2, part-3}
 use Rattle.image.proofs.Room.{few-vertices, few-edges}
@@ -23,7 +24,7 @@ pub record Source (b : Bounds) (words : List ℕ) (g : Graph) : Type 0 where
   pub within : Within b g
   pub fewVertices : length (g .vseq) ≤ b .vertices
   pub fewEdges : length (g .eseq) ≤ b .edges
-  pub vertices : part 1 words ≡ each vertexRecord (g .vseq)
+  pub vertices : part 1 words ≡ each (vertexRecord (recordSize words)) (g .vseq)
   pub edges : part 2 words ≡ each edgeRecord (g .eseq)
   pub lists : part 3 words ≡ each incidencesOf (g .vseq)
 
@@ -31,14 +32,16 @@ pub source : (b : Bounds) (words : List ℕ) → loadable b words ≡ true → S
 source b words h =
     let l = loaded b words h in
     let f = to-facts b (load words) (l .formed) in
+    let n = recordSize words in
+    let z = record-size words in
     record {
       formed = f .0;
       within = f .1;
       fewVertices = few-vertices b (load words) (l .formed);
       fewEdges = few-edges b (load words) (l .formed);
-      vertices = part-1 words (l .header) ∙ ap vertexPart (sym (l .again)) ∙ vertex-words (load words);
-      edges = part-2 words (l .header) ∙ ap edgePart (sym (l .again)) ∙ edge-words (load words);
-      lists = part-3 words (l .header) ∙ ap incidencePart (sym (l .again)) ∙ incidence-words (load words);
+      vertices = part-1 words (l .header) ∙ ap (vertexPart n) (sym (l .again)) ∙ vertex-words n z (load words);
+      edges = part-2 words (l .header) ∙ ap (edgePart n) (sym (l .again)) ∙ edge-words n z (load words);
+      lists = part-3 words (l .header) ∙ ap (incidencePart n) (sym (l .again)) ∙ incidence-words n z (load words);
     }
 
 -- in the words of what loading asks

@@ -1,6 +1,6 @@
 -- The words that saving writes are the image of the graph that the tables hold.
-use Prim.Native.Nat.{ℕ, _+_, _≤_}
-use mathlib.Core.Path.{_≡_, refl, ap, _∙_}
+use Prim.Native.Nat.{ℕ, _+_, _*_, _≤_}
+use mathlib.Core.Path.{_≡_, refl, sym, ap, _∙_}
 use mathlib.Core.Bool.{true}
 use mathlib.Core.List.{List, [], _∷_, _++_, map}
 use native.Mathlib.Omega.{arith}
@@ -11,7 +11,11 @@ use Rattle.ring.specs.Links.{nodes}
 use Rattle.graph.specs.Graph.{Vertex, Edge, Graph}
 use Rattle.graph.specs.WellFormed.{wellFormed}
 use Rattle.graph.proofs.Facts.{from-facts}
-use Rattle.image.specs.Image.{vertexRecord, edgeRecord, incidencesOf, headerOf, save}
+use Rattle.image.specs.Image.{vertexSize, vertexRecord, edgeSize, edgeRecord, incidencesOf, vertexOffset, edgeOffset, incidenceOffset, imageLength, headerOf, save}
+use Rattle.image.proofs.Sizes.{new}
+use Rattle.image.proofs.Formed.{formed}
+use Rattle.image.proofs.RecordWords.{vertices-length, edges-length}
+use Rattle.image.proofs.Ends.{incidences-length}
 use Rattle.image.proofs.Loads.{image-length}
 use Rattle.image.proofs.Room.{few-vertices, few-edges}
 use Rattle.tables.specs.Tables.{State, vlane, elane, ilane, vends, eends, endsAt}
@@ -19,7 +23,7 @@ use Rattle.tables.specs.Holds.{Holds}
 use Rattle.tables.specs.Read.{vertexAt, edgeAt, graphOf}
 use Rattle.tables.proofs.GraphRead.{graph-is}
 use Rattle.store.specs.Words.{vertexPart, edgePart, incidencePart, Some, CanSave}
-use Rattle.store.proofs.Stores.{then-by}
+use Rattle.store.proofs.Stores.{then-by, sets-apart}
 use Rattle.lists.proofs.Stores.{sets-over}
 
 -- ---- the words
@@ -31,13 +35,13 @@ each-map f h (x ∷ l) = ap (λ (k : List ℕ). f (h x) ++ k) (each-map f h l)
 -- the image, read off the tables
 imageOf : State → List ℕ
 imageOf s =
-    headerOf (s .head .vertices) (s .head .edges)
-    ++ (vertexPart (s .head) (s .vt) ++ (edgePart (s .head) (s .et) ++ incidencePart (s .head) (s .vt) (s .et)))
+    headerOf vertexSize (s .head .vertices) (s .head .edges)
+    ++ (vertexPart (s .head) (s .vt) (s .et) ++ (edgePart (s .head) (s .et) ++ incidencePart (s .head) (s .vt) (s .et)))
 
 module _ (s : State) (g : Graph) (h : Holds s g) where
-  vertex-part : vertexPart (s .head) (s .vt) ≡ each vertexRecord (g .vseq)
+  vertex-part : vertexPart (s .head) (s .vt) (s .et) ≡ each (vertexRecord vertexSize) (g .vseq)
   unfolding vertexPart graphOf
-  vertex-part = each-map vertexRecord (vertexAt s) (nodes vlane (s .vt) (vends (s .head))) ∙ ap (λ (x : Graph). each vertexRecord (x .vseq)) (graph-is s g h)
+  vertex-part = each-map (vertexRecord vertexSize) (vertexAt s) (nodes vlane (s .vt) (vends (s .head))) ∙ ap (λ (x : Graph). each (vertexRecord vertexSize) (x .vseq)) (graph-is s g h)
 
   edge-part : edgePart (s .head) (s .et) ≡ each edgeRecord (g .eseq)
   unfolding edgePart graphOf
@@ -52,7 +56,7 @@ module _ (s : State) (g : Graph) (h : Holds s g) where
   image-is =
       let v = h .core .vertices in
       let e = h .core .edges in
-      λ i. headerOf (v i) (e i) ++ (vertex-part i ++ (edge-part i ++ incidence-part i))
+      λ i. headerOf vertexSize (v i) (e i) ++ (vertex-part i ++ (edge-part i ++ incidence-part i))
 
 -- ---- what saving asks, and what it leaves
 
@@ -78,42 +82,46 @@ module _ (s : State) (size : ℕ) (k : CanSave s size) where
   pub some-i : (v : ℕ) → 1 ≤ v → Some ilane (s .et) (endsAt (s .vt) v)
   some-i v r = (_, k .holds .core .lists v r)
 
-  -- there is room for the three parts
-  pub parts-fit : 6 + length (vertexPart (s .head) (s .vt)) + length (edgePart (s .head) (s .et)) + length (incidencePart (s .head) (s .vt) (s .et)) ≤ size
-  unfolding imageOf
-  parts-fit =
-      let vp = vertexPart (s .head) (s .vt) in
-      let ep = edgePart (s .head) (s .et) in
-      let ip = incidencePart (s .head) (s .vt) (s .et) in
-      omega (
-        arith,
-        length-append vp (ep ++ ip),
-        length-append ep ip,
-        ap length (image-is s g (k .holds)),
-        image-length (k .bounds) g sound,
-        k .holds .core .vertices,
-        k .holds .core .edges,
-        k .room,
-      )
+  -- how long the parts are: so each begins where the header says, and there is room for all
+  pub record Lengths : Type 0 where
+    pub vertices : length (vertexPart (s .head) (s .vt) (s .et)) ≡ vertexSize * s .head .vertices
+    pub edges : length (edgePart (s .head) (s .et)) ≡ edgeSize * s .head .edges
+    pub lists : length (incidencePart (s .head) (s .vt) (s .et)) ≡ 2 * s .head .edges
+    pub room : imageLength (s .head .vertices) (s .head .edges) ≤ size
+
+  pub lengths : Lengths
+  lengths =
+      let v = k .holds .core .vertices in
+      let e = k .holds .core .edges in
+      record {
+        vertices = omega (arith, ap length (vertex-part s g (k .holds)), vertices-length vertexSize new (g .vseq), v);
+        edges = omega (arith, ap length (edge-part s g (k .holds)), edges-length (g .eseq), e);
+        lists = omega (arith, ap length (incidence-part s g (k .holds)), incidences-length (k .bounds) g (formed (k .bounds) g sound), e);
+        room = k .room;
+      }
 
   image-fits : length (imageOf s) ≤ size
   image-fits = omega (arith, ap length (image-is s g (k .holds)), image-length (k .bounds) g sound, k .holds .core .vertices, k .holds .core .edges, k .room)
 
--- the header and the parts, one behind another
-pub saved-by : (s : State) (out : List ℕ) → CanSave s (length out) → (out₁ out₂ out₃ out₄ : List ℕ) (a b r : ℕ) →
-    out₁ ≡ sets out 0 (headerOf (s .head .vertices) (s .head .edges)) →
-    (out₂ ≡ sets out₁ 6 (vertexPart (s .head) (s .vt))) × (a ≡ 6 + length (vertexPart (s .head) (s .vt))) →
-    (out₃ ≡ sets out₂ a (edgePart (s .head) (s .et))) × (b ≡ a + length (edgePart (s .head) (s .et))) →
-    (out₄ ≡ sets out₃ b (incidencePart (s .head) (s .vt) (s .et))) × (r ≡ b + length (incidencePart (s .head) (s .vt) (s .et))) →
-    (g : Graph) → Holds s g → (out₄ ≡ over (save g) out) × (r ≡ length (save g))
+-- the header, the edges, and the records of the vertices with their lists
+pub saved-by : (s : State) (out : List ℕ) → CanSave s (length out) → (out₁ out₂ out₃ : List ℕ) (a b r : ℕ) →
+    a ≡ edgeOffset vertexSize (s .head .vertices) → b ≡ incidenceOffset vertexSize (s .head .vertices) (s .head .edges) →
+    out₁ ≡ sets out 0 (headerOf vertexSize (s .head .vertices) (s .head .edges)) → out₂ ≡ sets out₁ a (edgePart (s .head) (s .et)) →
+    (out₃ ≡ sets (sets out₂ vertexOffset (vertexPart (s .head) (s .vt) (s .et))) b (incidencePart (s .head) (s .vt) (s .et)))
+    × (r ≡ b + length (incidencePart (s .head) (s .vt) (s .et))) →
+    (g : Graph) → Holds s g → (out₃ ≡ over (save g) out) × (r ≡ length (save g))
 unfolding imageOf
-saved-by s out k out₁ out₂ out₃ out₄ a b r p q u w g h =
-    let vp = vertexPart (s .head) (s .vt) in
+saved-by s out k out₁ out₂ out₃ a b r ea eb p q w g h =
+    let vp = vertexPart (s .head) (s .vt) (s .et) in
     let ep = edgePart (s .head) (s .et) in
     let ip = incidencePart (s .head) (s .vt) (s .et) in
-    let e₃ : out₄ ≡ sets out₂ a (ep ++ ip) = then-by out₂ a b ep ip (u .0) (u .1) (w .0) in
-    let e₂ : out₄ ≡ sets out₁ 6 (vp ++ (ep ++ ip)) = then-by out₁ 6 a vp (ep ++ ip) (q .0) (q .1) e₃ in
-    let e₁ : out₄ ≡ sets out 0 (imageOf s) = then-by out 0 6 (headerOf (s .head .vertices) (s .head .edges)) (vp ++ (ep ++ ip)) p refl e₂ in (
+    let n = lengths s (length out) k in
+    let la : a ≡ 6 + length vp = omega (arith, ea, n .vertices) in
+    let lb : b ≡ a + length ep = omega (arith, ea, eb, n .edges) in
+    let swap : sets out₂ 6 vp ≡ sets (sets out₁ 6 vp) a ep = ap (λ (l : List ℕ). sets l 6 vp) q ∙ sym (sets-apart out₁ 6 a vp ep (omega (arith, la))) in
+    let e₃ : out₃ ≡ sets (sets out₁ 6 vp) a (ep ++ ip) = then-by (sets out₁ 6 vp) a b ep ip swap lb (w .0) in
+    let e₂ : out₃ ≡ sets out₁ 6 (vp ++ (ep ++ ip)) = then-by out₁ 6 a vp (ep ++ ip) refl la e₃ in
+    let e₁ : out₃ ≡ sets out 0 (imageOf s) = then-by out 0 6 (headerOf vertexSize (s .head .vertices) (s .head .edges)) (vp ++ (ep ++ ip)) p refl e₂ in (
       e₁ ∙ sets-over (imageOf s) out (image-fits s (length out) k) ∙ ap (λ (x : List ℕ). over x out) (image-is s g h),
-      omega (arith, q .1, u .1, w .1, length-append vp (ep ++ ip), length-append ep ip, ap length (image-is s g h)),
+      omega (arith, la, lb, w .1, length-append vp (ep ++ ip), length-append ep ip, ap length (image-is s g h)),
     )

@@ -14,6 +14,7 @@ use Rattle.ring.proofs.Pigeonhole.{held-length}
 use Rattle.ring.proofs.Model.{nodes-chain, node-below, held-nodes}
 use Rattle.store.specs.Words.{Some}
 use Rattle.lists.proofs.Stores.{sets-append}
+use Rattle.store.proofs.Stores.{sets-apart}
 
 pub each-one : (l : List ℕ) → each (λ x. x ∷ []) l ≡ l
 each-one [] = refl
@@ -32,7 +33,59 @@ pub record On (lane : Lane) (t : List ℕ) (e : Ends) (x : ℕ) (rest : List ℕ
   pub inside : All (Inside lane (length t)) rest
   pub few : length rest ≤ length t + lane .skip
 
--- f of each node is written: what is left to write from here writes the same as the whole from the start
+module _ (lane : Lane) (t : List ℕ) (e : Ends) where
+  on-start : ValidLane lane → Some lane t e → (x : ℕ) → x ≡ linkOf nxt lane t e 0 → On lane t e x (nodes lane t e)
+  on-start valid s x q =
+      let h : Held lane t e (nodes lane t e) = rw (held-nodes lane t e valid (s .0) (s .1)) (s .1) in
+      record {
+        from = 0;
+        here = q;
+        chain = h .chain;
+        real = h .distinct .0;
+        inside = h .inside;
+        few = held-length lane t e (length t + lane .skip) (nodes lane t e) (λ y s i. node-below lane (length t) y valid s i) h;
+      }
+
+  -- at a node: it is in the table, and behind it the walk goes on with less left
+  record Ahead (x : ℕ) (rest : List ℕ) : Type 0 where
+    behind : List ℕ
+    split : x ∷ behind ≡ rest
+    within : Inside lane (length t) x
+    onward : (y : ℕ) → y ≡ linkOf nxt lane t e x → On lane t e y behind
+    less : (y : ℕ) → y ≡ linkOf nxt lane t e x → left lane t e y < left lane t e x
+
+  on-turn : (x : ℕ) (rest : List ℕ) → On lane t e x rest → (x ≡ 0 → ⊥) → Ahead x rest
+  on-turn x [] o z = absurd (z (o .here ∙ o .chain .0))
+  on-turn x (k ∷ l) o z =
+      let here : x ≡ k = o .here ∙ o .chain .0 .0 in
+      let now : nodesFrom (linkOf nxt lane t e) (length t + lane .skip) x ≡ k ∷ l =
+      ap (nodesFrom (linkOf nxt lane t e) (length t + lane .skip)) (o .here)
+      ∙ nodes-chain (linkOf nxt lane t e) (linkOf prv lane t e) (length t + lane .skip) (o .from) (k ∷ l) (o .chain) (o .real) (o .few) in
+      record {
+        behind = l;
+        split = ap (λ (n : ℕ). n ∷ l) here;
+        within = rw here (o .inside .0);
+        onward = λ y r. record {
+          from = k;
+          here = r ∙ ap (linkOf nxt lane t e) here;
+          chain = o .chain .1;
+          real = o .real .1;
+          inside = o .inside .1;
+          few = omega (arith, o .few);
+        };
+        less = λ y r.
+            let then : nodesFrom (linkOf nxt lane t e) (length t + lane .skip) y ≡ l =
+            ap (nodesFrom (linkOf nxt lane t e) (length t + lane .skip)) (r ∙ ap (linkOf nxt lane t e) here)
+            ∙ nodes-chain (linkOf nxt lane t e) (linkOf prv lane t e) (length t + lane .skip) k l (o .chain .1) (o .real .1) (omega (arith, o .few)) in
+            omega (arith, ap length now, ap length then);
+      }
+
+  on-end : (x : ℕ) (rest : List ℕ) → On lane t e x rest → x ≡ 0 → rest ≡ []
+  on-end x [] o z = refl
+  on-end x (k ∷ l) o z = absurd (o .real .0 (sym z ∙ o .here ∙ o .chain .0 .0))
+
+-- ---- f of each node is written: what is left to write from here writes the same as the whole from the start
+
 pub record Writing (f : ℕ → List ℕ) (lane : Lane) (t : List ℕ) (e : Ends) (out₀ : List ℕ) (at₀ : ℕ) (out : List ℕ) (at x : ℕ) : Type 0 where
   pub rest : List ℕ
   pub on : On lane t e x rest
@@ -41,21 +94,7 @@ pub record Writing (f : ℕ → List ℕ) (lane : Lane) (t : List ℕ) (e : Ends
 
 module _ (f : ℕ → List ℕ) (lane : Lane) (t : List ℕ) (e : Ends) (out₀ : List ℕ) (at₀ : ℕ) where
   pub writing-start : ValidLane lane → Some lane t e → (x : ℕ) → x ≡ linkOf nxt lane t e 0 → Writing f lane t e out₀ at₀ out₀ at₀ x
-  writing-start valid s x q =
-      let h : Held lane t e (nodes lane t e) = rw (held-nodes lane t e valid (s .0) (s .1)) (s .1) in
-      record {
-        rest = nodes lane t e;
-        on = record {
-          from = 0;
-          here = q;
-          chain = h .chain;
-          real = h .distinct .0;
-          inside = h .inside;
-          few = held-length lane t e (length t + lane .skip) (nodes lane t e) (λ y s i. node-below lane (length t) y valid s i) h;
-        };
-        same = refl;
-        size = refl;
-      }
+  writing-start valid s x q = record { rest = nodes lane t e; on = on-start lane t e valid s x q; same = refl; size = refl }
 
   -- at a node: it is in the table, there is room for its words, and behind them the walk goes on with less left
   pub record Turn (out : List ℕ) (at x : ℕ) : Type 0 where
@@ -66,46 +105,89 @@ module _ (f : ℕ → List ℕ) (lane : Lane) (t : List ℕ) (e : Ends) (out₀ 
 
   module _ (out : List ℕ) (at x : ℕ) where
     pub writing-turn : Writing f lane t e out₀ at₀ out at x → (x ≡ 0 → ⊥) → Turn out at x
-    writing-turn w z = go (w .rest) (w .on) (w .same) (w .size)
-      where
-        go : (l : List ℕ) → On lane t e x l → sets out at (each f l) ≡ sets out₀ at₀ (each f (nodes lane t e)) →
-            at + length (each f l) ≡ at₀ + length (each f (nodes lane t e)) → Turn out at x
-        go [] o s n = absurd (z (o .here ∙ o .chain .0))
-        go (k ∷ l) o s n =
-            let here : x ≡ k = o .here ∙ o .chain .0 .0 in
-            let s′ : sets out at (f x ++ each f l) ≡ sets out₀ at₀ (each f (nodes lane t e)) = rw here s in
-            let n′ : at + length (f x ++ each f l) ≡ at₀ + length (each f (nodes lane t e)) = rw here n in
-            let now : nodesFrom (linkOf nxt lane t e) (length t + lane .skip) x ≡ k ∷ l =
-            ap (nodesFrom (linkOf nxt lane t e) (length t + lane .skip)) (o .here)
-            ∙ nodes-chain (linkOf nxt lane t e) (linkOf prv lane t e) (length t + lane .skip) (o .from) (k ∷ l) (o .chain) (o .real) (o .few) in
-            record {
-              inside = rw here (o .inside .0);
-              room = omega (arith, n′, length-append (f x) (each f l));
-              next = λ out′ at′ y p q r. record {
-                rest = l;
-                on = record {
-                  from = k;
-                  here = r ∙ ap (linkOf nxt lane t e) here;
-                  chain = o .chain .1;
-                  real = o .real .1;
-                  inside = o .inside .1;
-                  few = omega (arith, o .few);
-                };
-                same = rw (p, q) (sets-append out (f x) (each f l) at ∙ s′);
-                size = omega (arith, q, n′, length-append (f x) (each f l));
-              };
-              less = λ y r.
-                  let then : nodesFrom (linkOf nxt lane t e) (length t + lane .skip) y ≡ l =
-                  ap (nodesFrom (linkOf nxt lane t e) (length t + lane .skip)) (r ∙ ap (linkOf nxt lane t e) here)
-                  ∙ nodes-chain (linkOf nxt lane t e) (linkOf prv lane t e) (length t + lane .skip) k l (o .chain .1) (o .real .1) (omega (arith, o .few)) in
-                  omega (arith, ap length now, ap length then);
-            }
+    writing-turn w z =
+        let a = on-turn lane t e x (w .rest) (w .on) z in
+        let l = a .behind in
+        let s : sets out at (f x ++ each f l) ≡ sets out₀ at₀ (each f (nodes lane t e)) = ap (λ (k : List ℕ). sets out at (each f k)) (a .split) ∙ w .same in
+        let n : at + length (f x ++ each f l) ≡ at₀ + length (each f (nodes lane t e)) = ap (λ (k : List ℕ). at + length (each f k)) (a .split) ∙ w .size in
+        record {
+          inside = a .within;
+          room = omega (arith, n, length-append (f x) (each f l));
+          next = λ out′ at′ y p q r. record {
+            rest = l;
+            on = a .onward y r;
+            same = rw (p, q) (sets-append out (f x) (each f l) at ∙ s);
+            size = omega (arith, q, n, length-append (f x) (each f l));
+          };
+          less = a .less;
+        }
 
     pub writing-end : Writing f lane t e out₀ at₀ out at x → x ≡ 0 → (out ≡ sets out₀ at₀ (each f (nodes lane t e))) × (at ≡ at₀ + length (each f (nodes lane t e)))
-    writing-end w z = go (w .rest) (w .on) (w .same) (w .size)
-      where
-        go : (l : List ℕ) → On lane t e x l → sets out at (each f l) ≡ sets out₀ at₀ (each f (nodes lane t e)) →
-            at + length (each f l) ≡ at₀ + length (each f (nodes lane t e)) →
-            (out ≡ sets out₀ at₀ (each f (nodes lane t e))) × (at ≡ at₀ + length (each f (nodes lane t e)))
-        go [] o s n = (s, omega arith)
-        go (k ∷ l) o s n = absurd (o .real .0 (sym z ∙ o .here ∙ o .chain .0 .0))
+    writing-end w z =
+        let q = on-end lane t e x (w .rest) (w .on) z in
+        let n : at + length (each f []) ≡ at₀ + length (each f (nodes lane t e)) = rw q at (w .size) in
+        (rw q at (w .same), omega (arith, n))
+
+-- ---- h of each node is written before f of it, at another place, behind all that f has: both on one walk
+
+pub record Pairs (f h : ℕ → List ℕ) (lane : Lane) (t : List ℕ) (e : Ends) (out₀ : List ℕ) (at₀ to₀ : ℕ) (out : List ℕ) (at to x : ℕ) : Type 0 where
+  pub rest : List ℕ
+  pub on : On lane t e x rest
+  pub same : sets (sets out at (each f rest)) to (each h rest) ≡ sets (sets out₀ at₀ (each f (nodes lane t e))) to₀ (each h (nodes lane t e))
+  pub size : at + length (each f rest) ≡ at₀ + length (each f (nodes lane t e))
+  pub long : to + length (each h rest) ≡ to₀ + length (each h (nodes lane t e))
+  pub apart : to₀ ≤ to
+
+module _ (f h : ℕ → List ℕ) (lane : Lane) (t : List ℕ) (e : Ends) (out₀ : List ℕ) (at₀ to₀ : ℕ) where
+  pub pairs-start : ValidLane lane → Some lane t e → (x : ℕ) → x ≡ linkOf nxt lane t e 0 → Pairs f h lane t e out₀ at₀ to₀ out₀ at₀ to₀ x
+  pairs-start valid s x q =
+      record { rest = nodes lane t e; on = on-start lane t e valid s x q; same = refl; size = refl; long = refl; apart = omega arith }
+
+  -- at a node: it is in the table, there is room for its words, and behind them the walk goes on with less left
+  pub record PairTurn (out : List ℕ) (at to x : ℕ) : Type 0 where
+    pub inside : Inside lane (length t) x
+    pub before : at + length (f x) ≤ to
+    pub room : to + length (h x) ≤ to₀ + length (each h (nodes lane t e))
+    pub few : length (h x) ≤ length (each h (nodes lane t e))
+    pub next : (out′ : List ℕ) (at′ to′ y : ℕ) → out′ ≡ sets (sets out to (h x)) at (f x) → at′ ≡ at + length (f x) → to′ ≡ to + length (h x) →
+        y ≡ linkOf nxt lane t e x → Pairs f h lane t e out₀ at₀ to₀ out′ at′ to′ y
+    pub less : (y : ℕ) → y ≡ linkOf nxt lane t e x → left lane t e y < left lane t e x
+
+  module _ (out : List ℕ) (at to x : ℕ) where
+    pub pairs-turn : at₀ + length (each f (nodes lane t e)) ≤ to₀ → Pairs f h lane t e out₀ at₀ to₀ out at to x → (x ≡ 0 → ⊥) → PairTurn out at to x
+    pairs-turn far w z =
+        let a = on-turn lane t e x (w .rest) (w .on) z in
+        let l = a .behind in
+        let all = sets (sets out₀ at₀ (each f (nodes lane t e))) to₀ (each h (nodes lane t e)) in
+        let s : sets (sets out at (f x ++ each f l)) to (h x ++ each h l) ≡ all = ap (λ (k : List ℕ). sets (sets out at (each f k)) to (each h k)) (a .split) ∙ w .same in
+        let n : at + length (f x ++ each f l) ≡ at₀ + length (each f (nodes lane t e)) = ap (λ (k : List ℕ). at + length (each f k)) (a .split) ∙ w .size in
+        let m : to + length (h x ++ each h l) ≡ to₀ + length (each h (nodes lane t e)) = ap (λ (k : List ℕ). to + length (each h k)) (a .split) ∙ w .long in
+        let df = length-append (f x) (each f l) in
+        let dh = length-append (h x) (each h l) in
+        record {
+          inside = a .within;
+          before = omega (arith, n, df, far, w .apart);
+          room = omega (arith, m, dh);
+          few = omega (arith, m, dh, w .apart);
+          next = λ out′ at′ to′ y p q u r. record {
+            rest = l;
+            on = a .onward y r;
+            same =
+                rw (p, q, u)
+                (ap (λ (k : List ℕ). sets k (to + length (h x)) (each h l))
+                (sets-append (sets out to (h x)) (f x) (each f l) at ∙ sym (sets-apart out at to (f x ++ each f l) (h x) (omega (arith, n, far, w .apart))))
+                ∙ sets-append (sets out at (f x ++ each f l)) (h x) (each h l) to
+                ∙ s);
+            size = omega (arith, q, n, df);
+            long = omega (arith, u, m, dh);
+            apart = omega (arith, u, w .apart);
+          };
+          less = a .less;
+        }
+
+    pub pairs-end : Pairs f h lane t e out₀ at₀ to₀ out at to x → x ≡ 0 →
+        (out ≡ sets (sets out₀ at₀ (each f (nodes lane t e))) to₀ (each h (nodes lane t e))) × (to ≡ to₀ + length (each h (nodes lane t e)))
+    pairs-end w z =
+        let q = on-end lane t e x (w .rest) (w .on) z in
+        let m : to + length (each h []) ≡ to₀ + length (each h (nodes lane t e)) = rw q at (w .long) in
+        (rw q at (w .same), omega (arith, m))

@@ -27,21 +27,21 @@ use Rattle.tables.specs.Tables.{
 use Rattle.tables.specs.Holds.{Holds}
 use Rattle.tables.specs.Capacities.{Sized}
 
--- REFERENCE 10.2 to 10.4, read off tables: the record of vertex v, of edge e, and the list of v
-abbrev pub vertexWords : List ℕ → ℕ → List ℕ
-vertexWords vt v = v ∷ vtype vt v ∷ vvalue vt v ∷ []
+-- REFERENCE 10.2 to 10.4, read off tables: the list of v, the record of vertex v, of edge e
+abbrev pub listWords : List ℕ → List ℕ → ℕ → List ℕ
+listWords vt et v = nodes ilane et (endsAt vt v)
+
+abbrev pub vertexWords : List ℕ → List ℕ → ℕ → List ℕ
+vertexWords vt et v = v ∷ vtype vt v ∷ vvalue vt v ∷ length (listWords vt et v) ∷ []
 
 abbrev pub edgeWords : List ℕ → ℕ → List ℕ
 edgeWords et e =
     e ∷ wthis et (2 * e) ∷ wthis et (2 * e + 1) ∷ etype et e ∷ readingKind (readingAt et e) ∷ decimetres
     (readingAt et e) ∷ []
 
-abbrev pub listWords : List ℕ → List ℕ → ℕ → List ℕ
-listWords vt et v = nodes ilane et (endsAt vt v)
-
 -- the three parts
-unfoldable pub vertexPart : Head → List ℕ → List ℕ
-vertexPart h vt = each (vertexWords vt) (nodes vlane vt (vends h))
+unfoldable pub vertexPart : Head → List ℕ → List ℕ → List ℕ
+vertexPart h vt et = each (vertexWords vt et) (nodes vlane vt (vends h))
 
 unfoldable pub edgePart : Head → List ℕ → List ℕ
 edgePart h et = each (edgeWords et) (nodes elane et (eends h))

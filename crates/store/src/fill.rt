@@ -1,4 +1,5 @@
 // The tables filled from the parts of an image: vertices, edges, then the words of the lists.
+use image::layout::EDGE;
 use tables::EdgeRecord;
 use tables::Head;
 use tables::edges::place_edge;
@@ -75,11 +76,12 @@ pub fn vertices(head: Head, words: &[u32], vt: &mut [u32], et: &[u32]) -> Head
         (map withoutList (loadOf (now (words .entry)) .vseq)) [] ⌝ }
 {
     let part = image::part(words, 1);
+    let size = image::layout::record_size(words);
     let mut h = head;
     let mut at = 0;
     while at < part.len() {
         h = vertex(h, part, at, vt, et);
-        at += 3;
+        at += size;
     }
     h
 }
@@ -96,7 +98,7 @@ pub fn edges(head: Head, words: &[u32], vt: &[u32], et: &mut [u32]) -> Head
     let mut at = 0;
     while at < part.len() {
         h = edge(h, part, at, vt, et);
-        at += 6;
+        at += EDGE;
     }
     h
 }

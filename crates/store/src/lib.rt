@@ -2,6 +2,10 @@
 mod fill; // fill.rt: the tables, from the parts of an image
 mod write; // write.rt: the parts of an image, from the tables
 
+use image::layout::HEADER;
+use image::layout::VERTEX;
+use image::layout::edge_offset;
+use image::layout::incidence_offset;
 use tables::Head;
 use tables::clear::clear;
 ghost use mathlib.Core.Path.{_≡_};
@@ -21,10 +25,11 @@ pub fn save(head: Head, vt: &[u32], et: &[u32], out: &mut [u32]) -> usize
     ensures { λ r. ⌜ ((g : Graph) → Holds (st head (now (vt .entry)) (now (et .entry))) g
         → (now (out .exit) ≡ over (saveOf g) (now (out .entry))) × (r ≡ length (saveOf g))) ⌝ }
 {
+    let v = head.vertices as usize;
+    let e = head.edges as usize;
     write::header(out, head.vertices, head.edges);
-    let a = write::vertices(head, vt, out, 6);
-    let b = write::edges(head, et, out, a);
-    write::lists(head, vt, et, out, b)
+    write::edges(head, et, out, edge_offset(VERTEX, v));
+    write::vertices(head, vt, et, out, HEADER, incidence_offset(VERTEX, v, e))
 }
 
 // Fills the tables, whatever they held, from words that `image::check` has found sound. Which words hold the graph

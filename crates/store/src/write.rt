@@ -1,4 +1,9 @@
-// The parts of an image, from the tables: each function writes words from a place on, and tells the place behind them.
+// The parts of an image, from the tables: each function writes words from a place on.
+use image::layout::EDGE;
+use image::layout::HEADER;
+use image::layout::VERTEX;
+use image::layout::edge_offset;
+use image::layout::incidence_offset;
 use ring::Ends;
 use ring::Lane;
 use tables::Head;
@@ -15,7 +20,7 @@ ghost use mathlib.Core.List.{[], _∷_};
 ghost use Prim.Native.Nat.{ℕ, _+_, _≤_, _<_, _^_};
 ghost use lib.ListN.{length};
 ghost use lib.Seq.{sets};
-ghost use Rattle.image.specs.Image.{headerOf};
+ghost use Rattle.image.specs.Image.{vertexSize, headerOf};
 ghost use Rattle.tables.specs.Tables.{VIn, EIn, vlane, elane, ilane, vends, eends, endsAt};
 ghost use Rattle.store.specs.Words.{vertexWords, edgeWords, listWords, vertexPart, edgePart, incidencePart};
 ghost use Rattle.store.specs.Words.{Fits, Some};
@@ -32,20 +37,13 @@ fn three(out: &mut [u32], at: usize, a: u32, b: u32, c: u32)
 // V, E, the three offsets, the total.
 pub fn header(out: &mut [u32], v: u32, e: u32)
     requires { ⌜ (v ≤ 1000) × (e ≤ 4000) × (6 ≤ length (now out)) ⌝ }
-    ensures { λ _. ⌜ now (out .exit) ≡ sets (now (out .entry)) 0 (headerOf v e) ⌝ }
+    ensures { λ _. ⌜ now (out .exit) ≡ sets (now (out .entry)) 0 (headerOf vertexSize v e) ⌝ }
 {
-    three(out, 0, v, e, 6);
-    three(out, 3, 6 + 3 * v, 6 + 3 * v + 6 * e, 6 + 3 * v + 8 * e);
-}
-
-// The record of vertex v.
-fn vertex(vt: &[u32], v: u32, out: &mut [u32], at: usize)
-    requires { ⌜ VIn (now vt) v × Fits at (vertexWords (now vt) v) (now out) ⌝ }
-    ensures { λ _. ⌜ now (out .exit) ≡ sets (now (out .entry)) at (vertexWords (now (vt .entry)) v) ⌝ }
-{
-    let t = vertex_type(vt, v);
-    let x = vertex_value(vt, v);
-    three(out, at, v, t, x);
+    let edges = edge_offset(VERTEX, v as usize);
+    let lists = incidence_offset(VERTEX, v as usize, e as usize);
+    let total = image::layout::length(VERTEX, v as usize, e as usize);
+    three(out, 0, v, e, HEADER as u32);
+    three(out, 3, edges as u32, lists as u32, total as u32);
 }
 
 // The record of edge e.
@@ -63,33 +61,11 @@ fn edge(et: &[u32], e: u32, out: &mut [u32], at: usize)
     three(out, at + 3, t, k, d);
 }
 
-// The vertex part.
-pub fn vertices(head: Head, vt: &[u32], out: &mut [u32], from: usize) -> usize
-    requires { ⌜ Some vlane (now vt) (vends head) × Fits from (vertexPart head (now vt)) (now out) ⌝ }
-    ensures { λ r. ⌜ (now (out .exit) ≡ sets (now (out .entry)) from (vertexPart head (now (vt .entry))))
-        × (r ≡ from + length (vertexPart head (now (vt .entry)))) ⌝ }
-{
-    let lane = Lane { stride: 8, skip: 2 };
-    let ends = Ends {
-        first: head.vfirst,
-        last: head.vlast,
-    };
-    let mut at = from;
-    let mut v = ring::next(vt, lane, ends, 0);
-    while v != 0 {
-        vertex(vt, v, out, at);
-        at += 3;
-        v = ring::next(vt, lane, ends, v);
-    }
-    at
-}
-
 // The edge part.
-pub fn edges(head: Head, et: &[u32], out: &mut [u32], from: usize) -> usize
+pub fn edges(head: Head, et: &[u32], out: &mut [u32], from: usize)
     requires { ⌜ Some elane (now et) (eends head) × (length (now et) < 2 ^ 31)
         × Fits from (edgePart head (now et)) (now out) ⌝ }
-    ensures { λ r. ⌜ (now (out .exit) ≡ sets (now (out .entry)) from (edgePart head (now (et .entry))))
-        × (r ≡ from + length (edgePart head (now (et .entry)))) ⌝ }
+    ensures { λ _. ⌜ now (out .exit) ≡ sets (now (out .entry)) from (edgePart head (now (et .entry))) ⌝ }
 {
     let lane = Lane {
         stride: 12,
@@ -103,10 +79,9 @@ pub fn edges(head: Head, et: &[u32], out: &mut [u32], from: usize) -> usize
     let mut e = ring::next(et, lane, ends, 0);
     while e != 0 {
         edge(et, e, out, at);
-        at += 6;
+        at += EDGE;
         e = ring::next(et, lane, ends, e);
     }
-    at
 }
 
 // The incidence list of v.
@@ -131,13 +106,42 @@ fn list(vt: &[u32], et: &[u32], v: u32, out: &mut [u32], from: usize) -> usize
     at
 }
 
-// The incidence part.
-pub fn lists(head: Head, vt: &[u32], et: &[u32], out: &mut [u32], from: usize) -> usize
+// The record of vertex v at `at`, and its list at `to`, behind the records: the list comes first, and its length is the
+// degree. Tells the place behind the list.
+fn vertex(vt: &[u32], et: &[u32], v: u32, out: &mut [u32], at: usize, to: usize) -> usize
+    requires { ⌜ VIn (now vt) v × Some ilane (now et) (endsAt (now vt) v) × (at + 4 ≤ to)
+        × Fits to (listWords (now vt) (now et) v) (now out) × (length (listWords (now vt) (now et) v) < 2 ^ 32) ⌝ }
+    ensures { λ r. ⌜ (now (out .exit)
+        ≡ sets (sets (now (out .entry)) to (listWords (now (vt .entry)) (now (et .entry)) v))
+        at (vertexWords (now (vt .entry)) (now (et .entry)) v))
+        × (r ≡ to + length (listWords (now (vt .entry)) (now (et .entry)) v)) ⌝ }
+{
+    let end = list(vt, et, v, out, to);
+    let t = vertex_type(vt, v);
+    let x = vertex_value(vt, v);
+    three(out, at, v, t, x);
+    out[at + 3] = (end - to) as u32;
+    end
+}
+
+// The vertex part from `from` on and the incidence part from `behind` on, vertex by vertex on one walk. Tells the place
+// behind the lists.
+pub fn vertices(
+    head: Head,
+    vt: &[u32],
+    et: &[u32],
+    out: &mut [u32],
+    from: usize,
+    behind: usize,
+) -> usize
     requires { ⌜ Some vlane (now vt) (vends head) × ((v : ℕ) → 1 ≤ v → Some ilane (now et) (endsAt (now vt) v))
-        × Fits from (incidencePart head (now vt) (now et)) (now out) ⌝ }
-    ensures { λ r. ⌜
-        (now (out .exit) ≡ sets (now (out .entry)) from (incidencePart head (now (vt .entry)) (now (et .entry))))
-        × (r ≡ from + length (incidencePart head (now (vt .entry)) (now (et .entry)))) ⌝ }
+        × (from + length (vertexPart head (now vt) (now et)) ≤ behind)
+        × Fits behind (incidencePart head (now vt) (now et)) (now out)
+        × (length (incidencePart head (now vt) (now et)) < 2 ^ 32) ⌝ }
+    ensures { λ r. ⌜ (now (out .exit)
+        ≡ sets (sets (now (out .entry)) from (vertexPart head (now (vt .entry)) (now (et .entry))))
+        behind (incidencePart head (now (vt .entry)) (now (et .entry))))
+        × (r ≡ behind + length (incidencePart head (now (vt .entry)) (now (et .entry)))) ⌝ }
 {
     let lane = Lane { stride: 8, skip: 2 };
     let ends = Ends {
@@ -145,10 +149,12 @@ pub fn lists(head: Head, vt: &[u32], et: &[u32], out: &mut [u32], from: usize) -
         last: head.vlast,
     };
     let mut at = from;
+    let mut to = behind;
     let mut v = ring::next(vt, lane, ends, 0);
     while v != 0 {
-        at = list(vt, et, v, out, at);
+        to = vertex(vt, et, v, out, at, to);
+        at += VERTEX;
         v = ring::next(vt, lane, ends, v);
     }
-    at
+    to
 }

@@ -79,13 +79,13 @@ module _ (answers image : List ℕ) where
   unfolding boundedText
   bounded-answers h = rw (lt-ltb 2000 (length answers) h)
 
-  pub bounded-image : length answers ≤ 2000 → 7006 < length image → boundedText answers image ≡ []
+  pub bounded-image : length answers ≤ 2000 → 7206 < length image → boundedText answers image ≡ []
   unfolding boundedText
-  bounded-image h k = rw (le-ltb 2000 (length answers) h, lt-ltb 7006 (length image) k)
+  bounded-image h k = rw (le-ltb 2000 (length answers) h, lt-ltb 7206 (length image) k)
 
-  pub bounded-whole : length answers ≤ 2000 → length image ≤ 7006 → writeText answers image ≡ boundedText answers image
+  pub bounded-whole : length answers ≤ 2000 → length image ≤ 7206 → writeText answers image ≡ boundedText answers image
   unfolding boundedText
-  bounded-whole h k = rw (le-ltb 2000 (length answers) h, le-ltb 7006 (length image) k)
+  bounded-whole h k = rw (le-ltb 2000 (length answers) h, le-ltb 7206 (length image) k)
 
 -- ---- turns of the loops
 

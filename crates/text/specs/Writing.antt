@@ -53,7 +53,7 @@ unfoldable pub boundedText : List ℕ → List ℕ → List ℕ
 unfolding writeText
 boundedText answers image =
     ltb 2000 (length answers) ⇒ [] else
-    ltb 7006 (length image) ⇒ [] else
+    ltb 7206 (length image) ⇒ [] else
     writeText answers image
 
 -- all that is written where the input is unreadable

@@ -88,21 +88,21 @@ fn lines(codes: &[u32], image: &[u32], out: &mut [u8]) -> usize
 }
 
 // There is room for 1,000 answers and the image of 200 vertices and 800 edges; of more nothing is written.
-pub fn write(codes: &[u32], image: &[u32], out: &mut [u8; 97072]) -> usize
+pub fn write(codes: &[u32], image: &[u32], out: &mut [u8; 99272]) -> usize
     ensures { λ r. ⌜ Written (boundedText (now (codes .entry)) (now (image .entry))) r (now (out .entry))
         (now (out .exit)) ⌝ }
 {
     if 2000 < codes.len() {
         return 0;
     }
-    if 7006 < image.len() {
+    if 7206 < image.len() {
         return 0;
     }
     lines(codes, image, out)
 }
 
 // The line of unreadable input.
-pub fn write_unreadable(n: u32, out: &mut [u8; 97072]) -> usize
+pub fn write_unreadable(n: u32, out: &mut [u8; 99272]) -> usize
     ensures { λ r. ⌜ Written (unreadableText n) r (now (out .entry)) (now (out .exit)) ⌝ }
 {
     line(out, 0, b"unreadable", &[n])

@@ -141,7 +141,7 @@ fn reads_front(text: &[u8], n: usize, name: &[u8]) {
 }
 
 // The text and then 255s.
-fn same_text(out: &[u8; 97072], n: usize, want: &[u8]) -> bool {
+fn same_text(out: &[u8; 99272], n: usize, want: &[u8]) -> bool {
     if n != want.len() {
         return false;
     }
@@ -160,13 +160,13 @@ fn same_text(out: &[u8; 97072], n: usize, want: &[u8]) -> bool {
 }
 
 fn writes(codes: &[u32], image: &[u32], want: &[u8], name: &[u8]) {
-    let mut out = [255u8; 97072];
+    let mut out = [255u8; 99272];
     let n = text::write(codes, image, &mut out);
     report(same_text(&out, n, want), name);
 }
 
 fn writes_unreadable(number: u32, want: &[u8], name: &[u8]) {
-    let mut out = [255u8; 97072];
+    let mut out = [255u8; 99272];
     let n = text::write_unreadable(number, &mut out);
     report(same_text(&out, n, want), name);
 }
@@ -278,15 +278,17 @@ fn written_example() {
             2,
             1,
             6,
-            12,
-            18,
+            14,
             20,
+            22,
             1,
             0,
             7,
+            1,
             2,
             0,
             9,
+            1,
             1,
             1,
             2,
@@ -296,7 +298,7 @@ fn written_example() {
             2,
             3,
         ],
-        b"done 1\ndone 1\ndone 1\ndone 1\ndone 0\ndone 2\ndone 0\ndone 1\ndone 450\nimage 2 1 6 12 18 20 1 0 7 2 0 9 1 1 2 0 2 450 2 3\n",
+        b"done 1\ndone 1\ndone 1\ndone 1\ndone 0\ndone 2\ndone 0\ndone 1\ndone 450\nimage 2 1 6 14 20 22 1 0 7 1 2 0 9 1 1 1 2 0 2 450 2 3\n",
         b"the nine calls of chartrun",
     );
 }
@@ -304,9 +306,9 @@ fn written_example() {
 // Of more than there is room for, nothing.
 fn written_nothing() {
     let codes = [0u32; 2002];
-    let image = [0u32; 7007];
+    let image = [0u32; 7207];
     writes(&codes, &[], b"", b"1,001 answers");
-    writes(&[], &image, b"", b"an image of 7,007 words");
+    writes(&[], &image, b"", b"an image of 7,207 words");
 }
 
 fn written_unreadable() {

@@ -39,10 +39,10 @@ lends calls answers end = record {
 -- of the calls ws: how many were done, the words of the image, and the two slices that the run wrote
 pub record Shows (ws : List ℕ) (done words : ℕ) (slice end : List ℕ) : Type 0 where
   pub calls-fit : 2 * done ≤ 2000
-  pub words-fit : words ≤ 7006
+  pub words-fit : words ≤ 7206
   pub text : writeText (take (2 * done) slice) (take words end) ≡ reply ws
 
-module _ (ws slice end : List ℕ) (whole : length ws % 5 ≡ 0) (few : length ws ≤ 5000) (a : length slice ≡ 2000) (b : length end ≡ 7006) where
+module _ (ws slice end : List ℕ) (whole : length ws % 5 ≡ 0) (few : length ws ≤ 5000) (a : length slice ≡ 2000) (b : length end ≡ 7206) where
   pub accepts : listRefusal (lends ws slice end) ≡ 0
   unfolding listRefusal
   accepts =
@@ -50,7 +50,7 @@ module _ (ws slice end : List ℕ) (whole : length ws % 5 ≡ 0) (few : length w
       rw (whole, a, le-ltb _ _ p, b)
 
   -- what the run leaves, cut to the calls done and the words of the image, is what the reply shows
-  pub shows : (r : Outcome) (slice′ end′ : List ℕ) → length slice′ ≡ 2000 → length end′ ≡ 7006 → runResult r slice′ end′ ≡ run (lends ws slice end) →
+  pub shows : (r : Outcome) (slice′ end′ : List ℕ) → length slice′ ≡ 2000 → length end′ ≡ 7206 → runResult r slice′ end′ ≡ run (lends ws slice end) →
       Shows ws (r .done) (r .words) slice′ end′
   unfolding reply load
   shows r slice′ end′ p q e =
@@ -64,7 +64,7 @@ module _ (ws slice end : List ℕ) (whole : length ws % 5 ≡ 0) (few : length w
       let saved : end′ ≡ over G end = ap (λ (x : RunResult). x .end) e ∙ d .saved in
       record {
         calls-fit = over-fits A slice slice′ (2 * r .done) 2000 done answered p;
-        words-fit = over-fits G end end′ (r .words) 7006 words saved q;
+        words-fit = over-fits G end end′ (r .words) 7206 words saved q;
         text = λ i. writeText (over-front A slice slice′ (2 * r .done) done answered i) (over-front G end end′ (r .words) words saved i);
       }
 

@@ -10,8 +10,8 @@ ghost use Rattle.text.specs.Writing.{writeText};
 ghost use Rattle.transcript.specs.Transcript.{reply, transcript};
 
 // The text of what a run wrote: the answers of the calls done, and so many words of the image.
-fn shown(answers: &[u32], image: &[u32], done: usize, words: usize, out: &mut [u8; 97072]) -> usize
-    requires { ⌜ (2 * done ≤ length (now answers)) × (words ≤ length (now image)) × (done ≤ 1000) × (words ≤ 7006) ⌝ }
+fn shown(answers: &[u32], image: &[u32], done: usize, words: usize, out: &mut [u8; 99272]) -> usize
+    requires { ⌜ (2 * done ≤ length (now answers)) × (words ≤ length (now image)) × (done ≤ 1000) × (words ≤ 7206) ⌝ }
     ensures { λ r. ⌜ Written (writeText (take (2 * done) (now (answers .entry))) (take words (now (image .entry)))) r
         (now (out .entry)) (now (out .exit)) ⌝ }
 {
@@ -20,7 +20,7 @@ fn shown(answers: &[u32], image: &[u32], done: usize, words: usize, out: &mut [u
 }
 
 // Capacities 200, 800, 1,000; types 0 to 4, with 2 and 3 below 1; the empty graph's image to start from.
-fn respond(calls: &[u32], out: &mut [u8; 97072]) -> usize
+fn respond(calls: &[u32], out: &mut [u8; 99272]) -> usize
     requires { ⌜ (length (now calls) % 5 ≡ 0) × (length (now calls) ≤ 5000) ⌝ }
     ensures { λ r. ⌜ Written (reply (now (calls .entry))) r (now (out .entry)) (now (out .exit)) ⌝ }
 {
@@ -30,7 +30,7 @@ fn respond(calls: &[u32], out: &mut [u8; 97072]) -> usize
     let mut edges = [0u32; 9600];
     let mut journal = [0u32; 12000];
     let mut answers = [0u32; 2000];
-    let mut image = [0u32; 7006];
+    let mut image = [0u32; 7206];
     let r = run(
         &start,
         &rows,
@@ -45,7 +45,7 @@ fn respond(calls: &[u32], out: &mut [u8; 97072]) -> usize
 }
 
 // Writes the whole output for the input to the front of out, and answers how many bytes it has.
-pub fn transcribe(bytes: &[u8], out: &mut [u8; 97072]) -> usize
+pub fn transcribe(bytes: &[u8], out: &mut [u8; 99272]) -> usize
     ensures { λ r. ⌜ Written (transcript (now (bytes .entry))) r (now (out .entry)) (now (out .exit)) ⌝ }
 {
     let mut calls = [0u32; 5000];

@@ -156,9 +156,9 @@ mod tests {
 
     #[test]
     fn a_list_and_a_part() {
-        let text = "# one vertex\ntables 8 12 12\nlent 4 17\nrows 0\nstart 0 0 6 6 6 6\nrun 1 1 0 9, 30\nlast\npart 1\nwords 30 0\nrun\n";
+        let text = "# one vertex\ntables 8 12 12\nlent 4 18\nrows 0\nstart 0 0 6 6 6 6\nrun 1 1 0 9, 30\nlast\npart 1\nwords 30 0\nrun\n";
         let wanted =
-            "# one vertex\nresult 0 2 9\ncall 1 1 0 9 0: 0 1\ncall 30 0 0 0 0: 0 1\nimage 1 0 6 9 9 9 1 0 9\nkept\npart 1: 1 0 9\nresult 101 0 0\nkept\n";
+            "# one vertex\nresult 0 2 10\ncall 1 1 0 9 0: 0 1\ncall 30 0 0 0 0: 0 1\nimage 1 0 6 10 10 10 1 0 9 0\nkept\npart 1: 1 0 9 0\nresult 101 0 0\nkept\n";
         assert_eq!(written(text).as_deref(), Ok(wanted));
         assert_eq!(written("run\nrum\n"), Err(2));
         assert_eq!(written("run 1,,2\n"), Err(1));

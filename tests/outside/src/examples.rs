@@ -22,7 +22,17 @@ pub const SEVEN: [Call; 11] = [
 
 /// Seven saved: 4 vertices, 7 edges, the lists of cases A to C.
 #[rustfmt::skip]
-pub const SEVEN_IMAGE: [u32; 74] = [
+pub const SEVEN_IMAGE: [u32; 78] = [
+    4, 7, 6, 22, 64, 78,
+    1, 0, 0, 6,  2, 0, 0, 4,  3, 0, 0, 0,  4, 0, 0, 4,
+    1, 1, 1, 0, 0, 0,  2, 1, 2, 0, 0, 0,  3, 1, 2, 0, 0, 0,  4, 2, 1, 0, 0, 0,
+    5, 4, 1, 0, 0, 0,  6, 4, 2, 0, 0, 0,  7, 4, 4, 0, 0, 0,
+    2, 3, 4, 6, 9, 11,  5, 7, 8, 13,  10, 12, 14, 15,
+];
+
+/// Its old words, without degrees.
+#[rustfmt::skip]
+pub const SEVEN_OLD: [u32; 74] = [
     4, 7, 6, 18, 60, 74,
     1, 0, 0,  2, 0, 0,  3, 0, 0,  4, 0, 0,
     1, 1, 1, 0, 0, 0,  2, 1, 2, 0, 0, 0,  3, 1, 2, 0, 0, 0,  4, 2, 1, 0, 0, 0,
@@ -99,13 +109,17 @@ pub fn codes() -> Vec<Example> {
     ]
 }
 
-/// The rows of the table for whole lists: 101 to 106.
+/// The rows of the table for whole lists: 101 to 106, 108 and 109.
 pub fn list_codes() -> Vec<(u32, usize, Case)> {
     let seven = || Example { name: "", calls: vec![[30, 0, 0, 0, 0]], answers: vec![] }.case();
     let with = |code, number, change: &dyn Fn(&mut Case)| {
         let mut case = seven();
         change(&mut case);
         (code, number, case)
+    };
+    let old = |c: &mut Case, at: usize, word: u32| {
+        c.start = SEVEN_OLD.to_vec();
+        c.start[at] = word;
     };
     vec![
         with(101, 0, &|c| c.calls.push(0)),
@@ -114,12 +128,22 @@ pub fn list_codes() -> Vec<(u32, usize, Case)> {
         with(104, 0, &|c| c.rows.clear()),
         with(105, 0, &|c| c.start = vec![0, 0, 6, 6, 6, 7]),
         // The second of two equal numbers; the second end; a reading kind; a word twice; a word of another vertex.
-        with(108, 9, &|c| c.start[9] = 1),
-        with(108, 20, &|c| c.start[20] = 5),
-        with(108, 22, &|c| c.start[22] = 3),
-        with(109, 61, &|c| c.start[61] = 2),
-        with(109, 73, &|c| c.start[73] = 3),
-        with(106, 0, &|c| c.image = 115),
+        with(108, 10, &|c| c.start[10] = 1),
+        with(108, 24, &|c| c.start[24] = 5),
+        with(108, 26, &|c| c.start[26] = 3),
+        with(109, 65, &|c| c.start[65] = 2),
+        with(109, 77, &|c| c.start[77] = 3),
+        // A degree; a degree and an edge behind it; a degree and a word of the lists; old words.
+        with(108, 9, &|c| c.start[9] = 5),
+        with(108, 24, &|c| (c.start[9], c.start[24]) = (5, 5)),
+        with(108, 21, &|c| (c.start[21], c.start[64]) = (3, 0)),
+        with(108, 20, &|c| old(c, 20, 5)),
+        with(109, 61, &|c| old(c, 61, 2)),
+        // The edge offset of one record, all else of the other.
+        with(105, 0, &|c| c.start[3] = 18),
+        with(105, 0, &|c| old(c, 3, 22)),
+        with(106, 0, &|c| c.image = 125),
+        with(106, 0, &|c| c.image = 116),
     ]
 }
 
@@ -178,7 +202,8 @@ pub fn every_grade() -> Case {
 }
 
 pub const TEXT: &str = "1 1 0 7 0\n1 2 0 9 0\n3 1 1 2 0\n8 1 2 450 0\n17 5 0 0 0\n2 1 0 0 0\n32 0 0 0 0\n21 5 0 0 0\n44 1 0 0 0\n";
-pub const TEXT_ANSWER: &str = "done 1\ndone 1\ndone 1\ndone 1\ndone 0\ndone 2\ndone 0\ndone 1\ndone 450\nimage 2 1 6 12 18 20 1 0 7 2 0 9 1 1 2 0 2 450 2 3\n";
+pub const TEXT_ANSWER: &str =
+    "done 1\ndone 1\ndone 1\ndone 1\ndone 0\ndone 2\ndone 0\ndone 1\ndone 450\nimage 2 1 6 14 20 22 1 0 7 1 2 0 9 1 1 1 2 0 2 450 2 3\n";
 
 #[cfg(test)]
 mod tests {
@@ -198,6 +223,14 @@ mod tests {
         let case = Case::new(CAPACITIES, &[0], &SEVEN);
         assert_eq!(case.run(), Outcome::Done { answers: [0, 1].repeat(11), image: SEVEN_IMAGE.to_vec() });
         assert!(image::load(&SEVEN_IMAGE, CAPACITIES, 1).is_some());
+    }
+
+    #[test]
+    fn seven_by_both_records() {
+        for start in [&SEVEN_IMAGE[..], &SEVEN_OLD] {
+            let case = Case { start: start.to_vec(), image: 126, ..Case::new(CAPACITIES, &[0], &[]) };
+            assert_eq!(case.run(), Outcome::Done { answers: vec![], image: SEVEN_IMAGE.to_vec() });
+        }
     }
 
     #[test]

@@ -1,12 +1,14 @@
 //! Random cases from a seed: lists of calls, start images sound and damaged, lent lengths, texts, pages.
 
+mod images;
 mod pages;
+pub use images::words;
 pub use pages::{image_text, page};
 
-use crate::image;
 use crate::machine::{is_change, Call, Capacities, Edge, Graph, Machine, Reading, Types, Vertex};
 use crate::run::{image_room, Case};
 use crate::text;
+use images::{damage_image, saved};
 
 /// A splitmix64 generator.
 pub struct Random(u64);
@@ -106,7 +108,7 @@ pub fn case(seed: u64) -> Case {
     let machine = Machine::new(capacities, Types { rows: rows.clone() }, start.clone());
     let calls = calls(&mut r, machine, count, size == Size::Long);
     let mut case = Case::new(capacities, &rows, &calls);
-    case.start = image::save(&start);
+    case.start = saved(&mut r, &start);
     // Lengths that are no multiple of a row, and words beyond.
     case.vertices += r.under(8);
     case.edges += r.under(12);
@@ -414,86 +416,14 @@ fn damage(r: &mut Random, case: &mut Case) {
             }
         },
         5 => {
-            let short = r.between(1, 60);
-            case.image = image_room(case.capacities()).saturating_sub(short);
+            // By some words, or by the degrees.
+            let c = case.capacities();
+            let short = if r.once_in(3) { c.vertices as usize } else { r.between(1, 60) };
+            case.image = image_room(c).saturating_sub(short);
         }
         6 => case.image = r.one_of(&[0, 1, 5, 6]),
         _ => damage_image(r, &mut case.start),
     }
-}
-
-/// Changes some words of an image; a few changes leave it loadable.
-fn damage_image(r: &mut Random, words: &mut Vec<u32>) {
-    let len = words.len();
-    let near = |r: &mut Random, w: u32| match r.under(6) {
-        0 => w.wrapping_add(1),
-        1 => w.wrapping_sub(1),
-        2 => 0,
-        3 => r.word(),
-        4 => w ^ 1,
-        _ => r.under(24) as u32,
-    };
-    match r.under(9) {
-        0 => {
-            let keep = r.under(len + 1);
-            words.truncate(keep);
-        }
-        1 => {
-            let more = r.between(1, 8);
-            words.extend(r.junk(more));
-        }
-        2 => {
-            let n = r.under(40);
-            *words = r.junk(n);
-        }
-        3 if len >= 6 => {
-            let at = r.under(6);
-            words[at] = near(r, words[at]);
-        }
-        4 if len > 8 => {
-            // Two words of the incidence part change places: sound where both are in one list.
-            let lists = words[4] as usize;
-            if lists + 1 < len {
-                let i = r.between(lists, len - 2);
-                let j = if r.once_in(2) { i + 1 } else { r.between(lists, len - 1) };
-                words.swap(i, j);
-            }
-        }
-        5 if len > 8 => {
-            let lists = (words[4] as usize).min(len - 1);
-            let (i, j) = (r.between(lists, len - 1), r.between(lists, len - 1));
-            words[i] = words[j];
-        }
-        6 if image::sound_header(words) => {
-            // A field of a record takes the value of the same field of another.
-            let (v, e) = (words[0] as usize, words[1] as usize);
-            if e > 0 && r.once_in(2) {
-                let at = 6 + 3 * v;
-                let f = r.under(6);
-                words[at + 6 * r.under(e) + f] = words[at + 6 * r.under(e) + f];
-            } else if v > 0 {
-                let f = r.under(3);
-                words[6 + 3 * r.under(v) + f] = words[6 + 3 * r.under(v) + f];
-            }
-        }
-        _ if len > 6 => {
-            let at = r.between(6, len - 1);
-            words[at] = near(r, words[at]);
-        }
-        _ => words.push(0),
-    }
-}
-
-/// Words for the parts of an image, sound or damaged.
-pub fn words(seed: u64) -> Vec<u32> {
-    let mut r = Random::new(seed ^ 0x7061_7274);
-    let exactly = r.once_in(2);
-    let g = graph(&mut r, Capacities { vertices: 6, edges: 8, changes: 1 }, 3, (6, 8), exactly);
-    let mut words = image::save(&g);
-    if r.once_in(2) {
-        damage_image(&mut r, &mut words);
-    }
-    words
 }
 
 /// A text for chartrun, sound or damaged.

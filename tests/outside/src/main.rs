@@ -12,10 +12,11 @@
 use outside::cases;
 use outside::gen;
 use outside::image;
-use outside::machine::{is_change, is_kind, Call, Capacities, Graph};
+use outside::machine::{is_change, Call, Capacities, Graph};
 use outside::page;
 use outside::run::{Case, Outcome};
 use outside::text;
+use reached::Reached;
 use std::collections::BTreeMap;
 use std::io::{Read, Write};
 use std::process::exit;
@@ -23,6 +24,7 @@ use std::time::Instant;
 
 #[cfg(feature = "engine")]
 mod programs;
+mod reached;
 
 struct Options {
     alone: bool,
@@ -81,63 +83,6 @@ fn usage() -> ! {
     exit(2)
 }
 
-/// What the generated calls reached.
-#[derive(Default)]
-struct Reached {
-    lists: u64,
-    calls: u64,
-    accepted: u64,
-    longest: usize,
-    kinds: BTreeMap<u32, u64>,
-    codes: BTreeMap<u32, u64>,
-    /// Accepted changes that altered nothing, by kind.
-    idle: BTreeMap<u32, u64>,
-    /// Codes of pages, 0 among them.
-    pages: BTreeMap<u32, u64>,
-}
-
-impl Reached {
-    fn add(&mut self, case: &Case, outcome: &Outcome) {
-        self.lists += 1;
-        match outcome {
-            Outcome::Refused(code, _) => *self.codes.entry(*code).or_default() += 1,
-            Outcome::Done { answers, .. } => {
-                for (call, answer) in case.calls.chunks(5).zip(answers.chunks(2)) {
-                    self.calls += 1;
-                    if answer[0] == 0 {
-                        self.accepted += 1;
-                        *self.kinds.entry(call[0]).or_default() += 1;
-                        if is_change(call[0]) && answer[1] == 0 {
-                            *self.idle.entry(call[0]).or_default() += 1;
-                        }
-                    } else {
-                        *self.codes.entry(answer[0]).or_default() += 1;
-                    }
-                }
-            }
-        }
-    }
-
-    fn page(&mut self, code: u32) {
-        *self.pages.entry(code).or_default() += 1;
-    }
-
-    /// Kinds never accepted, changes that never altered nothing, and codes never given.
-    fn missing(&self) -> Vec<String> {
-        let kinds = (0..100).filter(|k| is_kind(*k) && !self.kinds.contains_key(k)).map(|k| format!("kind {k}"));
-        let codes = (1..=17).chain(101..=106).chain(108..=109).filter(|c| !self.codes.contains_key(c)).map(|c| format!("code {c}"));
-        let idle = (5..=16).filter(|k| !self.idle.contains_key(k)).map(|k| format!("kind {k} that alters nothing"));
-        let pages = [0, 105, 107, 108, 109].into_iter().filter(|c| !self.pages.contains_key(c)).map(|c| format!("page with code {c}"));
-        kinds.chain(codes).chain(idle).chain(pages).collect()
-    }
-
-    fn summary(&self) -> String {
-        let refused: u64 = self.codes.range(101..).map(|c| c.1).sum();
-        let pages: u64 = self.pages.values().sum();
-        format!("{} lists ({refused} refused), {} calls ({} accepted), {pages} pages", self.lists, self.calls, self.accepted)
-    }
-}
-
 fn fail(message: String) -> ! {
     println!("outside: {message}");
     exit(1)
@@ -156,15 +101,14 @@ fn run_alone(options: &Options) {
         reached.add(&case, &outcome);
         let words = gen::words(seed);
         let capacities = Capacities { vertices: 6, edges: 8, changes: 1 };
-        if image::load(&words, capacities, 3).is_some() != image::bad(&words, capacities, 3).is_none() {
-            fail(format!("seed {seed}: words load and have a bad one, or neither: {words:?}"));
-        }
+        judges(seed, &words, capacities, 3);
         for which in 0..5 {
             if let Some((from, len)) = image::part(&words, which) {
                 assert!(from + len <= words.len());
             }
         }
         let (words, room) = gen::page(seed);
+        judges(seed, &words, page::CAPACITIES, page::TYPES);
         reached.page(page::page(&words, room).err().map_or(0, |refused| refused.0));
         if seed % 10 == 0 {
             text::chartrun(&gen::text(seed));
@@ -175,6 +119,22 @@ fn run_alone(options: &Options) {
         fail(format!("never reached: {}", reached.missing().join(", ")));
     }
     println!("outside: plain machine alone, {}, up to {} steps, {} s", reached.summary(), reached.longest, begun.elapsed().as_secs());
+}
+
+/// The judges of an image agree, and what loads is the same graph when it is saved and loaded again.
+fn judges(seed: u64, words: &[u32], capacities: Capacities, types: u32) {
+    let (loaded, bad) = (image::load(words, capacities, types), image::bad(words, capacities, types));
+    let saved_again = loaded.as_ref().map(|g| image::load(&image::save(g), capacities, types));
+    let wrong = if loaded.is_some() != bad.is_none() {
+        "load and have a bad one, or neither"
+    } else if bad != image::bad_by_old_record(words, capacities, types) {
+        "are bad at another place without their degrees"
+    } else if saved_again.is_some_and(|again| again != loaded) {
+        "are another graph when they are saved again"
+    } else {
+        return;
+    };
+    fail(format!("seed {seed}: words {wrong}: {words:?}"));
 }
 
 /// REFERENCE 4.11 and 4.12 on the plain machine, by a record of its own of what each mark stood for.

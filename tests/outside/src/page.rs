@@ -65,10 +65,11 @@ pub fn line(words: &[u32]) -> Vec<u8> {
 mod tests {
     use super::{chartpage, line, page};
 
-    const ONE: [u32; 20] = [2, 1, 6, 12, 18, 20, 1, 0, 7, 2, 0, 9, 1, 1, 2, 0, 2, 450, 2, 3];
+    const ONE: [u32; 22] = [2, 1, 6, 14, 20, 22, 1, 0, 7, 1, 2, 0, 9, 1, 1, 1, 2, 0, 2, 450, 2, 3];
+    const OLD: [u32; 20] = [2, 1, 6, 12, 18, 20, 1, 0, 7, 2, 0, 9, 1, 1, 2, 0, 2, 450, 2, 3];
 
     /// With another word at a place.
-    fn with(at: usize, word: u32) -> [u32; 20] {
+    fn with(at: usize, word: u32) -> [u32; 22] {
         let mut words = ONE;
         words[at] = word;
         words
@@ -77,20 +78,24 @@ mod tests {
     #[test]
     fn one_row() {
         assert_eq!(page(&ONE, 25).unwrap(), b"   1    1    2  0    450\n");
+        assert_eq!(page(&OLD, 25), page(&ONE, 25));
         assert_eq!(page(&ONE, 24), Err((107, 0)));
         assert_eq!(page(&ONE[1..], 0), Err((105, 0)));
-        assert_eq!(page(&with(15, 64), 0), Err((108, 15)));
-        assert_eq!(page(&with(19, 2), 0), Err((109, 19)));
+        assert_eq!(page(&with(9, 2), 0), Err((108, 9)));
+        assert_eq!(page(&with(17, 64), 0), Err((108, 17)));
+        assert_eq!(page(&with(21, 2), 0), Err((109, 21)));
         assert_eq!(page(&[0, 0, 6, 6, 6, 6], 0), Ok(vec![]));
     }
 
     #[test]
     fn lines() {
         assert_eq!(chartpage(&line(&ONE)), b"   1    1    2  0    450\n");
+        assert_eq!(chartpage(&line(&OLD)), b"   1    1    2  0    450\n");
         assert_eq!(chartpage(b"image 0 0 6 6 6 6\n"), b"");
         assert_eq!(chartpage(b"image\n"), b"refused 105\n");
         assert_eq!(chartpage(&line(&with(6, 1_001))), b"refused 108 6\n");
-        assert_eq!(chartpage(&line(&with(18, 3))), b"refused 109 18\n");
+        assert_eq!(chartpage(&line(&with(13, 0))), b"refused 108 13\n");
+        assert_eq!(chartpage(&line(&with(20, 3))), b"refused 109 20\n");
         for text in ["", "\n", "image", "image \n", " image\n", "image 1\n\n", "image 01\n", "image  1\n", "image 4294967296\n", "imagen 1\n"] {
             assert_eq!(chartpage(text.as_bytes()), b"unreadable\n", "{text:?}");
         }

@@ -63,8 +63,11 @@ fn page_limits() -> Vec<(&'static str, Vec<u8>)> {
     let mut texts: Vec<(&str, Vec<u8>)> = vec![
         ("no edges", page::line(&[0, 0, 6, 6, 6, 6])),
         ("the largest words", page::line(&[u32::MAX; 20])),
-        ("a bad record", page::line(&[1, 0, 6, 9, 9, 9, 1, 64, 0])),
-        ("a bad list", page::line(&[1, 1, 6, 9, 15, 17, 1, 0, 0, 1, 1, 1, 0, 0, 0, 2, 2])),
+        ("a bad record", page::line(&[1, 0, 6, 10, 10, 10, 1, 64, 0, 0])),
+        ("a bad degree", page::line(&[1, 0, 6, 10, 10, 10, 1, 63, 0, 1])),
+        ("a bad list", page::line(&[1, 1, 6, 10, 16, 18, 1, 0, 0, 2, 1, 1, 1, 0, 0, 0, 2, 2])),
+        ("a bad old record", page::line(&[1, 0, 6, 9, 9, 9, 1, 64, 0])),
+        ("a bad list of old words", page::line(&[1, 1, 6, 9, 15, 17, 1, 0, 0, 1, 1, 1, 0, 0, 0, 2, 2])),
         ("400,000 bytes", filled("image", 400_000, " 7", "7\n")),
         ("400,001 bytes", filled("image", 400_001, " 7", "\n")),
         ("399,998 digits", filled("image ", 400_000, "1", "\n")),

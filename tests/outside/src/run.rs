@@ -90,5 +90,5 @@ impl Case {
 
 /// The words that code 106 asks for.
 pub fn image_room(c: Capacities) -> usize {
-    6 + 3 * c.vertices as usize + 8 * c.edges as usize
+    6 + 4 * c.vertices as usize + 8 * c.edges as usize
 }

@@ -1,8 +1,9 @@
+-- The header, the edges, then the vertices with their lists.
 use native.Mathlib.Omega.{arith}
 use lib.ListN.{length}
 use Rattle.tables.specs.Tables.{State, st}
 use Rattle.store.specs.Words.{CanSave}
-use Rattle.store.proofs.Saved.{few-v, few-e, some-v, some-e, some-i, parts-fit, saved-by}
+use Rattle.store.proofs.Saved.{few-v, few-e, some-v, some-e, some-i, lengths, saved-by}
 use borrow.Author.Needs.{needs}
 use Rattle.store.proofs.save.Statement.{statement}
 use Rattle.store.proofs.save.Tie as tie
@@ -15,44 +16,48 @@ asked : (s : tie.Start) → CanSave (held s) (length (s .args .out .now))
 unfolding held
 asked s = s .pre
 
+cast-v : tie.Need-cast-v
+cast-v c = search needs
+
+cast-e : tie.Need-cast-e
+cast-e c = search needs
+
 header-requires : tie.Need-header-requires
 unfolding held
 header-requires c κs =
-    let s = c .before .before .before .before in
+    let s = c .before .before .before .before .before .before in
     let n = length (s .args .out .now) in
-    (few-v (held s) n (asked s), few-e (held s) n (asked s), omega (arith, parts-fit (held s) n (asked s)))
+    (few-v (held s) n (asked s), few-e (held s) n (asked s), omega (arith, lengths (held s) n (asked s) .room))
 
-vertices-requires : tie.Need-vertices-requires
-unfolding held
-vertices-requires c κs =
-    let h = c .before .before .before in
-    let s = h .before .before .before .before .before in
-    let n = length (s .args .out .now) in
-    (some-v (held s) n (asked s), omega (arith, parts-fit (held s) n (asked s), h .header .kept))
+edge-offset-requires : tie.Need-edge-offset-requires
+edge-offset-requires c κs = search needs
 
 edges-requires : tie.Need-edges-requires
 unfolding held
 edges-requires c κs =
-    let v = c .before .before .before in
-    let h = v .before .before .before .before in
-    let s = h .before .before .before .before .before in
-    let n = length (s .args .out .now) in (
+    let s = c .before .before .before .before .before .before .before .before .before .before .before in
+    let n = length (s .args .out .now) in
+    let l = lengths (held s) n (asked s) in (
       some-e (held s) n (asked s),
       omega (arith, asked s .sized .edges, asked s .sized .fewEdges),
-      omega (arith, parts-fit (held s) n (asked s), h .header .kept, v .vertices .kept, v .vertices .ensures .1),
+      omega (arith, c .edge-offset .ensures .0, l .edges, l .room, c .before .before .before .before .header .kept),
     )
 
-lists-requires : tie.Need-lists-requires
+incidence-offset-requires : tie.Need-incidence-offset-requires
+incidence-offset-requires c κs = search needs
+
+vertices-requires : tie.Need-vertices-requires
 unfolding held
-lists-requires c κs =
-    let e = c .before .before .before in
-    let v = e .before .before .before .before in
-    let h = v .before .before .before .before in
-    let s = h .before .before .before .before .before in
-    let n = length (s .args .out .now) in (
+vertices-requires c κs =
+    let s = c .before .before .before .before .before .before .before .before .before .before .before .before .before .before .before .before in
+    let n = length (s .args .out .now) in
+    let l = lengths (held s) n (asked s) in
+    let o = c .incidence-offset .ensures .0 in (
       some-v (held s) n (asked s),
       some-i (held s) n (asked s),
-      omega (arith, parts-fit (held s) n (asked s), h .header .kept, v .vertices .kept, v .vertices .ensures .1, e .edges .kept, e .edges .ensures .1),
+      omega (arith, o, l .vertices),
+      omega (arith, o, l .lists, l .room, c .before .before .before .before .before .before .before .before .before .header .kept, c .before .before .before .before .edges .kept),
+      omega (arith, l .lists, few-e (held s) n (asked s)),
     )
 
 same-length : tie.Need-same-length
@@ -61,14 +66,24 @@ same-length c = search needs
 returns : tie.Need-returns
 unfolding held
 returns c =
-    let l = c .before .before in
-    let e = l .before .before .before .before in
-    let v = e .before .before .before .before in
-    let h = v .before .before .before .before in
-    let s = h .before .before .before .before .before in
-    saved-by (held s) (s .args .out .now) (asked s) (h .header .last .0) (v .vertices .last .1 .1 .0) (e .edges .last .1 .1 .0) (l .lists .last .1 .1 .1 .0)
-    (v .vertices .result) (e .edges .result) (l .lists .result)
-    (h .header .ensures) (v .vertices .ensures) (e .edges .ensures) (l .lists .ensures)
+    let v = c .before .before .vertices in
+    let i = c .before .before .before .incidence-offset in
+    let e = c .before .before .before .before .before .before .before .edges in
+    let o = c .before .before .before .before .before .before .before .before .edge-offset in
+    let h = c .before .before .before .before .before .before .before .before .before .before .before .before .header in
+    let s = c .before .before .before .before .before .before .before .before .before .before .before .before .before .before .before .before .before .before .before in
+    saved-by (held s) (s .args .out .now) (asked s) (h .last .0) (e .last .1 .1 .0) (v .last .1 .1 .1 .0) (o .result) (i .result) (v .result) (o .ensures .0) (i .ensures .0) (h .ensures) (e .ensures) (v .ensures)
 
 pub save-spec : {M : Type 1} → statement M
-save-spec = tie.close (tie.spec header-requires vertices-requires edges-requires lists-requires same-length returns)
+save-spec =
+    tie.close
+    (tie.spec
+    cast-v
+    cast-e
+    header-requires
+    edge-offset-requires
+    edges-requires
+    incidence-offset-requires
+    vertices-requires
+    same-length
+    returns)

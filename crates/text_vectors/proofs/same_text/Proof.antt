@@ -7,7 +7,7 @@ abbrev Inv-loop : tie.InvT-loop
 Inv-loop out n want i₀ i = Unit {0}
 
 abbrev μ-loop : tie.MeasureT-loop
-μ-loop out n want i₀ i = 97072 - i
+μ-loop out n want i₀ i = 99272 - i
 
 returns : tie.Need-returns Inv-loop μ-loop
 returns c = search needs

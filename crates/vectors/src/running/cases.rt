@@ -252,7 +252,7 @@ pub fn cases(bytes: &[u8]) -> usize
     let mut start = [0u32; 400];
     let mut rows = [0u64; 80];
     let mut calls = [0u32; 2000];
-    let mut image = [0u32; 35017];
+    let mut image = [0u32; 36018];
     let s = Setting {
         lent: Lengths {
             vertices: 0,

@@ -1,11 +1,11 @@
 //! Random words and texts for pages, from a seed.
 
-use super::{damage_image, damage_line, graph, spread, Random};
-use crate::image;
+use super::images::{damage_image, saved};
+use super::{damage_line, graph, spread, Random};
 use crate::machine::{Capacities, Graph, Reading};
 use crate::page;
 
-/// Words for a page, sound or damaged, and the bytes of the page.
+/// Words for a page, old or new, sound or damaged, and the bytes of the page.
 pub fn page(seed: u64) -> (Vec<u32>, usize) {
     let mut r = Random::new(seed ^ 0x7061_6765);
     let full = seed % 500 == 499;
@@ -23,7 +23,7 @@ pub fn page(seed: u64) -> (Vec<u32>, usize) {
             *decimetres = spread(&mut r, 10_000) - 1;
         }
     }
-    let mut words = image::save(&g);
+    let mut words = saved(&mut r, &g);
     if r.once_in(3) {
         damage_image(&mut r, &mut words);
     }

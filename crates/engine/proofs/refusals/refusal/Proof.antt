@@ -1,11 +1,15 @@
 -- `engine::refusals::refusal` meets its contract.
-use mathlib.Core.Path.{_≡_, sym, _∙_}
+use mathlib.Core.Path.{_≡_, sym, ap, _∙_}
 use mathlib.Core.Bool.{true}
 use Prim.Native.Nat.{_≤_, _/_}
 use native.Mathlib.Omega.{arith}
 use borrow.Author.Needs.{needs}
+use lib.ListN.{length}
 use Rattle.types.specs.Rows.{goodRows}
 use Rattle.types.proofs.RowLaws.{verdict-good, verdict-bad, good-facts}
+use Rattle.graph.specs.WellFormed.{Bounds}
+use Rattle.image.specs.Checks.{bounds, verdict}
+use Rattle.image.proofs.Headers.{checked-same}
 use Rattle.engine.specs.Refusals.{lengthsCode}
 use Rattle.engine.proofs.RefusalLaws.{capacities, lengths-refused, rows-refused, start-refused, image-refused, none-refused}
 use Rattle.engine.proofs.refusals.refusal.Statement.{statement}
@@ -55,7 +59,15 @@ cast-check-3 : tie.Need-cast-check-3
 cast-check-3 c = omega (arith, good-facts (c .before .before .before .before .before .before .before .args .rows .now) (rows-good c) .few)
 
 check-requires : tie.Need-check-requires
-check-requires c κs = limits (c .before .before .before)
+check-requires c κs = search needs
+
+-- capacities that 103 lets pass are checked as they are
+found : (c : tie.After-check) → let a = c .before .before .before .before .before .before .before .before .args in
+    c .check .result ≡ verdict (bounds (a .vertices / 8) (a .edges / 12) (length (a .rows .now))) (a .start .now)
+found c =
+    let a = c .before .before .before .before .before .before .before .before .args in
+    let l = limits (c .before .before .before .before) in
+    c .check .ensures ∙ ap (λ (b : Bounds). verdict b (a .start .now)) (checked-same (a .vertices / 8) (a .edges / 12) (length (a .rows .now)) (l .0) (l .1))
 
 code-of-requires : tie.Need-code-of-requires
 code-of-requires c κs = search needs
@@ -68,32 +80,27 @@ returns-3 c =
     let f = c .before .before in
     let e = f .before .before in
     λ l h.
-    let r = start-refused l _ _ _ _ _ _ _ _ h (lengths-pass (e .before .before .before)) (rows-good e) (f .before .check .result) (f .before .check .ensures) (λ z. c .before .if2 .taken (f .code-of .ensures ∙ z)) in
+    let r = start-refused l _ _ _ _ _ _ _ _ h (lengths-pass (e .before .before .before)) (rows-good e) (f .before .check .result) (found (f .before)) (λ z. c .before .if2 .taken (f .code-of .ensures ∙ z)) in
     (f .code-of .ensures ∙ r .0, c .offset-of .ensures ∙ r .1)
 
-mul-if3 : tie.Need-mul-if3
-mul-if3 c = search needs
-
-add-if3 : tie.Need-add-if3
-add-if3 c = search needs
-
-mul-if3-2 : tie.Need-mul-if3-2
-mul-if3-2 c = search needs
-
-add-if3-2 : tie.Need-add-if3-2
-add-if3-2 c = let k = limits (c .before .before .before .before .before .before) in omega (arith, k .0, k .1)
+length-requires : tie.Need-length-requires
+length-requires c κs = let k = limits (c .before .before .before .before .before .before) in (omega arith, omega (arith, k .0), omega (arith, k .1))
 
 returns-4 : tie.Need-returns-4
 returns-4 c =
-    let f = c .before .before in
+    let f = c .before .before .before in
     let e = f .before .before in
-    λ l h. image-refused l _ _ _ _ _ _ _ _ h (lengths-pass (e .before .before .before)) (rows-good e) (f .before .check .result) (f .before .check .ensures) (sym (f .code-of .ensures) ∙ c .before .if2 .left) (c .if3 .taken)
+    λ l h.
+    image-refused l _ _ _ _ _ _ _ _ h (lengths-pass (e .before .before .before)) (rows-good e) (f .before .check .result) (found (f .before)) (sym (f .code-of .ensures) ∙ c .before .before .if2 .left)
+    (omega (arith, c .if3 .taken, c .before .length .ensures .0))
 
 returns-5 : tie.Need-returns-5
 returns-5 c =
-    let f = c .before .before in
+    let f = c .before .before .before in
     let e = f .before .before in
-    λ l h. none-refused l _ _ _ _ _ _ _ _ h (lengths-pass (e .before .before .before)) (rows-good e) (f .before .check .result) (f .before .check .ensures) (sym (f .code-of .ensures) ∙ c .before .if2 .left) (c .if3 .left)
+    λ l h.
+    none-refused l _ _ _ _ _ _ _ _ h (lengths-pass (e .before .before .before)) (rows-good e) (f .before .check .result) (found (f .before)) (sym (f .code-of .ensures) ∙ c .before .before .if2 .left)
+    (omega (arith, c .if3 .left, c .before .length .ensures .0))
 
 pub refusal-spec : {M : Type 1} → statement M
 refusal-spec =
@@ -112,9 +119,6 @@ refusal-spec =
     code-of-requires
     offset-of-requires
     returns-3
-    mul-if3
-    add-if3
-    mul-if3-2
-    add-if3-2
+    length-requires
     returns-4
     returns-5)

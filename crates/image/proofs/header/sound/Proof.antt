@@ -1,8 +1,12 @@
+-- `image::header::sound` meets its contract: test by test.
 use mathlib.Core.Path.{sym, _∙_}
-use Rattle.image.proofs.Headers.{bad-2, bad-3, bad-4, bad-5, last}
 use borrow.Author.Needs.{needs}
+use Rattle.image.proofs.Headers.{bad-2, bad-3, bad-4, bad-5, last}
 use Rattle.image.proofs.header.sound.Statement.{statement}
 use Rattle.image.proofs.header.sound.Tie as tie
+
+record-size-requires : tie.Need-record-size-requires
+record-size-requires c κs = search needs
 
 word-requires : tie.Need-word-requires
 word-requires c κs = search needs
@@ -14,97 +18,104 @@ word-requires-3 : tie.Need-word-requires-3
 word-requires-3 c κs = search needs
 
 returns : tie.Need-returns
-returns c = bad-2 (c .before .before .before .before .before .args .words .now) (c .before .before .before .word .result) (c .before .before .word2 .result) (c .before .before .before .word .ensures .0) (c .before .before .word2 .ensures .0) (λ x. c .if1 .taken (c .before .word3 .ensures .0 ∙ x))
+returns c =
+    let a = c .before in
+    let s = a .before .before .before .record-size in
+    let v = a .before .before .word in
+    let e = a .before .word2 in
+    bad-2 (a .before .before .before .before .before .args .words .now) (s .result) (v .result) (e .result) (s .ensures .0) (v .ensures .0) (e .ensures .0)
+    (λ x. c .if1 .taken (a .word3 .ensures .0 ∙ x))
 
 word-requires-4 : tie.Need-word-requires-4
 word-requires-4 c κs = search needs
 
-mul-if2 : tie.Need-mul-if2
-mul-if2 c = search needs
-
-add-if2 : tie.Need-add-if2
-add-if2 c = search needs
+edge-offset-requires : tie.Need-edge-offset-requires
+edge-offset-requires c κs = search needs
 
 returns-2 : tie.Need-returns-2
-returns-2 c = bad-3 (c .before .before .before .before .before .before .before .args .words .now) (c .before .before .before .before .before .word .result) (c .before .before .before .before .word2 .result) (c .before .before .before .before .before .word .ensures .0) (c .before .before .before .before .word2 .ensures .0) (sym (c .before .before .before .word3 .ensures .0) ∙ c .before .before .if1 .left) (λ x. c .if2 .taken (c .before .word4 .ensures .0 ∙ x))
+returns-2 c =
+    let f = c .before .before .before in
+    let a = f .before in
+    let s = a .before .before .before .record-size in
+    let v = a .before .before .word in
+    let e = a .before .word2 in
+    bad-3 (a .before .before .before .before .before .args .words .now) (s .result) (v .result) (e .result) (s .ensures .0) (v .ensures .0) (e .ensures .0)
+    (sym (a .word3 .ensures .0) ∙ f .if1 .left)
+    (λ x. c .if2 .taken (c .before .before .word4 .ensures .0 ∙ x ∙ sym (c .before .edge-offset .ensures .0)))
 
 word-requires-5 : tie.Need-word-requires-5
 word-requires-5 c κs = search needs
 
-mul-if3 : tie.Need-mul-if3
-mul-if3 c = search needs
-
-add-if3 : tie.Need-add-if3
-add-if3 c = search needs
-
-mul-if3-2 : tie.Need-mul-if3-2
-mul-if3-2 c = search needs
-
-add-if3-2 : tie.Need-add-if3-2
-add-if3-2 c = search needs
+incidence-offset-requires : tie.Need-incidence-offset-requires
+incidence-offset-requires c κs = search needs
 
 returns-3 : tie.Need-returns-3
-returns-3 c = bad-4 (c .before .before .before .before .before .before .before .before .before .args .words .now) (c .before .before .before .before .before .before .before .word .result) (c .before .before .before .before .before .before .word2 .result) (c .before .before .before .before .before .before .before .word .ensures .0) (c .before .before .before .before .before .before .word2 .ensures .0) (sym (c .before .before .before .before .before .word3 .ensures .0) ∙ c .before .before .before .before .if1 .left) (sym (c .before .before .before .word4 .ensures .0) ∙ c .before .before .if2 .left) (λ x. c .if3 .taken (c .before .word5 .ensures .0 ∙ x))
+returns-3 c =
+    let g = c .before .before .before in
+    let f = g .before .before .before in
+    let a = f .before in
+    let s = a .before .before .before .record-size in
+    let v = a .before .before .word in
+    let e = a .before .word2 in
+    bad-4 (a .before .before .before .before .before .args .words .now) (s .result) (v .result) (e .result) (s .ensures .0) (v .ensures .0) (e .ensures .0)
+    (sym (a .word3 .ensures .0) ∙ f .if1 .left)
+    (sym (g .before .before .word4 .ensures .0) ∙ g .if2 .left ∙ g .before .edge-offset .ensures .0)
+    (λ x. c .if3 .taken (c .before .before .word5 .ensures .0 ∙ x ∙ sym (c .before .incidence-offset .ensures .0)))
+
+length-requires : tie.Need-length-requires
+length-requires c κs = search needs
 
 word-requires-6 : tie.Need-word-requires-6
 word-requires-6 c κs = search needs
 
-mul-if4 : tie.Need-mul-if4
-mul-if4 c = search needs
-
-add-if4 : tie.Need-add-if4
-add-if4 c = search needs
-
-mul-if4-2 : tie.Need-mul-if4-2
-mul-if4-2 c = search needs
-
-add-if4-2 : tie.Need-add-if4-2
-add-if4-2 c = search needs
-
 returns-4 : tie.Need-returns-4
-returns-4 c = bad-5 (c .before .before .before .before .before .before .before .before .before .before .before .args .words .now) (c .before .before .before .before .before .before .before .before .before .word .result) (c .before .before .before .before .before .before .before .before .word2 .result) (c .before .before .before .before .before .before .before .before .before .word .ensures .0) (c .before .before .before .before .before .before .before .before .word2 .ensures .0) (sym (c .before .before .before .before .before .before .before .word3 .ensures .0) ∙ c .before .before .before .before .before .before .if1 .left) (sym (c .before .before .before .before .before .word4 .ensures .0) ∙ c .before .before .before .before .if2 .left) (sym (c .before .before .before .word5 .ensures .0) ∙ c .before .before .if3 .left) (λ x. c .if4 .taken (c .before .word6 .ensures .0 ∙ x))
-
-mul-result : tie.Need-mul-result
-mul-result c = search needs
-
-add-result : tie.Need-add-result
-add-result c = search needs
-
-mul-result-2 : tie.Need-mul-result-2
-mul-result-2 c = search needs
-
-add-result-2 : tie.Need-add-result-2
-add-result-2 c = search needs
+returns-4 c =
+    let h = c .before .before .before in
+    let g = h .before .before .before in
+    let f = g .before .before .before in
+    let a = f .before in
+    let s = a .before .before .before .record-size in
+    let v = a .before .before .word in
+    let e = a .before .word2 in
+    bad-5 (a .before .before .before .before .before .args .words .now) (s .result) (v .result) (e .result) (s .ensures .0) (v .ensures .0) (e .ensures .0)
+    (sym (a .word3 .ensures .0) ∙ f .if1 .left)
+    (sym (g .before .before .word4 .ensures .0) ∙ g .if2 .left ∙ g .before .edge-offset .ensures .0)
+    (sym (h .before .before .word5 .ensures .0) ∙ h .if3 .left ∙ h .before .incidence-offset .ensures .0)
+    (λ x. c .if4 .taken (c .before .word6 .ensures .0 ∙ x ∙ sym (c .before .before .length .ensures .0)))
 
 returns-5 : tie.Need-returns-5
-returns-5 c = last (c .before .before .before .before .before .before .before .before .before .before .before .args .words .now) (c .before .before .before .before .before .before .before .before .before .word .result) (c .before .before .before .before .before .before .before .before .word2 .result) (c .before .before .before .before .before .before .before .before .before .word .ensures .0) (c .before .before .before .before .before .before .before .before .word2 .ensures .0) (sym (c .before .before .before .before .before .before .before .word3 .ensures .0) ∙ c .before .before .before .before .before .before .if1 .left) (sym (c .before .before .before .before .before .word4 .ensures .0) ∙ c .before .before .before .before .if2 .left) (sym (c .before .before .before .word5 .ensures .0) ∙ c .before .before .if3 .left) (sym (c .before .word6 .ensures .0) ∙ c .if4 .left)
+returns-5 c =
+    let h = c .before .before .before in
+    let g = h .before .before .before in
+    let f = g .before .before .before in
+    let a = f .before in
+    let s = a .before .before .before .record-size in
+    let v = a .before .before .word in
+    let e = a .before .word2 in
+    let t = c .before .before .length in
+    rw (t .ensures .0)
+    (last (a .before .before .before .before .before .args .words .now) (s .result) (v .result) (e .result) (s .ensures .0) (v .ensures .0) (e .ensures .0)
+    (sym (a .word3 .ensures .0) ∙ f .if1 .left)
+    (sym (g .before .before .word4 .ensures .0) ∙ g .if2 .left ∙ g .before .edge-offset .ensures .0)
+    (sym (h .before .before .word5 .ensures .0) ∙ h .if3 .left ∙ h .before .incidence-offset .ensures .0)
+    (sym (c .before .word6 .ensures .0) ∙ c .if4 .left ∙ t .ensures .0))
 
 pub sound-spec : {M : Type 1} → statement M
 sound-spec =
     tie.close
     (tie.spec
+    record-size-requires
     word-requires
     word-requires-2
     word-requires-3
     returns
     word-requires-4
-    mul-if2
-    add-if2
+    edge-offset-requires
     returns-2
     word-requires-5
-    mul-if3
-    add-if3
-    mul-if3-2
-    add-if3-2
+    incidence-offset-requires
     returns-3
+    length-requires
     word-requires-6
-    mul-if4
-    add-if4
-    mul-if4-2
-    add-if4-2
     returns-4
-    mul-result
-    add-result
-    mul-result-2
-    add-result-2
     returns-5)

@@ -66,7 +66,7 @@ unfolding edgePart
 returns c =
     let s = c .before .before .before .before .before in
     let l = c .before .loop in
-    writing-end (edgeWords (s .args .et .now)) elane (s .args .et .now) (eends (s .args .head)) (s .args .out .now) (s .args .from) (l .out) (l .at) (l .e) (l .inv .1) (c .loop-test .left)
+    writing-end (edgeWords (s .args .et .now)) elane (s .args .et .now) (eends (s .args .head)) (s .args .out .now) (s .args .from) (l .out) (l .at) (l .e) (l .inv .1) (c .loop-test .left) .0
 
 pub edges-spec : {M : Type 1} → statement M
 edges-spec =

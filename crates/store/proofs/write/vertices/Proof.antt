@@ -6,44 +6,46 @@ use borrow.Author.Needs.{needs}
 use lib.ListN.{length}
 use Rattle.tables.specs.Tables.{vlane, vends}
 use Rattle.tables.proofs.Frames.{valid-v}
-use Rattle.store.specs.Words.{vertexWords, vertexPart}
-use Rattle.store.proofs.Walks.{Writing, Turn, left, writing-start, writing-turn, writing-end}
+use Rattle.store.specs.Words.{vertexWords, listWords, vertexPart, incidencePart}
+use Rattle.store.proofs.Walks.{Pairs, PairTurn, left, pairs-start, pairs-turn, pairs-end}
 use Rattle.store.proofs.write.vertices.Statement.{statement}
 use Rattle.store.proofs.write.vertices.Tie as tie
 
 abbrev Inv-loop : tie.InvT-loop
-Inv-loop vt out₀ from lane ends at₀ v₀ out at v = (length out ≡ length out₀) × Writing (vertexWords vt) lane vt ends out₀ from out at v
+Inv-loop vt et out₀ from behind lane ends at₀ to₀ v₀ out at to v =
+    (length out ≡ length out₀) × Pairs (vertexWords vt et) (listWords vt et) lane vt ends out₀ from behind out at to v
 
 abbrev μ-loop : tie.MeasureT-loop
-μ-loop vt out₀ from lane ends at₀ v₀ out at v = left lane vt ends v
+μ-loop vt et out₀ from behind lane ends at₀ to₀ v₀ out at to v = left lane vt ends v
 
 next-requires : tie.Need-next-requires Inv-loop μ-loop
 next-requires c κs = (valid-v, λ z. absurd (z refl))
 
 loop-holds : tie.Need-loop-holds Inv-loop μ-loop
 loop-holds c =
-    let s = c .before .before .before in
-    (refl, writing-start (vertexWords (s .args .vt .now)) vlane (s .args .vt .now) (vends (s .args .head)) (s .args .out .now) (s .args .from) valid-v (s .pre .0) (c .next .result) (c .next .ensures))
+    let s = c .before .before .before .before in
+    (refl, pairs-start (vertexWords (s .args .vt .now) (s .args .et .now)) (listWords (s .args .vt .now) (s .args .et .now)) vlane (s .args .vt .now) (vends (s .args .head)) (s .args .out .now) (s .args .from) (s .args .behind) valid-v (s .pre .0) (c .next .result) (c .next .ensures))
 
 -- what is known in a turn
-turn : (c : tie.In-loop Inv-loop μ-loop) → let s = c .before .before .before .before .before in let l = c .before .loop in
-    Turn (vertexWords (s .args .vt .now)) vlane (s .args .vt .now) (vends (s .args .head)) (s .args .out .now) (s .args .from) (l .out) (l .at) (l .v)
+turn : (c : tie.In-loop Inv-loop μ-loop) → let s = c .before .before .before .before .before .before in let l = c .before .loop in
+    PairTurn (vertexWords (s .args .vt .now) (s .args .et .now)) (listWords (s .args .vt .now) (s .args .et .now)) vlane (s .args .vt .now) (vends (s .args .head)) (s .args .out .now) (s .args .from) (s .args .behind) (l .out) (l .at) (l .to) (l .v)
+unfolding vertexPart
 turn c =
-    let s = c .before .before .before .before .before in
+    let s = c .before .before .before .before .before .before in
     let l = c .before .loop in
-    writing-turn (vertexWords (s .args .vt .now)) vlane (s .args .vt .now) (vends (s .args .head)) (s .args .out .now) (s .args .from) (l .out) (l .at) (l .v) (l .inv .1) (c .loop-test .taken)
+    pairs-turn (vertexWords (s .args .vt .now) (s .args .et .now)) (listWords (s .args .vt .now) (s .args .et .now)) vlane (s .args .vt .now) (vends (s .args .head)) (s .args .out .now) (s .args .from) (s .args .behind) (l .out) (l .at) (l .to) (l .v) (s .pre .2) (l .inv .1) (c .loop-test .taken)
 
 vertex-requires : tie.Need-vertex-requires Inv-loop μ-loop
-unfolding vertexPart
+unfolding incidencePart
 vertex-requires c κs =
     let t = turn (c .before) in
-    let s = c .before .before .before .before .before .before in
+    let s = c .before .before .before .before .before .before .before in
+    let l = c .before .before .loop in
     let i = t .inside (c .before .loop-test .taken) in
-    ((omega arith, omega arith), omega (arith, t .room, s .pre .1))
+    ((omega arith, omega arith), s .pre .1 (l .v) (omega arith), t .before, omega (arith, t .room, s .pre .3, l .inv .0), omega (arith, t .few, s .pre .4))
 
 add-at : tie.Need-add-at Inv-loop μ-loop
-unfolding vertexPart
-add-at c = omega (arith, turn (c .before .before .before .before) .room)
+add-at c = omega (arith, turn (c .before .before .before .before) .before)
 
 next-requires-2 : tie.Need-next-requires-2 Inv-loop μ-loop
 next-requires-2 c κs = (valid-v, turn (c .before .before .before .before) .inside)
@@ -53,20 +55,21 @@ loop-less c = turn (c .before .before .before .before .before) .less (c .next2 .
 
 loop-again : tie.Need-loop-again Inv-loop μ-loop
 loop-again c =
-    let d = c .before .before .before in (
-      omega (arith, d .vertex .kept, d .before .before .before .loop .inv .0),
-      turn (d .before .before) .next (d .vertex .last .1 .1 .0) (d .before .before .before .loop .at + 3) (c .next2 .result) (d .vertex .ensures) refl (c .next2 .ensures),
+    let d = c .before .before .before in
+    let l = d .before .before .before .loop in (
+      omega (arith, d .vertex .kept, l .inv .0),
+      turn (d .before .before) .next (d .vertex .last .1 .1 .1 .0) (l .at + 4) (d .vertex .result) (c .next2 .result) (d .vertex .ensures .0) refl (d .vertex .ensures .1) (c .next2 .ensures),
     )
 
 same-length : tie.Need-same-length Inv-loop μ-loop
 same-length c = search needs
 
 returns : tie.Need-returns Inv-loop μ-loop
-unfolding vertexPart
+unfolding vertexPart incidencePart
 returns c =
-    let s = c .before .before .before .before .before in
+    let s = c .before .before .before .before .before .before in
     let l = c .before .loop in
-    writing-end (vertexWords (s .args .vt .now)) vlane (s .args .vt .now) (vends (s .args .head)) (s .args .out .now) (s .args .from) (l .out) (l .at) (l .v) (l .inv .1) (c .loop-test .left)
+    pairs-end (vertexWords (s .args .vt .now) (s .args .et .now)) (listWords (s .args .vt .now) (s .args .et .now)) vlane (s .args .vt .now) (vends (s .args .head)) (s .args .out .now) (s .args .from) (s .args .behind) (l .out) (l .at) (l .to) (l .v) (l .inv .1) (c .loop-test .left)
 
 pub vertices-spec : {M : Type 1} → statement M
 vertices-spec =

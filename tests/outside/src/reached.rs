@@ -1,0 +1,79 @@
+//! What random cases reached, so that what they never reach is seen.
+
+use outside::image;
+use outside::machine::{is_change, is_kind};
+use outside::run::{Case, Outcome};
+use std::collections::BTreeMap;
+
+/// What the generated calls reached.
+#[derive(Default)]
+pub struct Reached {
+    lists: u64,
+    calls: u64,
+    accepted: u64,
+    pub longest: usize,
+    kinds: BTreeMap<u32, u64>,
+    codes: BTreeMap<u32, u64>,
+    /// Accepted changes that altered nothing, by kind.
+    idle: BTreeMap<u32, u64>,
+    /// Codes of pages, 0 among them.
+    pages: BTreeMap<u32, u64>,
+    /// What came of starts with vertices, by the size of their records and the code; a wrong degree by its own.
+    starts: BTreeMap<(usize, &'static str), u64>,
+}
+
+impl Reached {
+    pub fn add(&mut self, case: &Case, outcome: &Outcome) {
+        self.lists += 1;
+        if let Some(record) = image::record_size(&case.start).filter(|_| case.start[0] > 0) {
+            let came = match outcome {
+                Outcome::Done { .. } => "loaded",
+                Outcome::Refused(106, _) => "106",
+                Outcome::Refused(108, at) if image::is_degree(&case.start, *at) => "a degree",
+                Outcome::Refused(108, _) => "108",
+                Outcome::Refused(109, _) => "109",
+                Outcome::Refused(..) => "another code",
+            };
+            *self.starts.entry((record, came)).or_default() += 1;
+        }
+        match outcome {
+            Outcome::Refused(code, _) => *self.codes.entry(*code).or_default() += 1,
+            Outcome::Done { answers, .. } => {
+                for (call, answer) in case.calls.chunks(5).zip(answers.chunks(2)) {
+                    self.calls += 1;
+                    if answer[0] == 0 {
+                        self.accepted += 1;
+                        *self.kinds.entry(call[0]).or_default() += 1;
+                        if is_change(call[0]) && answer[1] == 0 {
+                            *self.idle.entry(call[0]).or_default() += 1;
+                        }
+                    } else {
+                        *self.codes.entry(answer[0]).or_default() += 1;
+                    }
+                }
+            }
+        }
+    }
+
+    pub fn page(&mut self, code: u32) {
+        *self.pages.entry(code).or_default() += 1;
+    }
+
+    /// Kinds never accepted, changes that never altered nothing, and codes never given.
+    pub fn missing(&self) -> Vec<String> {
+        let kinds = (0..100).filter(|k| is_kind(*k) && !self.kinds.contains_key(k)).map(|k| format!("kind {k}"));
+        let codes = (1..=17).chain(101..=106).chain(108..=109).filter(|c| !self.codes.contains_key(c)).map(|c| format!("code {c}"));
+        let idle = (5..=16).filter(|k| !self.idle.contains_key(k)).map(|k| format!("kind {k} that alters nothing"));
+        let pages = [0, 105, 107, 108, 109].into_iter().filter(|c| !self.pages.contains_key(c)).map(|c| format!("page with code {c}"));
+        let new = ["loaded", "106", "108", "a degree", "109"].map(|came| (image::RECORD, came));
+        let old = ["loaded", "106", "108", "109"].map(|came| (image::OLD_RECORD, came));
+        let starts = new.into_iter().chain(old).filter(|s| !self.starts.contains_key(s)).map(|s| format!("start with records of {} words: {}", s.0, s.1));
+        kinds.chain(codes).chain(idle).chain(pages).chain(starts).collect()
+    }
+
+    pub fn summary(&self) -> String {
+        let refused: u64 = self.codes.range(101..).map(|c| c.1).sum();
+        let pages: u64 = self.pages.values().sum();
+        format!("{} lists ({refused} refused), {} calls ({} accepted), {pages} pages", self.lists, self.calls, self.accepted)
+    }
+}
