@@ -273,7 +273,7 @@ pub enum Part {
     Vertices = 1,
     /// Six words an edge: number, alpha, omega, type, reading kind, decimetres.
     Edges = 2,
-    /// The list of each vertex, one after another, each as long as its degree.
+    /// The lists, in the order of the vertices; a degree says how long each is.
     Lists = 3,
 }
 

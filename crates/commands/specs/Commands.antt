@@ -60,7 +60,7 @@ use Rattle.commands.specs.declared.Question.the-variants.{
 use Rattle.commands.specs.declared.PriceCall.{PriceCall}
 use Rattle.commands.specs.declared.PriceCall.the-variants.{Range, Grade}
 use Rattle.commands.specs.declared.Command.{Command}
-use Rattle.commands.specs.declared.Command.the-variants.{Alter, Recall, Ask, Quote, Unknown}
+use Rattle.commands.specs.declared.Command.the-variants.{Alter, History, Ask, Quote, Unknown}
 
 -- the change that a call of kind 1 to 16 asks for
 unfoldable pub changeOf : Call → Change
@@ -137,10 +137,10 @@ unfolding changeOf historyOf questionOf
 commandOf x =
     (k == 0) ⇒ Unknown else
     leb k 16 ⇒ Alter (changeOf x) else
-    leb k 22 ⇒ Recall (historyOf k (x .a) (x .b)) else
+    leb k 22 ⇒ History (historyOf k (x .a) (x .b)) else
     leb k 29 ⇒ Unknown else
     leb k 48 ⇒ Ask (questionOf k (x .a) (x .b) (x .c)) else
-    leb k 51 ⇒ Recall (historyOf k (x .a) (x .b)) else
+    leb k 51 ⇒ History (historyOf k (x .a) (x .b)) else
     (k == 52) ⇒ Ask (questionOf k (x .a) (x .b) (x .c)) else
     (k == 53) ⇒ Quote (Range (x .a) (x .b)) else
     (k == 54) ⇒ Quote (Grade (x .a) (x .b) (x .c)) else
@@ -209,7 +209,7 @@ priceCall (Grade a b c) = five 54 a b c 0
 -- kind 0 is not named
 abbrev pub callOf : Command → Call
 callOf (Alter c) = changeCall c
-callOf (Recall h) = historyCall h
+callOf (History h) = historyCall h
 callOf (Ask q) = questionCall q
 callOf (Quote p) = priceCall p
 callOf Unknown = five 0 0 0 0 0

@@ -1,5 +1,5 @@
 -- The words that a graph may keep have 32 bits.
-use Prim.Native.Nat.{ℕ, _^_, _<_}
+use Prim.Native.Nat.{_^_, _<_}
 use Rattle.graph.specs.declared.Change.{Change}
 use Rattle.graph.specs.declared.Change.the-variants.{
   CreateVertex,
@@ -20,7 +20,7 @@ use Rattle.graph.specs.declared.Change.the-variants.{
   WordAfter,
 }
 use Rattle.commands.specs.declared.Command.{Command}
-use Rattle.commands.specs.declared.Command.the-variants.{Alter, Recall, Ask, Quote, Unknown}
+use Rattle.commands.specs.declared.Command.the-variants.{Alter, History, Ask, Quote, Unknown}
 use Rattle.commands.specs.Calls.{Call}
 
 pub record Words (x : Call) : Type 0 where
@@ -48,7 +48,7 @@ ChangeFits (WordAfter a b) = Unit {0}
 
 abbrev pub CommandFits : Command → Type 0
 CommandFits (Alter c) = ChangeFits c
-CommandFits (Recall h) = Unit {0}
+CommandFits (History h) = Unit {0}
 CommandFits (Ask q) = Unit {0}
 CommandFits (Quote p) = Unit {0}
 CommandFits Unknown = Unit {0}

@@ -1,8 +1,9 @@
 // The command that one call's five words are, in families.
 use graph::Change;
 ghost use mathlib.Core.Path.{_≡_};
-ghost use lib.ListN.{length};
+ghost use lib.ListN.{getD};
 ghost use Rattle.commands.specs.Calls.{callAt, five};
+ghost use Rattle.commands.specs.Answers.{accepts, refuses};
 ghost use Rattle.commands.specs.Commands.{changeOf, historyOf, questionOf, commandOf};
 
 // Kinds 17 to 22 and 49 to 51.
@@ -52,10 +53,16 @@ pub enum PriceCall {
 // named.
 pub enum Command {
     Alter(Change),
-    Recall(HistoryCall),
+    History(HistoryCall),
     Ask(Question),
     Quote(PriceCall),
     Unknown,
+}
+
+// What a call is answered by: code 0 and a number, or the code of a refusal and 0.
+pub struct Answer {
+    pub code: u32,
+    pub number: u32,
 }
 
 fn change_of(k: u32, a: u32, b: u32, c: u32, d: u32) -> Change
@@ -137,7 +144,7 @@ fn command_of(k: u32, a: u32, b: u32, c: u32, d: u32) -> Command
     }
     if k <= 22 {
         let x = history_of(k, a, b);
-        return Command::Recall(x);
+        return Command::History(x);
     }
     if k <= 29 {
         return Command::Unknown;
@@ -148,7 +155,7 @@ fn command_of(k: u32, a: u32, b: u32, c: u32, d: u32) -> Command
     }
     if k <= 51 {
         let x = history_of(k, a, b);
-        return Command::Recall(x);
+        return Command::History(x);
     }
     if k == 52 {
         let x = question_of(k, a, b, c);
@@ -163,10 +170,38 @@ fn command_of(k: u32, a: u32, b: u32, c: u32, d: u32) -> Command
     Command::Unknown
 }
 
-// The command of one call's five words, which are a part of the list of calls.
+// The word at a place; past the end it is 0.
+fn word(words: &[u32], i: usize) -> u32
+    ensures { λ r. ⌜ r ≡ getD (now (words .entry)) i 0 ⌝ }
+{
+    if i < words.len() {
+        return words[i];
+    }
+    0
+}
+
+// The command of one call's five words, which are a part of the list of calls. Words that are not there are 0.
 pub fn decode(words: &[u32]) -> Command
-    requires { ⌜ length (now words) ≡ 5 ⌝ }
     ensures { λ r. ⌜ r ≡ commandOf (callAt (now (words .entry))) ⌝ }
 {
-    command_of(words[0], words[1], words[2], words[3], words[4])
+    let k = word(words, 0);
+    let a = word(words, 1);
+    let b = word(words, 2);
+    let c = word(words, 3);
+    let d = word(words, 4);
+    command_of(k, a, b, c, d)
+}
+
+// The answer of an accepted call.
+pub fn accepted(number: u32) -> Answer
+    ensures { λ r. ⌜ r ≡ accepts number ⌝ }
+{
+    Answer { code: 0, number }
+}
+
+// The answer of a refused call.
+pub fn refused(code: u32) -> Answer
+    ensures { λ r. ⌜ r ≡ refuses code ⌝ }
+{
+    Answer { code, number: 0 }
 }

@@ -1,9 +1,10 @@
-// A cursor in a vertex's incidence list, thin over `tables::rows::word_next`.
+// A cursor in a vertex's incidence list, thin over `graph_tables::rows::word_next`.
 // A function over a struct that holds a reference is proved by a walk by hand. `following` has plain parameters, so its
 // callers are not.
-use tables::rows::word_next;
+// A caller has a word whose half is in the table.
+use graph_tables::rows::word_next;
 ghost use mathlib.Core.Path.{_≡_};
-ghost use Rattle.tables.specs.Tables.{WIn, wnext};
+ghost use Rattle.graph_tables.specs.Tables.{HalfRowIn, wnext};
 
 // The edge table, and the present oriented word; 0 after the last.
 pub struct Cursor<'a> {
@@ -27,7 +28,7 @@ pub fn present<'a>(c: Cursor<'a>) -> u32
 
 // The cursor at the next word of the list.
 pub fn stepped<'a>(c: Cursor<'a>) -> Cursor<'a>
-    requires { ⌜ WIn (now (c .edges)) (c .word) ⌝ }
+    requires { ⌜ HalfRowIn (now (c .edges)) (c .word) ⌝ }
     ensures { λ r. ⌜ (r .edges ≡ c .entry .edges) × (r .word ≡ wnext (now (c .entry .edges)) (c .entry .word)) ⌝ }
 {
     let w = word_next(c.edges, c.word);
@@ -39,7 +40,7 @@ pub fn stepped<'a>(c: Cursor<'a>) -> Cursor<'a>
 
 // The word after a word of a list, by a cursor.
 pub fn following(edges: &[u32], word: u32) -> u32
-    requires { ⌜ WIn (now edges) word ⌝ }
+    requires { ⌜ HalfRowIn (now edges) word ⌝ }
     ensures { λ r. ⌜ r ≡ wnext (now (edges .entry)) word ⌝ }
 {
     present(stepped(at(edges, word)))

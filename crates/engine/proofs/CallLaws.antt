@@ -6,13 +6,15 @@ use native.Mathlib.Omega.{arith}
 use native.Mathlib.Numerals.{add-one}
 use lib.ListN.{length, getD, set, take, drop, length-append, length-drop}
 use lib.Seq.{drop-drop, take-suc, take-all, length-take-le}
-use Rattle.lists.specs.Lists.{over}
+use Rattle.lists.specs.Lists.{overwritten}
 use Rattle.history.specs.Machine.{Machine}
-use Rattle.versions.specs.declared.Version.{Version}
-use Rattle.versions.specs.declared.Done.{Done}
+use Rattle.history_calls.specs.declared.Store.{Store}
+use Rattle.history_calls.specs.declared.Called.{Called}
+use Rattle.history_calls.specs.Memory.{Memory}
 use Rattle.commands.specs.Calls.{Call, callsOf}
 use Rattle.machine.specs.Calls.{Parameters}
-use Rattle.machine.specs.Machine.{Answer, answer, answers, step, last}
+use Rattle.commands.specs.declared.Answer.{Answer}
+use Rattle.machine.specs.Machine.{answer, answers, step, last}
 use Rattle.machine.specs.Run.{answerWords}
 use Rattle.machine.proofs.Whole.{answered, calls-length, answers-length}
 use Rattle.commands.specs.declared.Command.{Command}
@@ -50,7 +52,7 @@ two-more [] (d ∷ e ∷ D) x y h = refl
 two-more (a ∷ A) D x y h = ap (λ (l : List ℕ). a ∷ l) (two-more A D x y h)
 
 over-more : (A slice : List ℕ) (n x y : ℕ) → length A ≡ 2 * n → 2 * n + 1 < length slice →
-    set (set (over A slice) (2 * n) x) (2 * n + 1) y ≡ over (A ++ (x ∷ y ∷ [])) slice
+    set (set (overwritten A slice) (2 * n) x) (2 * n + 1) y ≡ overwritten (A ++ (x ∷ y ∷ [])) slice
 over-more A slice n x y e h =
     let D = drop (length A) slice in
     let t : set (set (A ++ D) (length A) x) (suc (length A)) y ≡ (A ++ (x ∷ y ∷ [])) ++ drop 2 D =
@@ -73,46 +75,45 @@ answers-more : (w : Parameters) (m : Machine) (xs : List Call) (x : Call) →
 unfolding answers
 answers-more w m xs x = ap answerWords (answered w m xs [] x) ∙ words-append (answers w m xs) (answer w (last w m xs) x ∷ [])
 
-module _ (w : Parameters) (m : Machine) (x : Version) (vt et t places closed : List ℕ) (types : ℕ) (slice slice′ : List ℕ) where
-  pub after-calls-none : Running w x vt et t places closed types m → AfterCalls w m [] x vt et t places closed types slice slice
+module _ (w : Parameters) (m : Machine) (x : Store) (mem : Memory) (closed : List ℕ) (types : ℕ) (slice slice′ : List ℕ) where
+  pub after-calls-none : Running w x mem closed types m → AfterCalls w m [] x mem closed types slice slice
   unfolding last answers
-  after-calls-none h = record { stands = h; answered = refl }
+  after-calls-none h = record { after = h; answered = refl }
 
-  after-calls-one : (xs : List Call) (call : Call) (c : Command) (d : Done) (vt′ et′ t′ places′ : List ℕ) →
-      AfterCalls w m xs x vt et t places closed types slice slice′ → c ≡ commandOf call →
-      ((w : Parameters) → (m : Machine) → Running w x vt et t places closed types m →
-      Answered w m c (d .version) (d .code) (d .number) vt′ et′ t′ places′ closed types) →
+  after-calls-one : (xs : List Call) (call : Call) (c : Command) (d : Called) (mem′ : Memory) →
+      AfterCalls w m xs x mem closed types slice slice′ → c ≡ commandOf call →
+      ((w : Parameters) → (m : Machine) → Running w x mem closed types m →
+      Answered w m c d mem′ closed types) →
       2 * length xs + 1 < length slice →
-      AfterCalls w m (xs ++ (call ∷ [])) (d .version) vt′ et′ t′ places′ closed types slice
-      (set (set slice′ (2 * length xs) (d .code)) (2 * length xs + 1) (d .number))
-  after-calls-one xs call c d vt′ et′ t′ places′ h e f long =
+      AfterCalls w m (xs ++ (call ∷ [])) (d .store) mem′ closed types slice
+      (set (set slice′ (2 * length xs) (d .answer .code)) (2 * length xs + 1) (d .answer .number))
+  after-calls-one xs call c d mem′ h e f long =
       let now = last w m xs in
-      let g = f w now (h .stands) in
+      let g = f w now (h .after) in
       let a : answerTo w now c ≡ answer w now call = ap (answerTo w now) e in
       let s : stepTo w now c ≡ last w m (xs ++ (call ∷ [])) =
       ap (stepTo w now) e ∙ sym (last-more w m xs call) in
-      let code : d .code ≡ answer w now call .code = g .coded ∙ ap (λ (r : Answer). r .code) a in
-      let number : d .number ≡ answer w now call .number = g .numbered ∙ ap (λ (r : Answer). r .number) a in
+      let told : d .answer ≡ answer w now call = g .answered ∙ a in
       let A = answerWords (answers w m xs) in
       record {
-        stands = subst (λ (k : Machine). Running w (d .version) vt′ et′ t′ places′ closed types k) s (g .stands);
+        after = subst (λ (k : Machine). Running w (d .store) mem′ closed types k) s (g .after);
         answered =
-            (λ i. set (set (h .answered i) (2 * length xs) (d .code)) (2 * length xs + 1) (d .number))
-            ∙ over-more A slice (length xs) (d .code) (d .number) (answers-length w m xs) long
-            ∙ (λ i. over (A ++ (code i ∷ number i ∷ [])) slice)
-            ∙ ap (λ (l : List ℕ). over l slice) (sym (answers-more w m xs call));
+            (λ i. set (set (h .answered i) (2 * length xs) (d .answer .code)) (2 * length xs + 1) (d .answer .number))
+            ∙ over-more A slice (length xs) (d .answer .code) (d .answer .number) (answers-length w m xs) long
+            ∙ (λ i. overwritten (A ++ (told i .code ∷ told i .number ∷ [])) slice)
+            ∙ ap (λ (l : List ℕ). overwritten l slice) (sym (answers-more w m xs call));
       }
 
   -- call k of the list
-  pub after-calls-more : (calls : List ℕ) (k : ℕ) (c : Command) (d : Done) (vt′ et′ t′ places′ : List ℕ) →
-      AfterCalls w m (take k (callsOf calls)) x vt et t places closed types slice slice′ →
+  pub after-calls-more : (calls : List ℕ) (k : ℕ) (c : Command) (d : Called) (mem′ : Memory) →
+      AfterCalls w m (take k (callsOf calls)) x mem closed types slice slice′ →
       c ≡ commandOf (callAt (take (5 * k + 5 - 5 * k) (drop (5 * k) calls))) →
-      ((w : Parameters) → (m : Machine) → Running w x vt et t places closed types m →
-      Answered w m c (d .version) (d .code) (d .number) vt′ et′ t′ places′ closed types) →
+      ((w : Parameters) → (m : Machine) → Running w x mem closed types m →
+      Answered w m c d mem′ closed types) →
       5 * k + 5 ≤ length calls → 2 * k + 1 < length slice →
-      AfterCalls w m (take (k + 1) (callsOf calls)) (d .version) vt′ et′ t′ places′ closed types slice
-      (set (set slice′ (2 * k) (d .code)) (2 * k + 1) (d .number))
-  after-calls-more calls k c d vt′ et′ t′ places′ h e f fits long =
+      AfterCalls w m (take (k + 1) (callsOf calls)) (d .store) mem′ closed types slice
+      (set (set slice′ (2 * k) (d .answer .code)) (2 * k + 1) (d .answer .number))
+  after-calls-more calls k c d mem′ h e f fits long =
       let cs = callsOf calls in
       let z = callAt [] in
       let q = length calls / 5 in
@@ -123,17 +124,17 @@ module _ (w : Parameters) (m : Machine) (x : Version) (vt et t places closed : L
       let call : c ≡ commandOf (getD cs k z) =
       e ∙ ap (λ (j : ℕ). commandOf (callAt (take j (drop (5 * k) calls)))) five ∙ ap commandOf (sym (call-at k calls z fits)) in
       let all : take (k + 1) cs ≡ take k cs ++ (getD cs k z ∷ []) = ap (λ (j : ℕ). take j cs) (add-one k) ∙ take-suc cs k z inside in
-      let r = after-calls-one (take k cs) (getD cs k z) c d vt′ et′ t′ places′ h call f (rw size long) in
-      let r′ = subst (λ (j : ℕ). AfterCalls w m (take k cs ++ (getD cs k z ∷ [])) (d .version) vt′ et′ t′ places′ closed types slice
-      (set (set slice′ (2 * j) (d .code)) (2 * j + 1) (d .number))) size r in
-      subst (λ (xs : List Call). AfterCalls w m xs (d .version) vt′ et′ t′ places′ closed types slice
-      (set (set slice′ (2 * k) (d .code)) (2 * k + 1) (d .number))) (sym all) r′
+      let r = after-calls-one (take k cs) (getD cs k z) c d mem′ h call f (rw size long) in
+      let r′ = subst (λ (j : ℕ). AfterCalls w m (take k cs ++ (getD cs k z ∷ [])) (d .store) mem′ closed types slice
+      (set (set slice′ (2 * j) (d .answer .code)) (2 * j + 1) (d .answer .number))) size r in
+      subst (λ (xs : List Call). AfterCalls w m xs (d .store) mem′ closed types slice
+      (set (set slice′ (2 * k) (d .answer .code)) (2 * k + 1) (d .answer .number))) (sym all) r′
 
   -- all of them
   pub after-calls-all : (calls : List ℕ) (k : ℕ) → length calls / 5 ≤ k →
-      AfterCalls w m (take k (callsOf calls)) x vt et t places closed types slice slice′ →
-      AfterCalls w m (callsOf calls) x vt et t places closed types slice slice′
+      AfterCalls w m (take k (callsOf calls)) x mem closed types slice slice′ →
+      AfterCalls w m (callsOf calls) x mem closed types slice slice′
   after-calls-all calls k i h =
       let q = length calls / 5 in
       let many : length (callsOf calls) ≡ q = calls-length q calls (omega arith) (omega arith) in
-      subst (λ (xs : List Call). AfterCalls w m xs x vt et t places closed types slice slice′) (take-all k (callsOf calls) (omega arith)) h
+      subst (λ (xs : List Call). AfterCalls w m xs x mem closed types slice slice′) (take-all k (callsOf calls) (omega arith)) h

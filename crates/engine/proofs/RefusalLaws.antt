@@ -9,7 +9,7 @@ use lib.ListN.{length}
 use borrow.Author.Tests.{not-false, lt-ltb, le-ltb}
 use Rattle.lists.specs.Choice.{_⇒_else_, _==_, within}
 use Rattle.lists.proofs.Bools.{and-true, within-range}
-use Rattle.types.specs.Rows.{goodRows}
+use Rattle.type_rows.specs.Rows.{goodRows}
 use Rattle.image.specs.Image.{imageLength}
 use Rattle.image.specs.Checks.{bounds, verdict, codeOf, offsetOf, loadOffset}
 use Rattle.image.specs.declared.Verdict.{Verdict}

@@ -1,29 +1,31 @@
 -- A list that is not refused: what its steps ask, and what they leave together; and a list that is refused.
 use Prim.Native.Nat.{ℕ, _/_, _^_, _<_}
-use mathlib.Core.Path.{_≡_, refl, sym, ap, _∙_}
+use mathlib.Core.Path.{_≡_, refl, sym, ap, subst, _∙_}
 use mathlib.Core.List.{List}
 use native.Mathlib.Omega.{arith}
 use lib.ListN.{length}
 use borrow.Author.Tests.{ne-eqb}
-use Rattle.types.specs.Closure.{closureWords}
+use Rattle.type_rows.specs.Closure.{closureWords}
 use Rattle.graph.specs.Graph.{Graph}
 use Rattle.graph.specs.WellFormed.{Bounds, Within}
 use Rattle.history.specs.Machine.{Machine, fresh, present}
 use Rattle.image.specs.Image.{load}
-use Rattle.tables.specs.declared.Head.{Head}
-use Rattle.tables.specs.Tables.{st}
-use Rattle.tables.specs.Holds.{Holds}
-use Rattle.tables.specs.Capacities.{Sized}
-use Rattle.versions.specs.declared.Version.{Version}
-use Rattle.versions.specs.Represents.{Represents}
-use Rattle.versions.proofs.Present as versions
-use Rattle.store.specs.Words.{CanSave}
-use Rattle.store.specs.Filling.{CanLoad}
-use Rattle.store.proofs.Laws.{within-loaded, can-save, Saved}
+use Rattle.graph_tables.specs.declared.Head.{Head}
+use Rattle.graph_tables.specs.Tables.{state}
+use Rattle.graph_tables.specs.Holds.{Holds}
+use Rattle.graph_tables.specs.Capacities.{Sized}
+use Rattle.history_calls.specs.declared.Store.{Store}
+use Rattle.history_calls.specs.Memory.{Memory, memory, tablesOf}
+use Rattle.history_calls.specs.Represents.{Represents}
+use Rattle.history_calls.specs.Outcomes.{begunAt}
+use Rattle.history_calls.proofs.Present as versions
+use Rattle.image_tables.specs.Words.{CanSave}
+use Rattle.image_tables.specs.Filling.{CanLoad}
+use Rattle.image_tables.proofs.Laws.{within-loaded, can-save, Saved}
 use Rattle.machine.specs.Calls.{Parameters, boundsIn}
 use Rattle.commands.specs.Calls.{callsOf}
 use Rattle.machine.specs.Machine.{last}
-use Rattle.machine.specs.Run.{Lent, RunResult, parametersOf, listRefusal, listNumber, accepted, refused, run}
+use Rattle.machine.specs.Run.{Lent, AfterRun, parametersOf, listRefusal, listNumber, accepted, refused, run}
 use Rattle.machine.proofs.ListRows.{Passed, passed}
 use Rattle.engine.specs.Refusals.{Lends}
 use Rattle.engine.specs.Running.{Running}
@@ -31,10 +33,15 @@ use Rattle.engine.specs.Calls.{AfterCalls}
 use Rattle.engine.specs.Outcomes.{lent, runResult}
 use Rattle.machine.proofs.Whole.{calls-length}
 
--- what `versions::start` ensures of the version x
-abbrev Starts : Head → Version → Type 0
-Starts head x = (b : Bounds) → (vt et t places : List ℕ) → (g : Graph) → Sized b (st head vt et) → Within b g →
-    Holds (st head vt et) g → length t < 2 ^ 32 → length places ≡ 64 → Represents b x vt et t places (fresh g)
+-- what `begin` ensures of the version x
+abbrev Begins : List ℕ → Store → List ℕ → List ℕ → Type 0
+Begins start x vt et =
+    (b : Bounds) → (journal marks : List ℕ) → Sized b (tablesOf x (memory vt et journal marks)) → Within b (load start)
+    → length journal < 2 ^ 32 → length marks ≡ 64 → Represents b x (memory vt et journal marks) (fresh (load start))
+
+-- the tables with the head of a version that begins
+pub held-at : (x : Store) (head : Head) (vt et : List ℕ) (g : Graph) → x ≡ begunAt head → Holds (state head vt et) g → Holds (state (x .current .head) vt et) g
+held-at x head vt et g e h = subst (λ (y : Store). Holds (state (y .current .head) vt et) g) (sym e) h
 
 module _ (start rows calls vertices edges journal answers image : List ℕ) (e : listRefusal (lent start rows calls vertices edges journal answers image) ≡ 0) where
   abbrev l : Lent
@@ -54,9 +61,9 @@ module _ (start rows calls vertices edges journal answers image : List ℕ) (e :
   }
 
   module _ (closed : List ℕ) (types : ℕ) (rows-closed : closed ≡ closureWords rows) (types-in : types ≡ length rows) where
-    pub running : (head : Head) (x : Version) (vt et places : List ℕ) → length vt ≡ length vertices → length et ≡ length edges → length places ≡ 64 →
-        Holds (st head vt et) (load start) → Starts head x → Running w x vt et journal places closed types (fresh (load start))
-    running head x vt et places v n p h s =
+    pub running : (x : Store) (vt et marks : List ℕ) → length vt ≡ length vertices → length et ≡ length edges → length marks ≡ 64 →
+        Begins start x vt et → Running w x (memory vt et journal marks) closed types (fresh (load start))
+    running x vt et marks v n p s =
         let k = past .limits in
         let few-c = k .few-changes in
         record {
@@ -70,30 +77,30 @@ module _ (start rows calls vertices edges journal answers image : List ℕ) (e :
             types-in = types-in;
           };
           represents =
-              s (boundsIn w) vt et journal places (load start)
+              s (boundsIn w) journal marks
               (record { vertices = ap (λ (j : ℕ). j / 8) (sym v); edges = ap (λ (j : ℕ). j / 12) (sym n); fewVertices = k .few-vertices; fewEdges = k .few-edges })
               (within-loaded (boundsIn w) start (past .start-loads))
-              h (omega arith) p;
+              (omega arith) p;
         }
 
-    module _ (m : Machine) (y : Version) (vt et t places : List ℕ) (r : Running w y vt et t places closed types m) where
-      pub holds-present : Holds (st (y .current .head) vt et) (present m)
-      holds-present = versions.holds-present (boundsIn w) y vt et t places m (r .represents)
+    module _ (m : Machine) (y : Store) (mem : Memory) (r : Running w y mem closed types m) where
+      pub holds-present : Holds (tablesOf y mem) (present m)
+      holds-present = versions.holds-present (boundsIn w) y mem m (r .represents)
 
-      pub can-save-present : CanSave (st (y .current .head) vt et) (length image)
+      pub can-save-present : CanSave (tablesOf y mem) (length image)
       can-save-present =
-          can-save (boundsIn w) (st (y .current .head) vt et) (present m) (length image) holds-present
-          (versions.within-present (boundsIn w) y vt et t places m (r .represents))
-          (versions.sized-present (boundsIn w) y vt et t places m (r .represents))
+          can-save (boundsIn w) (tablesOf y mem) (present m) (length image) holds-present
+          (versions.within-present (boundsIn w) y mem m (r .represents))
+          (versions.sized-present (boundsIn w) y mem m (r .represents))
           (omega (arith, past .end-room))
 
-    pub ends : (y : Version) (vt et t places answers′ image′ : List ℕ) (n : ℕ) →
-        AfterCalls w (fresh (load start)) (callsOf calls) y vt et t places closed types answers answers′ → Saved (st (y .current .head) vt et) image image′ n →
+    pub ends : (y : Store) (mem : Memory) (answers′ image′ : List ℕ) (n : ℕ) →
+        AfterCalls w (fresh (load start)) (callsOf calls) y mem closed types answers answers′ → Saved (tablesOf y mem) image image′ n →
         runResult (record { code = 0; done = length calls / 5; words = n }) answers′ image′ ≡ accepted l
     unfolding accepted
-    ends y vt et t places answers′ image′ n g s =
+    ends y mem answers′ image′ n g s =
         let m = last w (fresh (load start)) (callsOf calls) in
-        let q = s (present m) (holds-present m y vt et t places (g .stands)) in
+        let q = s (present m) (holds-present m y mem (g .after)) in
         let k : length calls / 5 ≡ length (callsOf calls) = sym (calls-length (length calls / 5) calls (omega arith) (omega arith)) in
         λ i. record { code = 0; done = k i; words = q .1 i; answers = g .answered i; end = q .0 i }
 
@@ -112,7 +119,7 @@ lends start rows calls vertices edges journal answers image = record {
   image-is = refl;
 }
 
-pub run-accepted : (l : Lent) (r : RunResult) → listRefusal l ≡ 0 → r ≡ accepted l → r ≡ run l
+pub run-accepted : (l : Lent) (r : AfterRun) → listRefusal l ≡ 0 → r ≡ accepted l → r ≡ run l
 unfolding run
 run-accepted l r e h = rw e h
 

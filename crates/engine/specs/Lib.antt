@@ -1,4 +1,3 @@
-pub mod Slices
 pub mod Running
 pub mod Refusals
 pub mod Calls

@@ -5,9 +5,9 @@ use mathlib.Core.Path.{_≡_}
 use lib.ListN.{length}
 use denote.Ref.{now}
 use Rattle.machine.specs.Demand.{Demand3}
-use Rattle.machine.specs.Run.{Lent, RunResult, listRefusal, run}
-use Rattle.engine.specs.declared.run.Outcome.{Outcome}
-use Rattle.engine.specs.Slices.{Slice}
+use Rattle.machine.specs.Run.{Lent, AfterRun, listRefusal}
+use Rattle.engine.specs.declared.run.RunResult.{RunResult}
+use Rattle.lists.specs.Slices.{Slice}
 
 -- REFERENCE 9.1
 abbrev pub lent : List ℕ → List ℕ → List ℕ → List ℕ → List ℕ → List ℕ → List ℕ → List ℕ → Lent
@@ -23,7 +23,7 @@ lent start rows calls vertices edges journal answers image = record {
 }
 
 -- REFERENCE 9.4, with the two slices that a run writes
-abbrev pub runResult : Outcome → List ℕ → List ℕ → RunResult
+abbrev pub runResult : RunResult → List ℕ → List ℕ → AfterRun
 runResult r answers image = record { code = r .code; done = r .done; words = r .words; answers = answers; end = image }
 
 -- ---- for contracts: the lent slices by their names
@@ -35,7 +35,7 @@ given start rows calls vertices edges journal answers image =
     (now (journal .entry)) (now (answers .entry)) (now (image .entry))
 
 -- the result with the two slices as the run leaves them
-abbrev pub left : Outcome → Slice → Slice → RunResult
+abbrev pub left : RunResult → Slice → Slice → AfterRun
 left r answers image = runResult r (now (answers .exit)) (now (image .exit))
 
 abbrev pub Same : Slice → Type 0
@@ -46,5 +46,5 @@ abbrev pub Untouched : Lent → Slice → Slice → Slice → Type 0
 Untouched l vertices edges journal = (listRefusal l ≡ 0 → ⊥) → Same vertices × Same edges × Same journal
 
 -- REFERENCE 14.3, for a list that is not refused
-abbrev pub MeetsDemand3 : Lent → RunResult → Type 0
+abbrev pub MeetsDemand3 : Lent → AfterRun → Type 0
 MeetsDemand3 l r = listRefusal l ≡ 0 → Demand3 l r

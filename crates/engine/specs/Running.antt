@@ -5,60 +5,52 @@ use mathlib.Core.Bool.{true}
 use mathlib.Core.List.{List}
 use lib.ListN.{length}
 use denote.Ref.{RefT, now}
-use Rattle.types.specs.Rows.{goodRows}
-use Rattle.types.specs.Closure.{closureWords}
+use Rattle.lists.specs.Slices.{Slice}
+use Rattle.type_rows.specs.Rows.{goodRows}
+use Rattle.type_rows.specs.Closure.{closureWords}
 use Rattle.history.specs.Machine.{Machine}
-use Rattle.versions.specs.declared.Done.{Done}
-use Rattle.versions.specs.declared.Version.{Version}
-use Rattle.versions.specs.Represents.{Represents}
+use Rattle.history_calls.specs.declared.Called.{Called}
+use Rattle.history_calls.specs.declared.Store.{Store}
+use Rattle.history_calls.specs.Memory.{Memory, memory, entry, exit}
+use Rattle.history_calls.specs.Represents.{Represents}
 use Rattle.machine.specs.Calls.{Parameters, boundsIn}
 use Rattle.machine.specs.Run.{Limits}
 use Rattle.commands.specs.declared.Command.{Command}
 use Rattle.machine.specs.Machine.{answerTo, stepTo}
-use Rattle.engine.specs.Slices.{Slice}
 
--- the tables' capacities, the types and the limits are those of w
-pub record Setting (w : Parameters) (vt et t : List ℕ) (closed : List ℕ) (types : ℕ) : Type 0 where
+-- the capacities, the types and the limits are those of w
+pub record Setting (w : Parameters) (mem : Memory) (closed : List ℕ) (types : ℕ) : Type 0 where
   pub limits : Limits w
-  pub vertices : w .vertices ≡ length vt / 8
-  pub edges : w .edges ≡ length et / 12
-  pub changes : w .changes ≡ length t / 12
+  pub vertices : w .vertices ≡ length (mem .vertices) / 8
+  pub edges : w .edges ≡ length (mem .edges) / 12
+  pub changes : w .changes ≡ length (mem .journal) / 12
   pub rows : goodRows (w .rows) ≡ true
   pub closed-rows : closed ≡ closureWords (w .rows)
   pub types-in : types ≡ length (w .rows)
 
 -- a run with parameters w whose machine is m
-pub record Running (w : Parameters) (x : Version) (vt et t places closed : List ℕ) (types : ℕ)
+pub record Running (w : Parameters) (x : Store) (mem : Memory) (closed : List ℕ) (types : ℕ)
     (m : Machine) : Type 0 where
-  pub setting : Setting w vt et t closed types
-  pub represents : Represents (boundsIn w) x vt et t places m
+  pub setting : Setting w mem closed types
+  pub represents : Represents (boundsIn w) x mem m
 
--- the answer is the machine's to the command, and so is what stands afterwards
-pub record Answered (w : Parameters) (m : Machine) (c : Command) (x : Version) (code number : ℕ)
-    (vt et t places closed : List ℕ) (types : ℕ) : Type 0 where
-  pub coded : code ≡ answerTo w m c .code
-  pub numbered : number ≡ answerTo w m c .number
-  pub stands : Running w x vt et t places closed types (stepTo w m c)
-
--- the answer is the machine's to a command that changes nothing
-abbrev pub Stays : Parameters → Machine → Command → Version → Done → List ℕ → List ℕ → List ℕ → List ℕ → List ℕ → ℕ
-    → Type 0
-Stays w m c x r vt et t places closed types =
-    (r .version ≡ x) × Answered w m c (r .version) (r .code) (r .number) vt et t places closed types
+-- the answer is the machine's to the command, and so is what is represented afterwards
+pub record Answered (w : Parameters) (m : Machine) (c : Command) (d : Called) (mem : Memory)
+    (closed : List ℕ) (types : ℕ) : Type 0 where
+  pub answered : d .answer ≡ answerTo w m c
+  pub after : Running w (d .store) mem closed types (stepTo w m c)
 
 -- ---- for contracts: the lent slices by their names
 
 -- some run stands at the lent words
-abbrev pub Stands : Version → RefT (List ℕ) → RefT (List ℕ) → RefT (List ℕ) → RefT (List ℕ) → RefT (List ℕ) → ℕ → Type 0
-Stands x vertices edges journal places closed types =
+abbrev pub Runs : Store → RefT (List ℕ) → RefT (List ℕ) → RefT (List ℕ) → RefT (List ℕ) → RefT (List ℕ) → ℕ → Type 0
+Runs x vertices edges journal marks closed types =
     (w : Parameters) × (m : Machine)
-    × Running w x (now vertices) (now edges) (now journal) (now places) (now closed) types m
+    × Running w x (memory (now vertices) (now edges) (now journal) (now marks)) (now closed) types m
 
 -- whatever run stood there, the answer is its machine's to the command, and so is what stands afterwards
-abbrev pub Performs : Command → Version → Done → Slice → Slice → Slice → Slice → Slice → ℕ → Type 0
-Performs c x r vertices edges journal places closed types =
+abbrev pub Answers : Command → Store → Called → Slice → Slice → Slice → Slice → Slice → ℕ → Type 0
+Answers c x d vertices edges journal marks closed types =
     (w : Parameters) → (m : Machine)
-    → Running w x (now (vertices .entry)) (now (edges .entry)) (now (journal .entry)) (now (places .entry))
-    (now (closed .entry)) types m
-    → Answered w m c (r .version) (r .code) (r .number) (now (vertices .exit)) (now (edges .exit)) (now (journal .exit))
-    (now (places .exit)) (now (closed .entry)) types
+    → Running w x (entry vertices edges journal marks) (now (closed .entry)) types m
+    → Answered w m c d (exit vertices edges journal marks) (now (closed .entry)) types

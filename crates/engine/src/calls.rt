@@ -1,45 +1,45 @@
 // Every call of a list, one after another.
 use crate::step::step;
 use commands::decode;
-use versions::Version;
+use history_calls::Store;
 ghost use Prim.Native.Nat.{_*_, _/_, _≤_};
 ghost use lib.ListN.{length};
 ghost use Rattle.history.specs.Machine.{Machine};
 ghost use Rattle.machine.specs.Calls.{Parameters};
 ghost use Rattle.commands.specs.Calls.{callsOf};
-ghost use Rattle.engine.specs.Running.{Running, Stands};
+ghost use Rattle.history_calls.specs.Memory.{entry, exit};
+ghost use Rattle.engine.specs.Running.{Running, Runs};
 ghost use Rattle.engine.specs.Calls.{AfterCalls};
 
-// Answers each call by two words, code and number. The words of tables, journal and places are left open,
+// Answers each call by two words, code and number. The words of tables, journal and marks are left open,
 // but for the machine that they stand for.
 pub fn each(
-    x: Version,
-    vt: &mut [u32],
-    et: &mut [u32],
-    t: &mut [u32],
-    places: &mut [u32; 64],
+    x: Store,
+    vertices: &mut [u32],
+    edges: &mut [u32],
+    journal: &mut [u32],
+    marks: &mut [u32; 64],
     closed: &[u64; 64],
     types: u32,
     calls: &[u32],
     answers: &mut [u32],
-) -> Version
-    requires { ⌜ Stands x vt et t places closed types ⌝ }
+) -> Store
+    requires { ⌜ Runs x vertices edges journal marks closed types ⌝ }
     requires { ⌜ 2 * (length (now calls) / 5) ≤ length (now answers) ⌝ }
     ensures { λ r. ⌜ ((w : Parameters) → (m : Machine)
-        → Running w x (now (vt .entry)) (now (et .entry)) (now (t .entry)) (now (places .entry))
-        (now (closed .entry)) types m
-        → AfterCalls w m (callsOf (now (calls .entry))) r (now (vt .exit)) (now (et .exit)) (now (t .exit))
-        (now (places .exit)) (now (closed .entry)) types (now (answers .entry)) (now (answers .exit))) ⌝ }
+        → Running w x (entry vertices edges journal marks) (now (closed .entry)) types m
+        → AfterCalls w m (callsOf (now (calls .entry))) r (exit vertices edges journal marks) (now (closed .entry))
+        types (now (answers .entry)) (now (answers .exit))) ⌝ }
 {
     let n = calls.len() / 5;
     let mut y = x;
     let mut k = 0;
     while k < n {
         let command = decode(&calls[5 * k..5 * k + 5]);
-        let done = step(y, vt, et, t, places, closed, types, command);
-        y = versions::same(done.version);
-        answers[2 * k] = done.code;
-        answers[2 * k + 1] = done.number;
+        let done = step(y, vertices, edges, journal, marks, closed, types, command);
+        y = history_calls::same(done.store);
+        answers[2 * k] = done.answer.code;
+        answers[2 * k + 1] = done.answer.number;
         k += 1;
     }
     y

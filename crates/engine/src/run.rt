@@ -1,10 +1,9 @@
 // A run: what is lent, the calls, the result.
+use crate::begin::begin;
 use crate::calls::each;
 use crate::refusals::refusal;
-use store::load;
-use store::save;
-use types::closure;
-use versions::start as begin;
+use image_tables::save;
+use type_rows::closure;
 ghost use mathlib.Core.Path.{_≡_};
 ghost use Rattle.machine.specs.Run.{listRefusal, accepted as acceptedOf, run as runOf};
 ghost use Rattle.engine.specs.Outcomes.{lent, runResult, given, left, Untouched, MeetsDemand3};
@@ -12,7 +11,7 @@ ghost use Rattle.engine.specs.Outcomes.{lent, runResult, given, left, Un
 // The code of the list, the calls done, the words of the end image. Of a refused list `done` is the number beside its
 // code. The layout is that of include/futtockfig.h.
 #[repr(C)]
-pub struct Outcome {
+pub struct RunResult {
     pub code: u32,
     pub done: usize,
     pub words: usize,
@@ -28,7 +27,7 @@ fn accepted(
     journal: &mut [u32],
     answers: &mut [u32],
     image: &mut [u32],
-) -> Outcome
+) -> RunResult
     requires { ⌜ listRefusal (lent (now start) (now rows) (now calls)
         (now vertices) (now edges) (now journal) (now answers) (now image)) ≡ 0 ⌝ }
     ensures { λ r. ⌜ runResult r (now (answers .exit)) (now (image .exit))
@@ -36,15 +35,14 @@ fn accepted(
 {
     let closed = closure(rows);
     let types = rows.len() as u32;
-    let head = load(start, vertices, edges);
-    let x = begin(head);
-    let mut places = [0u32; 64];
+    let x = begin(start, vertices, edges);
+    let mut marks = [0u32; 64];
     let y = each(
         x,
         vertices,
         edges,
         journal,
-        &mut places,
+        &mut marks,
         &closed,
         types,
         calls,
@@ -52,7 +50,7 @@ fn accepted(
     );
     let last = y.current.head;
     let words = save(last, vertices, edges, image);
-    Outcome {
+    RunResult {
         code: 0,
         done: calls.len() / 5,
         words,
@@ -71,7 +69,7 @@ pub fn run(
     journal: &mut [u32],
     answers: &mut [u32],
     image: &mut [u32],
-) -> Outcome
+) -> RunResult
     ensures { λ r. ⌜ left r answers image ≡ runOf (given start rows calls vertices edges journal answers image) ⌝ }
     ensures { λ r. ⌜ Untouched (given start rows calls vertices edges journal answers image) vertices edges journal ⌝ }
     ensures { λ r. ⌜ MeetsDemand3 (given start rows calls vertices edges journal answers image)
@@ -88,7 +86,7 @@ pub fn run(
         image.len(),
     );
     if refused.code != 0 {
-        return Outcome {
+        return RunResult {
             code: refused.code,
             done: refused.number as usize,
             words: 0,

@@ -1,5 +1,5 @@
 // The run, the parts of an image and the page for programs in C and Rust: include/futtockfig.h says the same in C.
-use engine::run::Outcome;
+use engine::run::RunResult;
 use engine::run::run;
 use page::Printed;
 use page::print;
@@ -22,7 +22,7 @@ pub extern "C" fn futtockfig_run(
     journal: &mut [u32],
     answers: &mut [u32],
     image: &mut [u32],
-) -> Outcome
+) -> RunResult
     ensures { λ r. ⌜ left r answers image ≡ runOf (given start rows calls vertices edges journal answers image) ⌝ }
     ensures { λ r. ⌜ Untouched (given start rows calls vertices edges journal answers image) vertices edges journal ⌝ }
     ensures { λ r. ⌜ MeetsDemand3 (given start rows calls vertices edges journal answers image)

@@ -1,14 +1,14 @@
 -- An edit that applies keeps the graph exactly where its old and its new agree.
-use Prim.Native.Nat.{ℕ, _/_, _%_, _≤_}
+use Prim.Native.Nat.{ℕ, _%_}
 use mathlib.Core.Path.{_≡_, refl, sym, ap, ap₂, _∙_, subst}
-use mathlib.Core.Bool.{Bool, true, false, not, _&&_}
+use mathlib.Core.Bool.{Bool, true, false, not}
 use mathlib.Core.List.{List, [], _∷_}
 use native.Mathlib.Omega.{arith}
 use borrow.Author.Tests.{eqb-true, eq-eqb}
-use Rattle.lists.specs.Choice.{_==_, pick}
-use Rattle.lists.specs.Lists.{same}
-use Rattle.lists.specs.Keyed.{countBy, upd, find}
-use Rattle.lists.proofs.Bools.{and-true, and-both, ft, tf}
+use Rattle.lists.specs.Choice.{_==_, ifEqual}
+use Rattle.lists.specs.Lists.{equalLists}
+use Rattle.lists.specs.Keyed.{countBy}
+use Rattle.lists.proofs.Bools.{and-true, and-both, ft}
 use Rattle.lists.proofs.Picks.{pick-yes, pick-no, same as alike, differ, same?, is-yes}
 use Rattle.lists.proofs.Places.{upd-agree, upd-same}
 use Rattle.graph.specs.declared.Reading.{Reading}
@@ -17,9 +17,9 @@ use Rattle.graph.specs.declared.Change.{Change}
 use Rattle.graph.specs.declared.Change.the-variants.{CreateVertex, DeleteVertex, CreateEdge, DeleteEdge, RetypeVertex, RetypeEdge, SetValue, SetReading, SetAlpha, SetOmega, VertexBefore, VertexAfter, EdgeBefore, EdgeAfter, WordBefore, WordAfter}
 use Rattle.graph.specs.declared.Edit.{Edit}
 use Rattle.graph.specs.declared.Edit.the-variants.{InsertVertex, RemoveVertex, InsertEdge, RemoveEdge, SetVertex, SetEdge, MoveVertex, MoveEdge, MoveWord}
-use Rattle.graph.specs.Graph.{Vertex, Edge, Graph, vn, en, wd, noVertex, noEdge, vertexIn, edgeIn, edgeOf, readingKind, decimetres, outWord}
+use Rattle.graph.specs.Graph.{Vertex, Edge, Graph, vertexNumber, edgeNumber, itself, noVertex, noEdge, vertexIn, edgeIn, edgeOf, readingKind, decimetres}
 use Rattle.graph.specs.WellFormed.{Bounds, WellFormed}
-use Rattle.graph.specs.Changes.{withVertex, withEdge, withEnd, edgesAt, deleteEdges, deleteVertex, changed, Allowed}
+use Rattle.graph.specs.Changes.{withVertex, withEdge, withSeen, edgesAt, deleteEdges, deleteVertex, changed, Allowed}
 use Rattle.graph.specs.Edits.{inverse, apply, Applies}
 use Rattle.graph.specs.Plans.{plan, removal, vertexRemoval, firstEdits}
 use Rattle.graph.specs.Same.{sameReading, sameVertex, sameEdge, sameBy, sameGraph, differs, alters, idle}
@@ -48,15 +48,15 @@ reading-eq (Heard d) (Heard k) h = ap Heard (eqb-true d k h)
 reading-refl : (r : Reading) → sameReading r r ≡ true
 reading-refl r = and-both _ _ (eq-eqb (readingKind r) (readingKind r) refl) (eq-eqb (decimetres r) (decimetres r) refl)
 
-words-eq : (xs ys : List ℕ) → same xs ys ≡ true → xs ≡ ys
+words-eq : (xs ys : List ℕ) → equalLists xs ys ≡ true → xs ≡ ys
 words-eq [] [] h = refl
 words-eq [] (y ∷ ys) h = ft h
 words-eq (x ∷ xs) [] h = ft h
-words-eq (x ∷ xs) (y ∷ ys) h = let a = and-true (x == y) (same xs ys) h in ap₂ _∷_ (eqb-true x y (a .0)) (words-eq xs ys (a .1))
+words-eq (x ∷ xs) (y ∷ ys) h = let a = and-true (x == y) (equalLists xs ys) h in ap₂ _∷_ (eqb-true x y (a .0)) (words-eq xs ys (a .1))
 
-words-refl : (xs : List ℕ) → same xs xs ≡ true
+words-refl : (xs : List ℕ) → equalLists xs xs ≡ true
 words-refl [] = refl
-words-refl (x ∷ xs) = and-both (x == x) (same xs xs) (eq-eqb x x refl) (words-refl xs)
+words-refl (x ∷ xs) = and-both (x == x) (equalLists xs xs) (eq-eqb x x refl) (words-refl xs)
 
 vertex-eq : (v u : Vertex) → sameVertex v u ≡ true → v ≡ u
 vertex-eq v u h =
@@ -120,7 +120,7 @@ same-from g h e = subst (λ (x : Graph). sameGraph g x ≡ true) e (same-refl g)
 
 -- ---- an edit whose old and new agree keeps the graph
 
-end-same : (x v : ℕ) (e : Edge) → pick (x % 2) 0 (e .alpha) (e .omega) ≡ v → withEnd x v e ≡ e
+end-same : (x v : ℕ) (e : Edge) → ifEqual (x % 2) 0 (e .alpha) (e .omega) ≡ v → withSeen x v e ≡ e
 end-same x v e h = elim (same? (x % 2) 0) [
   | alike i j ↦
       let k : e .alpha ≡ v = simp pick-yes at h in
@@ -133,21 +133,21 @@ end-same x v e h = elim (same? (x % 2) 0) [
 module _ (g : Graph) (w : WellFormed g) where
   set-vertex : (n t v : ℕ) → Applies (SetVertex n t v t v) g → apply (SetVertex n t v t v) g ≡ g
   set-vertex n t v h = graph-path _ _
-      (upd-agree vn noVertex n (withVertex t v) (λ (y : Vertex). y) (g .vseq) (λ k. omega (arith, w .vorder k))
+      (upd-agree vertexNumber noVertex n (withVertex t v) (λ (y : Vertex). y) (g .vseq) (λ k. omega (arith, w .vorder k))
       (λ i. record { number = vertexIn (g .vseq) n .number; type = sym (h .1) i; value = sym (h .2) i; incidences = vertexIn (g .vseq) n .incidences })
-      ∙ upd-same vn n (g .vseq)) refl
+      ∙ upd-same vertexNumber n (g .vseq)) refl
 
   set-edge : (n t : ℕ) (r : Reading) → Applies (SetEdge n t r t r) g → apply (SetEdge n t r t r) g ≡ g
   set-edge n t r h = graph-path _ _ refl
-      (upd-agree en noEdge n (withEdge t r) (λ (y : Edge). y) (g .eseq) (λ k. omega (arith, w .eorder k))
+      (upd-agree edgeNumber noEdge n (withEdge t r) (λ (y : Edge). y) (g .eseq) (λ k. omega (arith, w .eorder k))
       (λ i. record { number = edgeIn (g .eseq) n .number; alpha = edgeIn (g .eseq) n .alpha; omega = edgeIn (g .eseq) n .omega; type = sym (h .1) i; reading = sym (h .2) i })
-      ∙ upd-same en n (g .eseq))
+      ∙ upd-same edgeNumber n (g .eseq))
 
   move-word : (x v p : ℕ) → Applies (MoveWord x v p v p) g → apply (MoveWord x v p v p) g ≡ g
   move-word x v p h = graph-path _ _
       (detach-back (g .vseq) v p x (w .vorder) (ordered-list g w v) (record { there = held g w x v (h .0) (h .1); before = h .3 }))
-      (upd-agree en noEdge (edgeOf x) (withEnd x v) (λ (y : Edge). y) (g .eseq) (λ k. omega (arith, w .eorder k)) (end-same x v (edgeIn (g .eseq) (edgeOf x)) (h .1))
-      ∙ upd-same en (edgeOf x) (g .eseq))
+      (upd-agree edgeNumber noEdge (edgeOf x) (withSeen x v) (λ (y : Edge). y) (g .eseq) (λ k. omega (arith, w .eorder k)) (end-same x v (edgeIn (g .eseq) (edgeOf x)) (h .1))
+      ∙ upd-same edgeNumber (edgeOf x) (g .eseq))
 
   pub idle-keeps : (e : Edit) → Applies e g → idle e ≡ true → apply e g ≡ g
   idle-keeps (InsertVertex n t v p) h i = ft i
@@ -165,9 +165,9 @@ module _ (g : Graph) (w : WellFormed g) where
       let q = reading-eq r r′ (a .1) in
       ap₂ (λ (x : ℕ) (y : Reading). apply (SetEdge n t r x y) g) (sym p) (sym q) ∙ set-edge n t r h
   idle-keeps (MoveVertex n old new) h i =
-      ap (λ (x : ℕ). apply (MoveVertex n old x) g) (sym (eqb-true old new i)) ∙ graph-path _ _ (placed-back vn noVertex (g .vseq) n old (w .vorder) (h .0)) refl
+      ap (λ (x : ℕ). apply (MoveVertex n old x) g) (sym (eqb-true old new i)) ∙ graph-path _ _ (placed-back vertexNumber noVertex (g .vseq) n old (w .vorder) (h .0)) refl
   idle-keeps (MoveEdge n old new) h i =
-      ap (λ (x : ℕ). apply (MoveEdge n old x) g) (sym (eqb-true old new i)) ∙ graph-path _ _ refl (placed-back en noEdge (g .eseq) n old (w .eorder) (h .0))
+      ap (λ (x : ℕ). apply (MoveEdge n old x) g) (sym (eqb-true old new i)) ∙ graph-path _ _ refl (placed-back edgeNumber noEdge (g .eseq) n old (w .eorder) (h .0))
   idle-keeps (MoveWord x v old u new) h i =
       let a = and-true (v == u) (old == new) i in
       let p = eqb-true v u (a .0) in
@@ -195,7 +195,7 @@ module _ (g : Graph) (w : WellFormed g) where
   keeps-idle (MoveWord x v old u new) h k =
       let c = kept-applies (MoveWord x v old u new) h k in
       let p : v ≡ u = sym (h .1) ∙ c .1 in
-      and-both (v == u) (old == new) (eq-eqb v u p) (eq-eqb old new (sym (h .3) ∙ ap (λ (y : ℕ). Rattle.lists.specs.Keyed.prev wd 0 x (Rattle.graph.specs.Graph.listIn (g .vseq) y)) p ∙ c .3))
+      and-both (v == u) (old == new) (eq-eqb v u p) (eq-eqb old new (sym (h .3) ∙ ap (λ (y : ℕ). Rattle.lists.specs.Keyed.prevBy itself 0 x (Rattle.graph.specs.Graph.listIn (g .vseq) y)) p ∙ c .3))
 
   -- ---- a change that is one edit alters the graph exactly where the edit's old and new differ
 
@@ -235,23 +235,23 @@ module _ (g : Graph) (w : WellFormed g) where
   alters-plan b (WordAfter i j) h f = differs-plan b (WordAfter i j) h f
 
   -- kind 2 always does: the vertex is gone
-  deletion-differs : (a : ℕ) → countBy vn a (g .vseq) ≡ 1 → differs (DeleteVertex a) g ≡ true
+  deletion-differs : (a : ℕ) → countBy vertexNumber a (g .vseq) ≡ 1 → differs (DeleteVertex a) g ≡ true
   unfolding differs changed deleteVertex
   deletion-differs a h = go (sameGraph (changed (DeleteVertex a) g) g) refl
     where
-      gone : countBy vn a (changed (DeleteVertex a) g .vseq) ≡ 0
+      gone : countBy vertexNumber a (changed (DeleteVertex a) g .vseq) ≡ 0
       gone =
           omega (
             arith,
-            count-rem vn a a (deleteEdges (edgesAt g a) g .vseq),
+            count-rem vertexNumber a a (deleteEdges (edgesAt g a) g .vseq),
             is-yes a a refl,
-            ap (λ (x : Graph). countBy vn a (x .vseq)) (removals-are (edgesAt g a) g),
+            ap (λ (x : Graph). countBy vertexNumber a (x .vseq)) (removals-are (edgesAt g a) g),
             removals-vertices (edgesAt g a) a g,
             h,
           )
 
       go : (t : Bool) → sameGraph (changed (DeleteVertex a) g) g ≡ t → not t ≡ true
-      go true p = absurd (omega (arith, gone, h, ap (λ (x : Graph). countBy vn a (x .vseq)) (same-to (changed (DeleteVertex a) g) g p)))
+      go true p = absurd (omega (arith, gone, h, ap (λ (x : Graph). countBy vertexNumber a (x .vseq)) (same-to (changed (DeleteVertex a) g) g p)))
       go false p = refl
 
   -- what `alters` says of an accepted change is that the graph after it is another one

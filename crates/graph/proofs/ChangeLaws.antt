@@ -6,7 +6,7 @@ use mathlib.Core.List.{List, [], _∷_, _++_}
 use native.Mathlib.Omega.{arith}
 use lib.ListN.{length, length-append}
 use Rattle.lists.specs.Lists.{All, done, more}
-use Rattle.lists.specs.Keyed.{rem}
+use Rattle.lists.specs.Keyed.{removeBy}
 use Rattle.lists.proofs.Sums.{all-append}
 use Rattle.graph.specs.declared.Change.{Change}
 use Rattle.graph.specs.declared.Change.the-variants.{
@@ -27,7 +27,7 @@ use Rattle.graph.specs.declared.Change.the-variants.{
   WordBefore,
   WordAfter,
 }
-use Rattle.graph.specs.Graph.{Graph, vn, listOf, edgeOf}
+use Rattle.graph.specs.Graph.{Graph, vertexNumber, listOf, edgeOf}
 use Rattle.graph.specs.WellFormed.{Bounds, wellFormed, WellFormed, Within}
 use Rattle.graph.specs.Changes.{onVseq, edgesAt, deleteEdges, deleteVertex, changed, cost, VertexThere, Allowed}
 use Rattle.graph.specs.Edits.{apply, EditIn}
@@ -120,7 +120,7 @@ module _ (b : Bounds) (g : Graph) (w : WellFormed g) where
       go : {d : Change} → Kind d → Allowed b g d → applyAll (firstEdits d g ++ (plan d (applyAll (firstEdits d g) g) ∷ [])) g ≡ changed d g
       go (deletion a) h =
           apply-append (removals (edgesAt g a) g) (plan (DeleteVertex a) (withoutEdges g a) ∷ []) g
-          ∙ ap (onVseq (rem vn a)) (removals-are (edgesAt g a) g)
+          ∙ ap (onVseq (removeBy vertexNumber a)) (removals-are (edgesAt g a) g)
       go (single {c = d} e k) h = rw (e g) (plan-is b g w d h (e g))
 
   pub edits-in : (c : Change) → Within b g → Allowed b g c → All (EditIn b) (editsOf c g)
@@ -140,13 +140,6 @@ change-keeps b g c t h =
     let f = to-facts b g t in
     rw (← change-is b g (f .0) c h) (keeps-all b (editsOf c g) g t (edits-apply b g (f .0) c h) (edits-in b g (f .0) c (f .1) h))
 
-module _ (b : Bounds) (g : Graph) (w : WellFormed g) (c : Change) (h : Allowed b g c) where
-  pub change-formed : WellFormed (changed c g)
-  change-formed = rw (← change-is b g w c h) (all-formed (editsOf c g) g (edits-apply b g w c h) w)
-
-  pub change-within : Within b g → Within b (changed c g)
-  change-within i = rw (← change-is b g w c h) (all-within b (editsOf c g) g (edits-apply b g w c h) (edits-in b g w c i h) i)
-
 -- ---- kind 2, one edge after another: the first word's edge goes, and what is left to do is the deletion of what is left
 
 module _ (g : Graph) (w : WellFormed g) (a : ℕ) where
@@ -162,9 +155,9 @@ module _ (g : Graph) (w : WellFormed g) (a : ℕ) where
   pub deleted-step : (x : ℕ) (xs : List ℕ) → listOf g a ≡ x ∷ xs →
       changed (DeleteVertex a) g ≡ changed (DeleteVertex a) (apply (removal (edgeOf x) g) g)
   unfolding changed deleteVertex deleteEdges
-  deleted-step x xs e = ap (λ (ns : List ℕ). onVseq (rem vn a) (deleteEdges ns g)) (edges-first g w a x xs e)
-      ∙ ap (λ (f : Graph). onVseq (rem vn a) (deleteEdges (edgesAt (apply (removal (edgeOf x) g) g) a) f)) (sym (removal-is g (edgeOf x)))
+  deleted-step x xs e = ap (λ (ns : List ℕ). onVseq (removeBy vertexNumber a) (deleteEdges ns g)) (edges-first g w a x xs e)
+      ∙ ap (λ (f : Graph). onVseq (removeBy vertexNumber a) (deleteEdges (edgesAt (apply (removal (edgeOf x) g) g) a) f)) (sym (removal-is g (edgeOf x)))
 
   pub deleted-last : listOf g a ≡ [] → changed (DeleteVertex a) g ≡ apply (vertexRemoval a g) g
   unfolding changed deleteVertex deleteEdges vertexRemoval
-  deleted-last e = ap (λ (ns : List ℕ). onVseq (rem vn a) (deleteEdges ns g)) (edges-none g w a e)
+  deleted-last e = ap (λ (ns : List ℕ). onVseq (removeBy vertexNumber a) (deleteEdges ns g)) (edges-none g w a e)

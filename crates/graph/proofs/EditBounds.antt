@@ -5,54 +5,54 @@ use mathlib.Core.Bool.{true}
 use mathlib.Core.List.{List, []}
 use native.Mathlib.Omega.{arith}
 use Rattle.lists.specs.Lists.{All}
-use Rattle.lists.specs.Keyed.{upd}
+use Rattle.lists.specs.Keyed.{updateBy}
 use Rattle.lists.proofs.KeyedAll.{all-ins, all-rem, all-upd, all-find}
 use Rattle.graph.specs.declared.Edit.{Edit}
 use Rattle.graph.specs.declared.Edit.the-variants.{InsertVertex, RemoveVertex, InsertEdge, RemoveEdge, SetVertex, SetEdge, MoveVertex, MoveEdge, MoveWord}
-use Rattle.graph.specs.Graph.{Vertex, Graph, vn, en, noVertex, noEdge}
+use Rattle.graph.specs.Graph.{Vertex, Graph, vertexNumber, edgeNumber, noVertex, noEdge}
 use Rattle.graph.specs.WellFormed.{Bounds, wellFormed, VertexIn, EdgeIn, Within}
-use Rattle.graph.specs.Changes.{onList, withVertex, withEdge, withEnd}
+use Rattle.graph.specs.Changes.{onList, withVertex, withEdge, withSeen}
 use Rattle.graph.specs.Edits.{inverse, apply, Applies, EditIn}
 use Rattle.graph.proofs.Keeps.{keeps-formed}
 use Rattle.graph.proofs.Facts.{to-facts, from-facts}
 
 module _ (b : Bounds) where
-  in-list : (v : ℕ) (h : List ℕ → List ℕ) {vs : List Vertex} → All (VertexIn b) vs → All (VertexIn b) (upd vn v (onList h) vs)
-  in-list v h a = all-upd vn (VertexIn b) v (onList h) (λ y e i. record { number = i .number; type = i .type; value = i .value }) a
+  in-list : (v : ℕ) (h : List ℕ → List ℕ) {vs : List Vertex} → All (VertexIn b) vs → All (VertexIn b) (updateBy vertexNumber v (onList h) vs)
+  in-list v h a = all-upd vertexNumber (VertexIn b) v (onList h) (λ y e i. record { number = i .number; type = i .type; value = i .value }) a
 
   pub keeps-within : (e : Edit) (g : Graph) → Applies e g → EditIn b e → Within b g → Within b (apply e g)
   keeps-within (InsertVertex n t v p) g h i w = record {
-    vertices = all-ins vn (VertexIn b) 0 p (record { number = n; type = t; value = v; incidences = [] }) i (w .vertices);
+    vertices = all-ins vertexNumber (VertexIn b) 0 p (record { number = n; type = t; value = v; incidences = [] }) i (w .vertices);
     edges = w .edges;
   }
-  keeps-within (RemoveVertex n t v p) g h i w = record { vertices = all-rem vn (VertexIn b) n (w .vertices); edges = w .edges }
+  keeps-within (RemoveVertex n t v p) g h i w = record { vertices = all-rem vertexNumber (VertexIn b) n (w .vertices); edges = w .edges }
   keeps-within (InsertEdge n a z t r p o j) g h i w = record {
     vertices = in-list z _ (in-list a _ (w .vertices));
-    edges = all-ins en (EdgeIn b) 0 p (record { number = n; alpha = a; omega = z; type = t; reading = r }) i (w .edges);
+    edges = all-ins edgeNumber (EdgeIn b) 0 p (record { number = n; alpha = a; omega = z; type = t; reading = r }) i (w .edges);
   }
   keeps-within (RemoveEdge n a z t r p o j) g h i w = record {
     vertices = in-list a _ (in-list z _ (w .vertices));
-    edges = all-rem en (EdgeIn b) n (w .edges);
+    edges = all-rem edgeNumber (EdgeIn b) n (w .edges);
   }
   keeps-within (SetVertex n t v t′ v′) g h i w = record {
-    vertices = all-upd vn (VertexIn b) n (withVertex t′ v′) (λ y e j. record { number = j .number; type = i .1 .type; value = i .1 .value }) (w .vertices);
+    vertices = all-upd vertexNumber (VertexIn b) n (withVertex t′ v′) (λ y e j. record { number = j .number; type = i .1 .type; value = i .1 .value }) (w .vertices);
     edges = w .edges;
   }
   keeps-within (SetEdge n t r t′ r′) g h i w = record {
     vertices = w .vertices;
-    edges = all-upd en (EdgeIn b) n (withEdge t′ r′) (λ y e j. record { number = j .number; type = i .1 .type; reading = i .1 .reading }) (w .edges);
+    edges = all-upd edgeNumber (EdgeIn b) n (withEdge t′ r′) (λ y e j. record { number = j .number; type = i .1 .type; reading = i .1 .reading }) (w .edges);
   }
   keeps-within (MoveVertex n old new) g h i w = record {
-    vertices = all-ins vn (VertexIn b) 0 new _ (all-find vn (VertexIn b) noVertex n (omega (arith, h .0 .there)) (w .vertices)) (all-rem vn (VertexIn b) n (w .vertices));
+    vertices = all-ins vertexNumber (VertexIn b) 0 new _ (all-find vertexNumber (VertexIn b) noVertex n (omega (arith, h .0 .there)) (w .vertices)) (all-rem vertexNumber (VertexIn b) n (w .vertices));
     edges = w .edges;
   }
   keeps-within (MoveEdge n old new) g h i w = record {
     vertices = w .vertices;
-    edges = all-ins en (EdgeIn b) 0 new _ (all-find en (EdgeIn b) noEdge n (omega (arith, h .0 .there)) (w .edges)) (all-rem en (EdgeIn b) n (w .edges));
+    edges = all-ins edgeNumber (EdgeIn b) 0 new _ (all-find edgeNumber (EdgeIn b) noEdge n (omega (arith, h .0 .there)) (w .edges)) (all-rem edgeNumber (EdgeIn b) n (w .edges));
   }
   keeps-within (MoveWord x v old u new) g h i w = record {
     vertices = in-list u _ (in-list v _ (w .vertices));
-    edges = all-upd en (EdgeIn b) _ (withEnd x u) (λ y e j. record { number = j .number; type = j .type; reading = j .reading }) (w .edges);
+    edges = all-upd edgeNumber (EdgeIn b) _ (withSeen x u) (λ y e j. record { number = j .number; type = j .type; reading = j .reading }) (w .edges);
   }
 
   pub inverse-in : (e : Edit) → EditIn b e → EditIn b (inverse e)

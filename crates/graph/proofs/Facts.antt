@@ -6,7 +6,7 @@ use mathlib.Core.List.{List}
 use native.Mathlib.Omega.{arith}
 use lib.Dec.{ltb, leb}
 use borrow.Author.Tests.{ltb-true, leb-true, lt-ltb, le-leb}
-use Rattle.lists.specs.Choice.{pick, within}
+use Rattle.lists.specs.Choice.{ifEqual, within}
 use Rattle.lists.specs.Lists.{all, All, done, more, distinct, count}
 use Rattle.lists.specs.Keyed.{countBy}
 use Rattle.lists.proofs.Bools.{and-true, and-both}
@@ -15,7 +15,7 @@ use Rattle.lists.proofs.Sums.{all-imp, all-bool, bool-all, distinct-count, coun
 use Rattle.lists.proofs.Counts.{count-same, count-by}
 use Rattle.lists.proofs.KeyedAll.{all-find, find-all}
 use Rattle.lists.proofs.KeyedLaws.{find-none}
-use Rattle.graph.specs.Graph.{Vertex, Edge, Graph, vn, en, wd, noVertex, noEdge, vertexIn, edgeIn, listIn, thisIn, outWord, inWord, hasVertex, vertexNumbers, edgeNumbers, readingKind, decimetres, isReading}
+use Rattle.graph.specs.Graph.{Vertex, Edge, Graph, vertexNumber, edgeNumber, itself, noVertex, noEdge, vertexIn, edgeIn, listIn, thisIn, outWord, inWord, hasVertex, vertexNumbers, edgeNumbers, readingKind, decimetres, isReading}
 use Rattle.graph.specs.WellFormed.{Bounds, wordsAt, sameWords, soundVertex, soundEdge, wellFormed, Ordered, WellFormed, VertexIn, EdgeIn, Within}
 use Rattle.graph.proofs.Orders.{key-find}
 use Rattle.graph.proofs.Numbers.{vertex-count, count-vertex, vertex-real, edge-real}
@@ -32,8 +32,8 @@ record VertexSound (b : Bounds) (g : Graph) (v : Vertex) : Type 0 where
 record EdgeSound (b : Bounds) (g : Graph) (e : Edge) : Type 0 where
   low : 1 ≤ e .number
   fits : EdgeIn b e
-  start : 1 ≤ countBy vn (e .alpha) (g .vseq)
-  end : 1 ≤ countBy vn (e .omega) (g .vseq)
+  start : 1 ≤ countBy vertexNumber (e .alpha) (g .vseq)
+  end : 1 ≤ countBy vertexNumber (e .omega) (g .vseq)
 
 module _ (b : Bounds) (g : Graph) where
   vertex-facts : (v : Vertex) → soundVertex b g v ≡ true → VertexSound b g v
@@ -88,8 +88,8 @@ module _ (b : Bounds) (g : Graph) where
 
 -- the test's four parts
 record Sound (b : Bounds) (g : Graph) : Type 0 where
-  vonce : (n : ℕ) → countBy vn n (g .vseq) ≤ 1
-  eonce : (n : ℕ) → countBy en n (g .eseq) ≤ 1
+  vonce : (n : ℕ) → countBy vertexNumber n (g .vseq) ≤ 1
+  eonce : (n : ℕ) → countBy edgeNumber n (g .eseq) ≤ 1
   vertices : All (VertexSound b g) (g .vseq)
   edges : All (EdgeSound b g) (g .eseq)
 
@@ -100,8 +100,8 @@ test-sound b g h =
     let c = and-true (distinct (vertexNumbers g) && distinct (edgeNumbers g)) (all (soundVertex b g) (g .vseq)) (a .0) in
     let d = and-true (distinct (vertexNumbers g)) (distinct (edgeNumbers g)) (c .0) in
     record {
-      vonce = λ n. omega (arith, distinct-count (vertexNumbers g) (d .0) n, count-by vn n (g .vseq));
-      eonce = λ n. omega (arith, distinct-count (edgeNumbers g) (d .1) n, count-by en n (g .eseq));
+      vonce = λ n. omega (arith, distinct-count (vertexNumbers g) (d .0) n, count-by vertexNumber n (g .vseq));
+      eonce = λ n. omega (arith, distinct-count (edgeNumbers g) (d .1) n, count-by edgeNumber n (g .eseq));
       vertices = all-bool (soundVertex b g) (vertex-facts b g) (g .vseq) (c .1);
       edges = all-bool (soundEdge b g) (edge-facts b g) (g .eseq) (a .1);
     }
@@ -112,8 +112,8 @@ sound-test b g h =
     and-both (distinct (vertexNumbers g) && distinct (edgeNumbers g) && all (soundVertex b g) (g .vseq)) (all (soundEdge b g) (g .eseq))
     (and-both (distinct (vertexNumbers g) && distinct (edgeNumbers g)) (all (soundVertex b g) (g .vseq))
     (and-both (distinct (vertexNumbers g)) (distinct (edgeNumbers g))
-    (count-distinct (vertexNumbers g) (λ n. omega (arith, h .vonce n, count-by vn n (g .vseq))))
-    (count-distinct (edgeNumbers g) (λ n. omega (arith, h .eonce n, count-by en n (g .eseq)))))
+    (count-distinct (vertexNumbers g) (λ n. omega (arith, h .vonce n, count-by vertexNumber n (g .vseq))))
+    (count-distinct (edgeNumbers g) (λ n. omega (arith, h .eonce n, count-by edgeNumber n (g .eseq)))))
     (bool-all (soundVertex b g) (facts-vertex b g) (h .vertices)))
     (bool-all (soundEdge b g) (facts-edge b g) (h .edges))
 
@@ -129,39 +129,39 @@ ordered key l a u n = elim (same? 0 n) [
 ]
 
 module _ (b : Bounds) (g : Graph) (s : Sound b g) where
-  sound-ends : (k : ℕ) → 1 ≤ countBy en (k / 2) (g .eseq) → 1 ≤ countBy vn (thisIn (g .eseq) k) (g .vseq)
+  sound-ends : (k : ℕ) → 1 ≤ countBy edgeNumber (k / 2) (g .eseq) → 1 ≤ countBy vertexNumber (thisIn (g .eseq) k) (g .vseq)
   sound-ends k h =
-      let e = all-find en (EdgeSound b g) noEdge (k / 2) h (s .edges) in
+      let e = all-find edgeNumber (EdgeSound b g) noEdge (k / 2) h (s .edges) in
       elim (same? (k % 2) 0) [
         | same i j ↦ rw (pick-yes (k % 2) 0 (edgeIn (g .eseq) (k / 2) .alpha) (edgeIn (g .eseq) (k / 2) .omega) i) (e .start)
         | differ i j ↦ rw (pick-no (k % 2) 0 (edgeIn (g .eseq) (k / 2) .alpha) (edgeIn (g .eseq) (k / 2) .omega) i) (e .end)
       ]
 
   -- no edge is at a vertex that is not there
-  sound-none : (u k : ℕ) → countBy vn u (g .vseq) ≡ 0 → pick (thisIn (g .eseq) k) u (countBy en (k / 2) (g .eseq)) 0 ≡ 0
+  sound-none : (u k : ℕ) → countBy vertexNumber u (g .vseq) ≡ 0 → ifEqual (thisIn (g .eseq) k) u (countBy edgeNumber (k / 2) (g .eseq)) 0 ≡ 0
   sound-none u k e = elim (same? (thisIn (g .eseq) k) u) [
-    | same i j ↦ pick-yes (thisIn (g .eseq) k) u _ _ i ∙ elim (same? (countBy en (k / 2) (g .eseq)) 0) [
+    | same i j ↦ pick-yes (thisIn (g .eseq) k) u _ _ i ∙ elim (same? (countBy edgeNumber (k / 2) (g .eseq)) 0) [
       | same s t ↦ s
-      | differ s t ↦ absurd (omega (arith, sound-ends k (omega arith), ap (λ (m : ℕ). countBy vn m (g .vseq)) i))
+      | differ s t ↦ absurd (omega (arith, sound-ends k (omega arith), ap (λ (m : ℕ). countBy vertexNumber m (g .vseq)) i))
     ]
     | differ i j ↦ pick-no (thisIn (g .eseq) k) u _ _ i
   ]
 
-  sound-lists : (u k : ℕ) → countBy wd k (listIn (g .vseq) u) ≡ pick (thisIn (g .eseq) k) u (countBy en (k / 2) (g .eseq)) 0
-  sound-lists u k = elim (same? (countBy vn u (g .vseq)) 0) [
-    | same e f ↦ ap (λ (v : Vertex). countBy wd k (v .incidences)) (find-none vn noVertex u (g .vseq) e) ∙ sym (sound-none u k e)
+  sound-lists : (u k : ℕ) → countBy itself k (listIn (g .vseq) u) ≡ ifEqual (thisIn (g .eseq) k) u (countBy edgeNumber (k / 2) (g .eseq)) 0
+  sound-lists u k = elim (same? (countBy vertexNumber u (g .vseq)) 0) [
+    | same e f ↦ ap (λ (v : Vertex). countBy itself k (v .incidences)) (find-none vertexNumber noVertex u (g .vseq) e) ∙ sym (sound-none u k e)
     | differ e f ↦
-        let i : 1 ≤ countBy vn u (g .vseq) = omega arith in
-        sym (count-same k (listIn (g .vseq) u)) ∙ all-find vn (VertexSound b g) noVertex u i (s .vertices) .words k
-        ∙ ap (λ (m : ℕ). count k (wordsAt (g .eseq) m)) (key-find vn noVertex u (g .vseq) i) ∙ words-this k u (g .eseq) (s .eonce (k / 2))
+        let i : 1 ≤ countBy vertexNumber u (g .vseq) = omega arith in
+        sym (count-same k (listIn (g .vseq) u)) ∙ all-find vertexNumber (VertexSound b g) noVertex u i (s .vertices) .words k
+        ∙ ap (λ (m : ℕ). count k (wordsAt (g .eseq) m)) (key-find vertexNumber noVertex u (g .vseq) i) ∙ words-this k u (g .eseq) (s .eonce (k / 2))
   ]
 
 pub to-facts : (b : Bounds) (g : Graph) → wellFormed b g ≡ true → WellFormed g × Within b g
 to-facts b g h =
     let s = test-sound b g h in (
       record {
-        vorder = ordered vn (g .vseq) (all-imp (λ v i. i .low) (s .vertices)) (s .vonce);
-        eorder = ordered en (g .eseq) (all-imp (λ e i. i .low) (s .edges)) (s .eonce);
+        vorder = ordered vertexNumber (g .vseq) (all-imp (λ v i. i .low) (s .vertices)) (s .vonce);
+        eorder = ordered edgeNumber (g .eseq) (all-imp (λ e i. i .low) (s .edges)) (s .eonce);
         lists = sound-lists b g s;
         ends = λ k i. omega (arith, sound-ends b g s k (omega arith), s .vonce (thisIn (g .eseq) k));
       },
@@ -169,23 +169,23 @@ to-facts b g h =
     )
 
 module _ (b : Bounds) (g : Graph) (w : WellFormed g) (i : Within b g) where
-  vertex-sound : (n : ℕ) → 1 ≤ countBy vn n (g .vseq) → VertexSound b g (vertexIn (g .vseq) n)
+  vertex-sound : (n : ℕ) → 1 ≤ countBy vertexNumber n (g .vseq) → VertexSound b g (vertexIn (g .vseq) n)
   vertex-sound n h =
-      let e = key-find vn noVertex n (g .vseq) h in
+      let e = key-find vertexNumber noVertex n (g .vseq) h in
       record {
         low = omega (arith, e, vertex-real g n w (omega (arith, w .vorder n)));
-        fits = all-find vn (VertexIn b) noVertex n h (i .vertices);
+        fits = all-find vertexNumber (VertexIn b) noVertex n h (i .vertices);
         words = λ k.
             count-same k (listIn (g .vseq) n) ∙ w .lists n k ∙ sym (words-this k n (g .eseq) (omega (arith, w .eorder (k / 2))))
             ∙ ap (λ (m : ℕ). count k (wordsAt (g .eseq) m)) (sym e);
       }
 
-  edge-sound : (n : ℕ) → 1 ≤ countBy en n (g .eseq) → EdgeSound b g (edgeIn (g .eseq) n)
+  edge-sound : (n : ℕ) → 1 ≤ countBy edgeNumber n (g .eseq) → EdgeSound b g (edgeIn (g .eseq) n)
   edge-sound n h =
-      let c : countBy en n (g .eseq) ≡ 1 = omega (arith, w .eorder n) in
+      let c : countBy edgeNumber n (g .eseq) ≡ 1 = omega (arith, w .eorder n) in
       record {
-        low = omega (arith, key-find en noEdge n (g .eseq) h, edge-real g n w c);
-        fits = all-find en (EdgeIn b) noEdge n h (i .edges);
+        low = omega (arith, key-find edgeNumber noEdge n (g .eseq) h, edge-real g n w c);
+        fits = all-find edgeNumber (EdgeIn b) noEdge n h (i .edges);
         start = omega (arith, rw this-out at (w .ends (outWord n) (rw out-half c)));
         end = omega (arith, rw this-into at (w .ends (inWord n) (rw into-half c)));
       }
@@ -194,6 +194,6 @@ pub from-facts : (b : Bounds) (g : Graph) → WellFormed g → Within b g → we
 from-facts b g w i = sound-test b g (record {
   vonce = λ n. omega (arith, w .vorder n);
   eonce = λ n. omega (arith, w .eorder n);
-  vertices = find-all vn (VertexSound b g) noVertex (g .vseq) (λ n. omega (arith, w .vorder n)) (vertex-sound b g w i);
-  edges = find-all en (EdgeSound b g) noEdge (g .eseq) (λ n. omega (arith, w .eorder n)) (edge-sound b g w i);
+  vertices = find-all vertexNumber (VertexSound b g) noVertex (g .vseq) (λ n. omega (arith, w .vorder n)) (vertex-sound b g w i);
+  edges = find-all edgeNumber (EdgeSound b g) noEdge (g .eseq) (λ n. omega (arith, w .eorder n)) (edge-sound b g w i);
 })

@@ -22,7 +22,7 @@ use Rattle.graph.specs.declared.Change.the-variants.{
   WordBefore,
   WordAfter,
 }
-use Rattle.graph.specs.Graph.{Graph, vn, en, noVertex, noEdge, vertex, edge}
+use Rattle.graph.specs.Graph.{Graph, vertexNumber, edgeNumber, noVertex, noEdge, vertex, edge}
 use Rattle.graph.specs.WellFormed.{Bounds, VertexFits, EdgeFits, VertexIn, EdgeIn, Within}
 use Rattle.graph.specs.Changes.{VertexThere, EdgeThere, Allowed}
 use Rattle.graph.specs.Edits.{EditIn}
@@ -33,11 +33,11 @@ use Rattle.graph.proofs.Readings.{reading-sound}
 module _ (b : Bounds) (g : Graph) (w : Within b g) where
   pub vertex-fits : (n : ℕ) → VertexThere g n → VertexFits b n (vertex g n .type) (vertex g n .value)
   vertex-fits n h = subst (λ (m : ℕ). VertexFits b m (vertex g n .type) (vertex g n .value)) (vertex-number g n h)
-      (all-find vn (VertexIn b) noVertex n (omega arith) (w .vertices))
+      (all-find vertexNumber (VertexIn b) noVertex n (omega arith) (w .vertices))
 
   pub edge-fits : (n : ℕ) → EdgeThere g n → EdgeFits b n (edge g n .type) (edge g n .reading)
   edge-fits n h = subst (λ (m : ℕ). EdgeFits b m (edge g n .type) (edge g n .reading)) (edge-number g n h)
-      (all-find en (EdgeIn b) noEdge n (omega arith) (w .edges))
+      (all-find edgeNumber (EdgeIn b) noEdge n (omega arith) (w .edges))
 
   pub removal-in : (n : ℕ) → EdgeThere g n → EditIn b (removal n g)
   unfolding removal

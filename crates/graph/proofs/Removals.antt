@@ -2,9 +2,9 @@
 use Prim.Native.Nat.{ℕ, _+_, _≤_}
 use mathlib.Core.Path.{_≡_, refl}
 use mathlib.Core.List.{[]}
-use Rattle.lists.specs.Choice.{is}
+use Rattle.lists.specs.Choice.{indicator}
 use Rattle.lists.specs.Keyed.{countBy}
-use Rattle.graph.specs.Graph.{Graph, wd, vertex, edge, listOf, edgeOf}
+use Rattle.graph.specs.Graph.{Graph, itself, vertex, edge, listOf, edgeOf}
 use Rattle.graph.specs.Changes.{deleteEdge, VertexThere, EdgeThere}
 use Rattle.graph.specs.Edits.{apply, Applies}
 use Rattle.graph.specs.Plans.{removal, vertexRemoval, wordMove, listWithout}
@@ -31,6 +31,6 @@ module _ (g : Graph) where
     λ i. record { number = vertex-number g a h i; type = vertex g a .type; value = vertex g a .value; incidences = e i },
   )
 
-  pub word-move-applies : (x u p : ℕ) → EdgeThere g (edgeOf x) → VertexThere g u → 1 ≤ is 0 p + countBy wd p (listWithout x u g) → Applies (wordMove x u p g) g
+  pub word-move-applies : (x u p : ℕ) → EdgeThere g (edgeOf x) → VertexThere g u → 1 ≤ indicator 0 p + countBy itself p (listWithout x u g) → Applies (wordMove x u p g) g
   unfolding wordMove
   word-move-applies x u p h i j = (h, refl, i, refl, j)

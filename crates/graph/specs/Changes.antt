@@ -5,8 +5,8 @@ use mathlib.Core.Logic.{_≢_}
 use mathlib.Core.Bool.{true}
 use mathlib.Core.List.{List, [], _∷_, _++_, map}
 use lib.ListN.{length}
-use Rattle.lists.specs.Lists.{firsts}
-use Rattle.lists.specs.Keyed.{countBy, rem, upd, putBefore, putAfter}
+use Rattle.lists.specs.Lists.{dedup}
+use Rattle.lists.specs.Keyed.{countBy, removeBy, updateBy, putBefore, putAfter}
 use Rattle.graph.specs.declared.Reading.{Reading}
 use Rattle.graph.specs.declared.Reading.the-variants.{Untested}
 use Rattle.graph.specs.declared.Change.{Change}
@@ -32,9 +32,9 @@ use Rattle.graph.specs.Graph.{
   Vertex,
   Edge,
   Graph,
-  vn,
-  en,
-  wd,
+  vertexNumber,
+  edgeNumber,
+  itself,
   noVertex,
   noEdge,
   edge,
@@ -61,8 +61,8 @@ abbrev pub withEdge : ℕ → Reading → Edge → Edge
 withEdge t r e = record { number = e .number; alpha = e .alpha; omega = e .omega; type = t; reading = r }
 
 -- the end that the oriented word w is seen from becomes u
-abbrev pub withEnd : ℕ → ℕ → Edge → Edge
-withEnd w u e = record {
+abbrev pub withSeen : ℕ → ℕ → Edge → Edge
+withSeen w u e = record {
   number = e .number;
   alpha = bySide w u (e .alpha);
   omega = bySide w
@@ -73,10 +73,10 @@ withEnd w u e = record {
 
 -- word w last in the list of v; out of it
 abbrev pub append : List Vertex → ℕ → ℕ → List Vertex
-append vs v w = upd vn v (onList (λ ws. ws ++ (w ∷ []))) vs
+append vs v w = updateBy vertexNumber v (onList (λ ws. ws ++ (w ∷ []))) vs
 
 abbrev pub detach : List Vertex → ℕ → ℕ → List Vertex
-detach vs v w = upd vn v (onList (rem wd w)) vs
+detach vs v w = updateBy vertexNumber v (onList (removeBy itself w)) vs
 
 abbrev pub onVseq : (List Vertex → List Vertex) → Graph → Graph
 onVseq f g = record { vseq = f (g .vseq); eseq = g .eseq }
@@ -94,7 +94,7 @@ createVertex n t x = onVseq (λ vs. vs ++ (record { number = n; type = t; value 
 unfoldable pub deleteEdge : ℕ → Graph → Graph
 deleteEdge e g = record {
   vseq = detach (detach (g .vseq) (edge g e .omega) (inWord e)) (edge g e .alpha) (outWord e);
-  eseq = rem en e (g .eseq);
+  eseq = removeBy edgeNumber e (g .eseq);
 }
 
 unfoldable pub deleteEdges : List ℕ → Graph → Graph
@@ -104,12 +104,12 @@ deleteEdges (e ∷ es) g = deleteEdges es (deleteEdge e g)
 
 -- the distinct edges at vertex a, in the order of its list
 abbrev pub edgesAt : Graph → ℕ → List ℕ
-edgesAt g a = firsts (map edgeOf (listOf g a))
+edgesAt g a = dedup (map edgeOf (listOf g a))
 
 -- kind 2: REFERENCE 3.2
 unfoldable pub deleteVertex : ℕ → Graph → Graph
 unfolding deleteEdges
-deleteVertex a g = onVseq (rem vn a) (deleteEdges (edgesAt g a) g)
+deleteVertex a g = onVseq (removeBy vertexNumber a) (deleteEdges (edgesAt g a) g)
 
 -- kind 3: REFERENCE 3.3. Of a loop, the in word comes after the out word
 unfoldable pub createEdge : ℕ → ℕ → ℕ → ℕ → Graph → Graph
@@ -120,45 +120,46 @@ createEdge n a o t g = record {
 
 -- kinds 5 to 8: REFERENCE 3.5, 3.6 and 3.7
 unfoldable pub retypeVertex : ℕ → ℕ → Graph → Graph
-retypeVertex a t = onVseq (upd vn a (λ v. withVertex t (v .value) v))
+retypeVertex a t = onVseq (updateBy vertexNumber a (λ v. withVertex t (v .value) v))
 
 unfoldable pub retypeEdge : ℕ → ℕ → Graph → Graph
-retypeEdge a t = onEseq (upd en a (λ e. withEdge t (e .reading) e))
+retypeEdge a t = onEseq (updateBy edgeNumber a (λ e. withEdge t (e .reading) e))
 
 unfoldable pub setValue : ℕ → ℕ → Graph → Graph
-setValue a x = onVseq (upd vn a (λ v. withVertex (v .type) x v))
+setValue a x = onVseq (updateBy vertexNumber a (λ v. withVertex (v .type) x v))
 
 unfoldable pub setReading : ℕ → ℕ → ℕ → Graph → Graph
-setReading a k d = onEseq (upd en a (λ e. withEdge (e .type) (readingOf k d) e))
+setReading a k d = onEseq (updateBy edgeNumber a (λ e. withEdge (e .type) (readingOf k d) e))
 
 -- kinds 9 and 10: REFERENCE 3.8. A word that stays at its vertex moves to the end of the list
 unfoldable pub reattach : ℕ → ℕ → Graph → Graph
 reattach w u g = record {
   vseq = append (detach (g .vseq) (this g w) w) u w;
-  eseq = upd en (edgeOf w) (withEnd w u) (g .eseq);
+  eseq = updateBy edgeNumber (edgeOf w) (withSeen w u) (g .eseq);
 }
 
 -- kinds 11 to 16: REFERENCE 3.9
 unfoldable pub vertexBefore : ℕ → ℕ → Graph → Graph
-vertexBefore a b = onVseq (putBefore vn noVertex a b)
+vertexBefore a b = onVseq (putBefore vertexNumber noVertex a b)
 
 unfoldable pub vertexAfter : ℕ → ℕ → Graph → Graph
-vertexAfter a b = onVseq (putAfter vn noVertex a b)
+vertexAfter a b = onVseq (putAfter vertexNumber noVertex a b)
 
 unfoldable pub edgeBefore : ℕ → ℕ → Graph → Graph
-edgeBefore a b = onEseq (putBefore en noEdge a b)
+edgeBefore a b = onEseq (putBefore edgeNumber noEdge a b)
 
 unfoldable pub edgeAfter : ℕ → ℕ → Graph → Graph
-edgeAfter a b = onEseq (putAfter en noEdge a b)
+edgeAfter a b = onEseq (putAfter edgeNumber noEdge a b)
 
 unfoldable pub wordBefore : ℕ → ℕ → Graph → Graph
-wordBefore a b g = onVseq (upd vn (this g a) (onList (putBefore wd 0 a b))) g
+wordBefore a b g = onVseq (updateBy vertexNumber (this g a) (onList (putBefore itself 0 a b))) g
 
 unfoldable pub wordAfter : ℕ → ℕ → Graph → Graph
-wordAfter a b g = onVseq (upd vn (this g a) (onList (putAfter wd 0 a b))) g
+wordAfter a b g = onVseq (updateBy vertexNumber (this g a) (onList (putAfter itself 0 a b))) g
 
 unfoldable pub changed : Change → Graph → Graph
-unfolding createVertex deleteVertex createEdge deleteEdge retypeVertex retypeEdge setValue setReading reattach vertexBefore vertexAfter edgeBefore edgeAfter wordBefore wordAfter
+unfolding createVertex deleteVertex createEdge deleteEdge retypeVertex retypeEdge setValue setReading reattach
+    vertexBefore vertexAfter edgeBefore edgeAfter wordBefore wordAfter
 changed (CreateVertex n t x) g = createVertex n t x g
 changed (DeleteVertex a) g = deleteVertex a g
 changed (CreateEdge n a o t) g = createEdge n a o t g
@@ -198,17 +199,17 @@ cost (WordAfter a b) g = 1
 -- ---- what a change asks of the graph: codes 2 to 9 do not apply, and a value is a word
 
 abbrev pub VertexThere : Graph → ℕ → Type 0
-VertexThere g n = countBy vn n (g .vseq) ≡ 1
+VertexThere g n = countBy vertexNumber n (g .vseq) ≡ 1
 
 abbrev pub EdgeThere : Graph → ℕ → Type 0
-EdgeThere g n = countBy en n (g .eseq) ≡ 1
+EdgeThere g n = countBy edgeNumber n (g .eseq) ≡ 1
 
 abbrev pub Allowed : Bounds → Graph → Change → Type 0
-Allowed b g (CreateVertex n t x) = (1 ≤ n) × (n ≤ b .vertices) × (countBy vn n (g .vseq) ≡ 0) × (t < b .types)
+Allowed b g (CreateVertex n t x) = (1 ≤ n) × (n ≤ b .vertices) × (countBy vertexNumber n (g .vseq) ≡ 0) × (t < b .types)
     × (x < 2 ^ 32)
 Allowed b g (DeleteVertex a) = VertexThere g a
 Allowed b g (CreateEdge n a o t) =
-    (1 ≤ n) × (n ≤ b .edges) × (countBy en n (g .eseq) ≡ 0) × VertexThere g a × VertexThere g o × (t < b .types)
+    (1 ≤ n) × (n ≤ b .edges) × (countBy edgeNumber n (g .eseq) ≡ 0) × VertexThere g a × VertexThere g o × (t < b .types)
 Allowed b g (DeleteEdge a) = EdgeThere g a
 Allowed b g (RetypeVertex a t) = VertexThere g a × (t < b .types)
 Allowed b g (RetypeEdge a t) = EdgeThere g a × (t < b .types)

@@ -2,8 +2,8 @@
 use mathlib.Core.Path.{_≡_}
 use mathlib.Core.List.{List, []}
 use Prim.Native.Nat.{ℕ, _+_, _≤_}
-use Rattle.lists.specs.Choice.{is}
-use Rattle.lists.specs.Keyed.{countBy, ins, rem, prev, upd}
+use Rattle.lists.specs.Choice.{indicator}
+use Rattle.lists.specs.Keyed.{countBy, insertAfterBy, removeBy, prevBy, updateBy}
 use Rattle.graph.specs.declared.Edit.{Edit}
 use Rattle.graph.specs.declared.Edit.the-variants.{
   InsertVertex,
@@ -19,9 +19,9 @@ use Rattle.graph.specs.declared.Edit.the-variants.{
 use Rattle.graph.specs.Graph.{
   Vertex,
   Graph,
-  vn,
-  en,
-  wd,
+  vertexNumber,
+  edgeNumber,
+  itself,
   vertexIn,
   edgeIn,
   listIn,
@@ -31,7 +31,7 @@ use Rattle.graph.specs.Graph.{
   edgeOf,
 }
 use Rattle.graph.specs.WellFormed.{Bounds, VertexFits, EdgeFits}
-use Rattle.graph.specs.Changes.{withVertex, onList, withEdge, withEnd, detach}
+use Rattle.graph.specs.Changes.{withVertex, onList, withEdge, withSeen, detach}
 
 abbrev pub inverse : Edit → Edit
 inverse (InsertVertex n t v p) = RemoveVertex n t v p
@@ -46,65 +46,83 @@ inverse (MoveWord w v old u new) = MoveWord w u new v old
 
 -- word w into the list of v, directly after p
 abbrev pub attach : List Vertex → ℕ → ℕ → ℕ → List Vertex
-attach vs v p w = upd vn v (onList (ins wd 0 p w)) vs
+attach vs v p w = updateBy vertexNumber v (onList (insertAfterBy itself 0 p w)) vs
 
 -- the out word enters first and leaves last, so the words of a loop come back in their order
 abbrev pub apply : Edit → Graph → Graph
 apply (InsertVertex n t v p) g = record {
-  vseq = ins vn 0 p
+  vseq = insertAfterBy vertexNumber 0 p
       (record { number = n; type = t; value = v; incidences = [] }) g.vseq;
   eseq = g.eseq;
 }
-apply (RemoveVertex n t v p) g = record { vseq = rem vn n g.vseq; eseq = g.eseq }
+apply (RemoveVertex n t v p) g = record { vseq = removeBy vertexNumber n g.vseq; eseq = g.eseq }
 apply (InsertEdge n a z t r p o i) g = record {
   vseq = attach (attach g.vseq a o (outWord n)) z i (inWord n);
-  eseq = ins en 0 p (record { number = n; alpha = a; omega = z; type = t; reading = r }) g.eseq;
+  eseq = insertAfterBy edgeNumber 0 p (record { number = n; alpha = a; omega = z; type = t; reading = r }) g.eseq;
 }
 apply (RemoveEdge n a z t r p o i) g = record {
   vseq = detach (detach g.vseq z (inWord n)) a (outWord n);
-  eseq = rem en n g.eseq;
+  eseq = removeBy edgeNumber n g.eseq;
 }
-apply (SetVertex n t v t′ v′) g = record { vseq = upd vn n (withVertex t′ v′) g.vseq; eseq = g.eseq }
-apply (SetEdge n t r t′ r′) g = record { vseq = g.vseq; eseq = upd en n (withEdge t′ r′) g.eseq }
-apply (MoveVertex n old new) g = record { vseq = ins vn 0 new (vertexIn g.vseq n) (rem vn n g.vseq); eseq = g.eseq }
-apply (MoveEdge n old new) g = record { vseq = g.vseq; eseq = ins en 0 new (edgeIn g.eseq n) (rem en n g.eseq) }
+apply (SetVertex n t v t′ v′) g = record { vseq = updateBy vertexNumber n (withVertex t′ v′) g.vseq; eseq = g.eseq }
+apply (SetEdge n t r t′ r′) g = record { vseq = g.vseq; eseq = updateBy edgeNumber n (withEdge t′ r′) g.eseq }
+apply (MoveVertex n old new) g = record {
+  vseq = insertAfterBy vertexNumber 0 new (vertexIn g.vseq n)
+      (removeBy vertexNumber n g.vseq);
+  eseq = g.eseq;
+}
+apply (MoveEdge n old new) g = record {
+  vseq = g.vseq;
+  eseq = insertAfterBy edgeNumber 0 new (edgeIn g.eseq n)
+      (removeBy edgeNumber n g.eseq);
+}
 apply (MoveWord w v old u new) g = record {
   vseq = attach (detach g.vseq v w) u new w;
-  eseq = upd en (edgeOf w) (withEnd w u) g.eseq;
+  eseq = updateBy edgeNumber (edgeOf w) (withSeen w u) g.eseq;
 }
 
 -- n stands once, directly after p
 pub record Placed {A : Type 0} (key : A → ℕ) (l : List A) (n p : ℕ) : Type 0 where
   pub there : countBy key n l ≡ 1
-  pub before : prev key 0 n l ≡ p
+  pub before : prevBy key 0 n l ≡ p
 
 -- n can be put in directly after p
-pub record Fits {A : Type 0} (key : A → ℕ) (l : List A) (n p : ℕ) : Type 0 where
+pub record WordsFit {A : Type 0} (key : A → ℕ) (l : List A) (n p : ℕ) : Type 0 where
   pub real : 1 ≤ n
   pub fresh : countBy key n l ≡ 0
-  pub after : 1 ≤ is 0 p + countBy key p l
+  pub after : 1 ≤ indicator 0 p + countBy key p l
 
 -- the edit's old values are those of the graph, and its new places are there
 abbrev pub Applies : Edit → Graph → Type 0
-Applies (InsertVertex n t v p) g = Fits vn g.vseq n p
-Applies (RemoveVertex n t v p) g = Placed vn g.vseq n p
+Applies (InsertVertex n t v p) g = WordsFit vertexNumber g.vseq n p
+Applies (RemoveVertex n t v p) g = Placed vertexNumber g.vseq n p
     × (vertexIn g.vseq n ≡ record { number = n; type = t; value = v; incidences = [] })
 Applies (InsertEdge n a z t r p o i) g =
-    Fits en g.eseq n p × (countBy vn a g.vseq ≡ 1) × (countBy vn z g.vseq ≡ 1)
-    × (1 ≤ is 0 o + countBy wd o (listIn g.vseq a))
-    × (1 ≤ is 0 i + countBy wd i (listIn (attach g.vseq a o (outWord n)) z))
+    WordsFit edgeNumber g.eseq n p × (countBy vertexNumber a g.vseq ≡ 1) × (countBy vertexNumber z g.vseq ≡ 1)
+    × (1 ≤ indicator 0 o + countBy itself o (listIn g.vseq a))
+    × (1 ≤ indicator 0 i + countBy itself i (listIn (attach g.vseq a o (outWord n)) z))
 Applies (RemoveEdge n a z t r p o i) g =
-    Placed en g.eseq n p × (edgeIn g.eseq n ≡ record { number = n; alpha = a; omega = z; type = t; reading = r })
-    × (prev wd 0 (inWord n) (listIn g.vseq z) ≡ i) × (prev wd 0 (outWord n) (listIn (detach g.vseq z (inWord n)) a) ≡ o)
-Applies (SetVertex n t v t′ v′) g = (countBy vn n g.vseq ≡ 1) × (vertexIn g.vseq n .type ≡ t)
+    Placed edgeNumber g.eseq n p × (edgeIn g.eseq n ≡ record {
+      number = n;
+      alpha = a;
+      omega = z;
+      type = t;
+      reading = r;
+    })
+    × (prevBy itself 0 (inWord n) (listIn g.vseq z) ≡ i)
+    × (prevBy itself 0 (outWord n) (listIn (detach g.vseq z (inWord n)) a) ≡ o)
+Applies (SetVertex n t v t′ v′) g = (countBy vertexNumber n g.vseq ≡ 1) × (vertexIn g.vseq n .type ≡ t)
     × (vertexIn g.vseq n .value ≡ v)
-Applies (SetEdge n t r t′ r′) g = (countBy en n g.eseq ≡ 1) × (edgeIn g.eseq n .type ≡ t)
+Applies (SetEdge n t r t′ r′) g = (countBy edgeNumber n g.eseq ≡ 1) × (edgeIn g.eseq n .type ≡ t)
     × (edgeIn g.eseq n .reading ≡ r)
-Applies (MoveVertex n old new) g = Placed vn g.vseq n old × (1 ≤ is 0 new + countBy vn new (rem vn n g.vseq))
-Applies (MoveEdge n old new) g = Placed en g.eseq n old × (1 ≤ is 0 new + countBy en new (rem en n g.eseq))
+Applies (MoveVertex n old new) g = Placed vertexNumber g.vseq n old
+    × (1 ≤ indicator 0 new + countBy vertexNumber new (removeBy vertexNumber n g.vseq))
+Applies (MoveEdge n old new) g = Placed edgeNumber g.eseq n old
+    × (1 ≤ indicator 0 new + countBy edgeNumber new (removeBy edgeNumber n g.eseq))
 Applies (MoveWord w v old u new) g =
-    (countBy en (edgeOf w) g.eseq ≡ 1) × (thisIn g.eseq w ≡ v) × (countBy vn u g.vseq ≡ 1)
-    × (prev wd 0 w (listIn g.vseq v) ≡ old) × (1 ≤ is 0 new + countBy wd new (listIn (detach g.vseq v w) u))
+    (countBy edgeNumber (edgeOf w) g.eseq ≡ 1) × (thisIn g.eseq w ≡ v) × (countBy vertexNumber u g.vseq ≡ 1)
+    × (prevBy itself 0 w (listIn g.vseq v) ≡ old)
+    × (1 ≤ indicator 0 new + countBy itself new (listIn (detach g.vseq v w) u))
 
 -- ---- an edit's numbers, types, values and readings are within the bounds, the old ones too
 

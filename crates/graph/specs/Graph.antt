@@ -3,9 +3,9 @@ use Prim.Native.Nat.{ℕ, _+_, _*_, _/_, _%_}
 use mathlib.Core.Bool.{Bool, _&&_, _||_}
 use mathlib.Core.List.{List, [], map}
 use lib.Dec.{leb}
-use Rattle.lists.specs.Choice.{_⇒_else_, _==_, pick}
+use Rattle.lists.specs.Choice.{_⇒_else_, _==_, ifEqual}
 use Rattle.lists.specs.Lists.{any}
-use Rattle.lists.specs.Keyed.{find}
+use Rattle.lists.specs.Keyed.{findBy}
 use Rattle.graph.specs.declared.Reading.{Reading}
 use Rattle.graph.specs.declared.Reading.the-variants.{Untested, Silent, Heard}
 
@@ -56,14 +56,14 @@ readingOf k d = (k == 0) ⇒ Untested else (k == 1) ⇒ Silent else Heard d
 -- ---- numbers
 
 -- the keys of the three kinds of lists
-abbrev pub vn : Vertex → ℕ
-vn v = v .number
+abbrev pub vertexNumber : Vertex → ℕ
+vertexNumber v = v .number
 
-abbrev pub en : Edge → ℕ
-en e = e .number
+abbrev pub edgeNumber : Edge → ℕ
+edgeNumber e = e .number
 
-abbrev pub wd : ℕ → ℕ
-wd w = w
+abbrev pub itself : ℕ → ℕ
+itself w = w
 
 abbrev pub noVertex : Vertex
 noVertex = record { number = 0; type = 0; value = 0; incidences = [] }
@@ -73,10 +73,10 @@ noEdge = record { number = 0; alpha = 0; omega = 0; type = 0; reading = Untested
 
 -- vertex n, edge n of a list; the empty ones above where there is none
 abbrev pub vertexIn : List Vertex → ℕ → Vertex
-vertexIn vs n = find vn noVertex n vs
+vertexIn vs n = findBy vertexNumber noVertex n vs
 
 abbrev pub edgeIn : List Edge → ℕ → Edge
-edgeIn es n = find en noEdge n es
+edgeIn es n = findBy edgeNumber noEdge n es
 
 abbrev pub vertex : Graph → ℕ → Vertex
 vertex g n = vertexIn (g .vseq) n
@@ -97,10 +97,10 @@ abbrev pub hasEdge : Graph → ℕ → Bool
 hasEdge g n = any (isEdge n) (g .eseq)
 
 abbrev pub vertexNumbers : Graph → List ℕ
-vertexNumbers g = map vn (g .vseq)
+vertexNumbers g = map vertexNumber (g .vseq)
 
 abbrev pub edgeNumbers : Graph → List ℕ
-edgeNumbers g = map en (g .eseq)
+edgeNumbers g = map edgeNumber (g .eseq)
 
 -- ---- oriented edges
 
@@ -120,7 +120,7 @@ isOut w = w % 2 == 0
 
 -- the first for an out word, the second for an in word
 abbrev pub bySide {ℓ} : {A : Type ℓ} → ℕ → A → A → A
-bySide w x y = pick (w % 2) 0 x y
+bySide w x y = ifEqual (w % 2) 0 x y
 
 -- the end that sees the word, and the one across: REFERENCE 1.5
 abbrev pub thisIn : List Edge → ℕ → ℕ

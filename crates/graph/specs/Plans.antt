@@ -1,7 +1,7 @@
 -- Which edits each change is, read off the graph.
 use mathlib.Core.List.{List, [], _∷_, _++_}
 use Prim.Native.Nat.{ℕ}
-use Rattle.lists.specs.Keyed.{rem, prev, lastBy}
+use Rattle.lists.specs.Keyed.{removeBy, prevBy, lastBy}
 use Rattle.graph.specs.declared.Reading.the-variants.{Untested}
 use Rattle.graph.specs.declared.Edit.{Edit}
 use Rattle.graph.specs.declared.Edit.the-variants.{
@@ -34,7 +34,8 @@ use Rattle.graph.specs.declared.Change.the-variants.{
   WordBefore,
   WordAfter,
 }
-use Rattle.graph.specs.Graph.{Graph, vn, en, wd, vertex, edge, listIn, listOf, this, outWord, inWord, readingOf}
+use Rattle.graph.specs.Graph.{Graph, vertexNumber, edgeNumber, itself, vertex, edge, listIn, listOf, this}
+use Rattle.graph.specs.Graph.{outWord, inWord, readingOf}
 use Rattle.graph.specs.Changes.{append, detach, edgesAt}
 use Rattle.graph.specs.Edits.{apply, Applies}
 
@@ -42,33 +43,33 @@ use Rattle.graph.specs.Edits.{apply, Applies}
 unfoldable pub removal : ℕ → Graph → Edit
 removal n g =
     let e = edge g n in
-    RemoveEdge n (e .alpha) (e .omega) (e .type) (e .reading) (prev en 0 n (g .eseq))
-    (prev wd 0 (outWord n) (listIn (detach (g .vseq) (e .omega) (inWord n)) (e .alpha)))
-    (prev wd 0 (inWord n) (listOf g (e .omega)))
+    RemoveEdge n (e .alpha) (e .omega) (e .type) (e .reading) (prevBy edgeNumber 0 n (g .eseq))
+    (prevBy itself 0 (outWord n) (listIn (detach (g .vseq) (e .omega) (inWord n)) (e .alpha)))
+    (prevBy itself 0 (inWord n) (listOf g (e .omega)))
 
 -- the edit that takes vertex a out, once no edge is at it
 unfoldable pub vertexRemoval : ℕ → Graph → Edit
-vertexRemoval a g = let v = vertex g a in RemoveVertex a (v .type) (v .value) (prev vn 0 a (g .vseq))
+vertexRemoval a g = let v = vertex g a in RemoveVertex a (v .type) (v .value) (prevBy vertexNumber 0 a (g .vseq))
 
 -- word w to the vertex u, directly after the word p
 unfoldable pub wordMove : ℕ → ℕ → ℕ → Graph → Edit
-wordMove w u p g = MoveWord w (this g w) (prev wd 0 w (listOf g (this g w))) u p
+wordMove w u p g = MoveWord w (this g w) (prevBy itself 0 w (listOf g (this g w))) u p
 
 -- the list of u once word w has left its own
 abbrev pub listWithout : ℕ → ℕ → Graph → List ℕ
 listWithout w u g = listIn (detach (g .vseq) (this g w) w) u
 
 abbrev pub moveLast : ℕ → ℕ → Graph → Edit
-moveLast w u g = wordMove w u (lastBy wd 0 (listWithout w u g)) g
+moveLast w u g = wordMove w u (lastBy itself 0 (listWithout w u g)) g
 
 -- the edit of a change other than kind 2, and the last edit of that
 unfoldable pub plan : Change → Graph → Edit
 unfolding removal vertexRemoval wordMove
-plan (CreateVertex n t x) g = InsertVertex n t x (lastBy vn 0 (g .vseq))
+plan (CreateVertex n t x) g = InsertVertex n t x (lastBy vertexNumber 0 (g .vseq))
 plan (DeleteVertex a) g = vertexRemoval a g
 plan (CreateEdge n a o t) g =
-    InsertEdge n a o t Untested (lastBy en 0 (g .eseq)) (lastBy wd 0 (listOf g a))
-    (lastBy wd 0 (listIn (append (g .vseq) a (outWord n)) o))
+    InsertEdge n a o t Untested (lastBy edgeNumber 0 (g .eseq)) (lastBy itself 0 (listOf g a))
+    (lastBy itself 0 (listIn (append (g .vseq) a (outWord n)) o))
 plan (DeleteEdge a) g = removal a g
 plan (RetypeVertex a t) g = SetVertex a (vertex g a .type) (vertex g a .value) t (vertex g a .value)
 plan (RetypeEdge a t) g = SetEdge a (edge g a .type) (edge g a .reading) t (edge g a .reading)
@@ -76,11 +77,13 @@ plan (SetValue a x) g = SetVertex a (vertex g a .type) (vertex g a .value) (vert
 plan (SetReading a k d) g = SetEdge a (edge g a .type) (edge g a .reading) (edge g a .type) (readingOf k d)
 plan (SetAlpha e v) g = moveLast (outWord e) v g
 plan (SetOmega e v) g = moveLast (inWord e) v g
-plan (VertexBefore a b) g = MoveVertex a (prev vn 0 a (g .vseq)) (prev vn 0 b (rem vn a (g .vseq)))
-plan (VertexAfter a b) g = MoveVertex a (prev vn 0 a (g .vseq)) b
-plan (EdgeBefore a b) g = MoveEdge a (prev en 0 a (g .eseq)) (prev en 0 b (rem en a (g .eseq)))
-plan (EdgeAfter a b) g = MoveEdge a (prev en 0 a (g .eseq)) b
-plan (WordBefore a b) g = wordMove a (this g a) (prev wd 0 b (listWithout a (this g a) g)) g
+plan (VertexBefore a b) g = MoveVertex a (prevBy vertexNumber 0 a (g .vseq)) (prevBy vertexNumber 0 b
+    (removeBy vertexNumber a (g .vseq)))
+plan (VertexAfter a b) g = MoveVertex a (prevBy vertexNumber 0 a (g .vseq)) b
+plan (EdgeBefore a b) g = MoveEdge a (prevBy edgeNumber 0 a (g .eseq)) (prevBy edgeNumber 0 b (removeBy edgeNumber a
+    (g .eseq)))
+plan (EdgeAfter a b) g = MoveEdge a (prevBy edgeNumber 0 a (g .eseq)) b
+plan (WordBefore a b) g = wordMove a (this g a) (prevBy itself 0 b (listWithout a (this g a) g)) g
 plan (WordAfter a b) g = wordMove a (this g a) b g
 
 -- edits one after another

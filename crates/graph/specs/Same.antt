@@ -1,9 +1,8 @@
 -- Whether two graphs are the same, and whether a change alters the graph (REFERENCE 3.11).
-use Prim.Native.Nat.{ℕ}
 use mathlib.Core.Bool.{Bool, true, false, not, _&&_}
 use mathlib.Core.List.{List, [], _∷_}
 use Rattle.lists.specs.Choice.{_==_}
-use Rattle.lists.specs.Lists.{same}
+use Rattle.lists.specs.Lists.{equalLists}
 use Rattle.graph.specs.declared.Reading.{Reading}
 use Rattle.graph.specs.declared.Change.{Change}
 use Rattle.graph.specs.declared.Change.the-variants.{
@@ -44,7 +43,7 @@ sameReading r s = (readingKind r == readingKind s) && (decimetres r == decimetre
 
 abbrev pub sameVertex : Vertex → Vertex → Bool
 sameVertex v u = (v .number == u .number)
-    && ((v .type == u .type) && ((v .value == u .value) && same (v .incidences) (u .incidences)))
+    && ((v .type == u .type) && ((v .value == u .value) && equalLists (v .incidences) (u .incidences)))
 
 abbrev pub sameEdge : Edge → Edge → Bool
 sameEdge e f =

@@ -4,7 +4,7 @@ use mathlib.Core.Path.{_≡_}
 use mathlib.Core.Bool.{Bool, true, _&&_}
 use mathlib.Core.List.{List, [], _∷_, _++_}
 use lib.Dec.{ltb}
-use Rattle.lists.specs.Choice.{_⇒_else_, _==_, pick, is, within}
+use Rattle.lists.specs.Choice.{_⇒_else_, _==_, ifEqual, indicator, within}
 use Rattle.lists.specs.Lists.{all, All, distinct, count}
 use Rattle.lists.specs.Keyed.{countBy}
 use Rattle.graph.specs.declared.Reading.{Reading}
@@ -12,9 +12,9 @@ use Rattle.graph.specs.Graph.{
   Vertex,
   Edge,
   Graph,
-  vn,
-  en,
-  wd,
+  vertexNumber,
+  edgeNumber,
+  itself,
   hasVertex,
   vertexNumbers,
   edgeNumbers,
@@ -69,15 +69,17 @@ wellFormed b g =
 
 -- each key once, and none is 0
 abbrev pub Ordered : {A : Type 0} → (A → ℕ) → List A → Type 0
-Ordered key l = (n : ℕ) → is 0 n + countBy key n l ≤ 1
+Ordered key l = (n : ℕ) → indicator 0 n + countBy key n l ≤ 1
 
 -- numbers, lists and ends fit together
 pub record WellFormed (g : Graph) : Type 0 where
-  pub vorder : Ordered vn (g .vseq)
-  pub eorder : Ordered en (g .eseq)
+  pub vorder : Ordered vertexNumber (g .vseq)
+  pub eorder : Ordered edgeNumber (g .eseq)
   pub lists : (u k : ℕ)
-      → countBy wd k (listIn (g .vseq) u) ≡ pick (thisIn (g .eseq) k) u (countBy en (edgeOf k) (g .eseq)) 0
-  pub ends : (k : ℕ) → countBy en (edgeOf k) (g .eseq) ≡ 1 → countBy vn (thisIn (g .eseq) k) (g .vseq) ≡ 1
+      → countBy itself k (listIn (g .vseq) u) ≡ ifEqual (thisIn (g .eseq) k) u (countBy edgeNumber (edgeOf k)
+      (g .eseq)) 0
+  pub ends : (k : ℕ) → countBy edgeNumber (edgeOf k) (g .eseq) ≡ 1
+      → countBy vertexNumber (thisIn (g .eseq) k) (g .vseq) ≡ 1
 
 -- the number, type and value of a vertex; the number, type and reading of an edge
 pub record VertexFits (b : Bounds) (n t x : ℕ) : Type 0 where

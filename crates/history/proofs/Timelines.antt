@@ -11,7 +11,7 @@ use lib.Seq.{length-take-le}
 use borrow.Author.Tests.{ltb-false, le-ltb}
 use Rattle.lists.specs.Choice.{_⇒_else_}
 use Rattle.graph.specs.Graph.{Graph}
-use Rattle.history.specs.Machine.{Step, Machine, gone, at, graphAt, costs, freeOf, cut, present, changes, moves}
+use Rattle.history.specs.Machine.{Step, Machine, gone, at, graphAt, costs, freeOf, cut, present, afterChange, movedTo}
 
 -- ---- steps 1 to p and the new one
 
@@ -48,19 +48,19 @@ costs-new (suc p) (x ∷ ss) s h = omega (arith, costs-new p ss s (omega arith))
 
 module _ (s : Step) (m : Machine) (h : m .line .place ≤ length (m .line .steps)) where
   -- a change makes the graph held afterwards
-  pub change-present : present (changes s m) ≡ s .graph
+  pub change-present : present (afterChange s m) ≡ s .graph
   change-present = graph-new (m .line .start) (m .line .steps) s (m .line .place) h
 
   -- undone, it gives the graph before it
-  pub change-undone : present (moves (m .line .place) (changes s m)) ≡ present m
+  pub change-undone : present (movedTo (m .line .place) (afterChange s m)) ≡ present m
   change-undone = graph-kept (m .line .start) (m .line .steps) s (m .line .place) (m .line .place) (omega arith) h
 
   -- nothing is left to redo
-  pub change-last : length (changes s m .line .steps) ≡ changes s m .line .place
+  pub change-last : length (afterChange s m .line .steps) ≡ afterChange s m .line .place
   change-last = length-cut (m .line .place) (m .line .steps) s h
 
   -- what was cut is free again
-  pub change-free : (capacity : ℕ) → freeOf capacity (changes s m .line) ≡ freeOf capacity (m .line) - s .cost
+  pub change-free : (capacity : ℕ) → freeOf capacity (afterChange s m .line) ≡ freeOf capacity (m .line) - s .cost
   change-free capacity = omega (arith, costs-new (m .line .place) (m .line .steps) s h)
 
 -- ---- marks at places above p are cut, and no other: one at p stays

@@ -5,7 +5,7 @@ use mathlib.Core.List.{List, [], _∷_, _++_}
 use lib.ListN.{length, take}
 use lib.Dec.{ltb}
 use Rattle.lists.specs.Choice.{_⇒_else_, _==_}
-use Rattle.lists.specs.Lists.{keep, sumOf, upto}
+use Rattle.lists.specs.Lists.{filter, sumOf, range}
 use Rattle.graph.specs.declared.Change.{Change}
 use Rattle.graph.specs.Graph.{Graph}
 use Rattle.graph.specs.Changes.{changed, cost}
@@ -22,14 +22,14 @@ pub record Timeline : Type 0 where
   pub place : ℕ
 
 -- a mark stands at a place, or does not stand
-pub data Standing : Type 0 where
-  gone : Standing
-  at : ℕ → Standing
+pub data MarkPlace : Type 0 where
+  gone : MarkPlace
+  at : ℕ → MarkPlace
 
 -- REFERENCE 4.1
 pub record Machine : Type 0 where
   pub line : Timeline
-  pub marks : ℕ → Standing
+  pub marks : ℕ → MarkPlace
 
 -- ---- the timeline
 
@@ -48,8 +48,8 @@ graphAt (suc i) g [] = g
 graphAt (suc i) g (s ∷ ss) = graphAt i (s .graph) ss
 
 -- Gp
-abbrev pub current : Timeline → Graph
-current t = graphAt (t .place) (t .start) (t .steps)
+abbrev pub presentIn : Timeline → Graph
+presentIn t = graphAt (t .place) (t .start) (t .steps)
 
 -- the same history at place p
 abbrev pub placed : ℕ → Timeline → Timeline
@@ -72,32 +72,32 @@ distance p q = (p - q) + (q - p)
 
 -- ---- marks
 
-abbrev pub noMarks : ℕ → Standing
+abbrev pub noMarks : ℕ → MarkPlace
 noMarks k = gone
 
-abbrev pub stands : Standing → Bool
+abbrev pub stands : MarkPlace → Bool
 stands gone = false
 stands (at q) = true
 
 -- the place of a standing mark; where it does not stand, the other
-abbrev pub placeOr : ℕ → Standing → ℕ
+abbrev pub placeOr : ℕ → MarkPlace → ℕ
 placeOr other gone = other
 placeOr other (at q) = q
 
-abbrev pub marked : ℕ → Standing → (ℕ → Standing) → ℕ → Standing
+abbrev pub marked : ℕ → MarkPlace → (ℕ → MarkPlace) → ℕ → MarkPlace
 marked n s ms k = (k == n) ⇒ s else ms k
 
 -- REFERENCE 4.3, its marks: a mark at p itself stays
-abbrev pub cut : ℕ → Standing → Standing
+abbrev pub cut : ℕ → MarkPlace → MarkPlace
 cut p gone = gone
 cut p (at q) = ltb p q ⇒ gone else at q
 
-abbrev pub cutMarks : ℕ → (ℕ → Standing) → ℕ → Standing
+abbrev pub cutMarks : ℕ → (ℕ → MarkPlace) → ℕ → MarkPlace
 cutMarks p ms k = cut p (ms k)
 
 -- how many of marks 1 to 64 stand
-unfoldable pub standing : (ℕ → Standing) → ℕ
-standing ms = length (keep (λ n. stands (ms (suc n))) (upto 64))
+unfoldable pub countStanding : (ℕ → MarkPlace) → ℕ
+countStanding ms = length (filter (λ n. stands (ms (suc n))) (range 64))
 
 -- ---- the machine
 
@@ -106,22 +106,22 @@ abbrev pub fresh : Graph → Machine
 fresh g = record { line = begun g; marks = noMarks }
 
 abbrev pub present : Machine → Graph
-present m = current (m .line)
+present m = presentIn (m .line)
 
 -- an accepted change that makes s
-abbrev pub changes : Step → Machine → Machine
-changes s m = record { line = extended s (m .line); marks = cutMarks (m .line .place) (m .marks) }
+abbrev pub afterChange : Step → Machine → Machine
+afterChange s m = record { line = extended s (m .line); marks = cutMarks (m .line .place) (m .marks) }
 
-abbrev pub moves : ℕ → Machine → Machine
-moves p m = record { line = placed p (m .line); marks = m .marks }
+abbrev pub movedTo : ℕ → Machine → Machine
+movedTo p m = record { line = placed p (m .line); marks = m .marks }
 
 -- mark n stands at the present place
-abbrev pub sets : ℕ → Machine → Machine
-sets n m = record { line = m .line; marks = marked n (at (m .line .place)) (m .marks) }
+abbrev pub withMarkSet : ℕ → Machine → Machine
+withMarkSet n m = record { line = m .line; marks = marked n (at (m .line .place)) (m .marks) }
 
-abbrev pub drops : ℕ → Machine → Machine
-drops n m = record { line = m .line; marks = marked n gone (m .marks) }
+abbrev pub withMarkDropped : ℕ → Machine → Machine
+withMarkDropped n m = record { line = m .line; marks = marked n gone (m .marks) }
 
 -- REFERENCE 4.9
-abbrev pub commits : Machine → Machine
-commits m = fresh (present m)
+abbrev pub afterCommit : Machine → Machine
+afterCommit m = record { line = begun (present m); marks = noMarks }

@@ -7,7 +7,7 @@ use native.Mathlib.Omega.{arith}
 use lib.ListN.{length, getD, drop}
 use borrow.Author.Tests.{eq-eqb, eqb-true, le-ltb}
 use Rattle.lists.specs.Choice.{_⇒_else_, _==_}
-use Rattle.lists.specs.Lists.{has}
+use Rattle.lists.specs.Lists.{member}
 use Rattle.graph.specs.Graph.{Edge}
 use Rattle.graph.specs.WellFormed.{wordsAt}
 use Rattle.image.specs.Image.{vertexSize, oldVertexSize, degreeWord}
@@ -55,7 +55,7 @@ old-run size deg (suc k) ws at h =
     (old-run size deg k (drop size ws) (at + size) h)
 
 pub degree-agrees : (size : ℕ) (es : List Edge) (deg : List ℕ) (k : ℕ) (ws : List ℕ) (at : ℕ) →
-    ((v : ℕ) → has v (numbersIn size k ws) ≡ true → getD deg v 0 - 1 ≡ length (wordsAt es v)) → degreeRun size deg k ws at ≡ degreeWalk size es k ws at
+    ((v : ℕ) → member v (numbersIn size k ws) ≡ true → getD deg v 0 - 1 ≡ length (wordsAt es v)) → degreeRun size deg k ws at ≡ degreeWalk size es k ws at
 unfolding degreeRun degreeWalk numbersIn
 degree-agrees size es deg zero ws at h = refl
 degree-agrees size es deg (suc k) ws at h =

@@ -8,14 +8,14 @@ use lib.Dec.{ltb, eqb}
 use lib.ListN.{length, getD, drop, set, length-set, length-append, List·getD-eq-default}
 use lib.Seq.{getD-set-same, getD-set-other}
 use borrow.Author.Tests.{eq-eqb, ne-eqb, eqb-true, eqb-false, lt-ltb, ltb-true, ltb-false}
-use Rattle.lists.specs.Choice.{_==_, _⇒_else_, bit}
-use Rattle.lists.specs.Lists.{has, count}
+use Rattle.lists.specs.Choice.{_==_, _⇒_else_, toBit}
+use Rattle.lists.specs.Lists.{member, count}
 use Rattle.lists.proofs.Sums.{sum-append}
 use Rattle.graph.specs.Graph.{Edge, outWord, inWord, readingOf}
 use Rattle.graph.specs.WellFormed.{wordsOf, wordsAt}
 use Rattle.image.specs.Image.{edgeSize, edgesFrom}
 use Rattle.image.specs.Checks.{goodEdge, edgeWalk}
-use Rattle.image.specs.Scratch.{bumped, ends, owned, edgeRun, edgeDegrees, edgeOwners}
+use Rattle.image.specs.Scratch.{bumped, withEnds, owned, edgeRun, edgeDegrees, edgeOwners}
 use Rattle.image.specs.declared.Verdict.the-variants.{Sound}
 use Rattle.lists.proofs.Bools.{within-range}
 use Rattle.image.proofs.Ends.{words-length}
@@ -26,20 +26,20 @@ use Rattle.image.proofs.VertexPass.{Indicator}
 
 -- a number stands in deg where it is one of the vertices
 abbrev pub Marked : List ℕ → List ℕ → Type 0
-Marked vs deg = (m : ℕ) → ltb 0 (getD deg m 0) ≡ has m vs
+Marked vs deg = (m : ℕ) → ltb 0 (getD deg m 0) ≡ member m vs
 
 -- an edge's out word has 0 in own until the edge is seen
 abbrev pub Seen : List ℕ → List ℕ → Type 0
-Seen seen own = (n : ℕ) → eqb (getD own (outWord n) 0) 0 ≡ not (has n seen)
+Seen seen own = (n : ℕ) → eqb (getD own (outWord n) 0) 0 ≡ not (member n seen)
 
 -- an in word stands in own only beside its out word
 abbrev pub Paired : List ℕ → Type 0
 Paired own = (n : ℕ) → getD own (outWord n) 0 ≡ 0 → getD own (inWord n) 0 ≡ 0
 
 pub marked-by : (vs deg : List ℕ) → Indicator vs deg → Marked vs deg
-marked-by vs deg a m = go (has m vs) (a m)
+marked-by vs deg a m = go (member m vs) (a m)
   where
-    go : (t : Bool) → getD deg m 0 ≡ bit t → ltb 0 (getD deg m 0) ≡ t
+    go : (t : Bool) → getD deg m 0 ≡ toBit t → ltb 0 (getD deg m 0) ≡ t
     go true e = rw e
     go false e = rw e
 
@@ -51,27 +51,27 @@ inside s i h = go (ltb i (length s)) refl
     go true e = ltb-true i (length s) e
     go false e = absurd (omega (arith, List·getD-eq-default s 0 (ltb-false i (length s) e)))
 
-marked-inside : (vs deg : List ℕ) (v : ℕ) → Marked vs deg → has v vs ≡ true → v < length deg
+marked-inside : (vs deg : List ℕ) (v : ℕ) → Marked vs deg → member v vs ≡ true → v < length deg
 marked-inside vs deg v m h = inside deg v (ltb-true 0 (getD deg v 0) (m v ∙ h))
 
-bump-at : (s : List ℕ) (v m : ℕ) → v < length s → getD (bumped v s) m 0 ≡ getD s m 0 + bit (v == m)
+bump-at : (s : List ℕ) (v m : ℕ) → v < length s → getD (bumped v s) m 0 ≡ getD s m 0 + toBit (v == m)
 bump-at s v m h = go (v == m) refl
   where
-    go : (t : Bool) → (v == m) ≡ t → getD (bumped v s) m 0 ≡ getD s m 0 + bit t
+    go : (t : Bool) → (v == m) ≡ t → getD (bumped v s) m 0 ≡ getD s m 0 + toBit t
     go true e = subst (λ (k : ℕ). getD (bumped v s) k 0 ≡ getD s k 0 + 1) (eqb-true v m e) (getD-set-same s v (getD s v 0 + 1) 0 h)
     go false e = let f = getD-set-other s v m (getD s v 0 + 1) 0 (λ q. eqb-false v m e (sym q)) in omega arith
 
 -- both ends of an edge counted
-ends-at : (s : List ℕ) (a o m : ℕ) → a < length s → o < length s → getD (ends a o s) m 0 ≡ getD s m 0 + bit (a == m) + bit (o == m)
-ends-at s a o m h k = bump-at (bumped a s) o m (rw length-set k) ∙ ap (λ (x : ℕ). x + bit (o == m)) (bump-at s a m h)
+ends-at : (s : List ℕ) (a o m : ℕ) → a < length s → o < length s → getD (withEnds a o s) m 0 ≡ getD s m 0 + toBit (a == m) + toBit (o == m)
+ends-at s a o m h k = bump-at (bumped a s) o m (rw length-set k) ∙ ap (λ (x : ℕ). x + toBit (o == m)) (bump-at s a m h)
 
-marked-ends : (vs deg : List ℕ) (a o : ℕ) → has a vs ≡ true → has o vs ≡ true → Marked vs deg → Marked vs (ends a o deg)
+marked-ends : (vs deg : List ℕ) (a o : ℕ) → member a vs ≡ true → member o vs ≡ true → Marked vs deg → Marked vs (withEnds a o deg)
 marked-ends vs deg a o ha ho k m =
     rw (ends-at deg a o m (marked-inside vs deg a k ha) (marked-inside vs deg o k ho)) (go (a == m) (o == m) refl refl)
   where
-    go : (x y : Bool) → (a == m) ≡ x → (o == m) ≡ y → ltb 0 (getD deg m 0 + bit x + bit y) ≡ has m vs
-    go true y e f = lt-ltb 0 (getD deg m 0 + 1 + bit y) (omega arith) ∙ sym (subst (λ (v : ℕ). has v vs ≡ true) (eqb-true a m e) ha)
-    go false true e f = lt-ltb 0 (getD deg m 0 + 0 + 1) (omega arith) ∙ sym (subst (λ (v : ℕ). has v vs ≡ true) (eqb-true o m f) ho)
+    go : (x y : Bool) → (a == m) ≡ x → (o == m) ≡ y → ltb 0 (getD deg m 0 + toBit x + toBit y) ≡ member m vs
+    go true y e f = lt-ltb 0 (getD deg m 0 + 1 + toBit y) (omega arith) ∙ sym (subst (λ (v : ℕ). member v vs ≡ true) (eqb-true a m e) ha)
+    go false true e f = lt-ltb 0 (getD deg m 0 + 0 + 1) (omega arith) ∙ sym (subst (λ (v : ℕ). member v vs ≡ true) (eqb-true o m f) ho)
     go false false e f = let z : getD deg m 0 + 0 + 0 ≡ getD deg m 0 = omega arith in rw z (k m)
 
 -- own once an edge is entered
@@ -89,7 +89,7 @@ module _ (own : List ℕ) (n a o : ℕ) where
   seen-owned : (seen : List ℕ) → inWord n < length own → (a ≡ 0 → ⊥) → Seen seen own → Seen (n ∷ seen) (owned n a o own)
   seen-owned seen h z k m = go (n == m) refl
     where
-      go : (t : Bool) → (n == m) ≡ t → eqb (getD (owned n a o own) (outWord m) 0) 0 ≡ not (t || has m seen)
+      go : (t : Bool) → (n == m) ≡ t → eqb (getD (owned n a o own) (outWord m) 0) 0 ≡ not (t || member m seen)
       go true e =
           subst (λ (v : ℕ). eqb (getD (owned n a o own) (outWord v) 0) 0 ≡ false) (eqb-true n m e)
           (rw (owned-out h) (ne-eqb a 0 z))
@@ -117,7 +117,7 @@ eqb-sym a b = go (a == b) refl
     go false e = sym (ne-eqb b a (λ q. eqb-false a b e (sym q)))
 
 words-count : (n w : ℕ) (x y : Bool) →
-    count w ((x ⇒ (outWord n ∷ []) else []) ++ (y ⇒ (inWord n ∷ []) else [])) ≡ (x ⇒ bit (outWord n == w) else 0) + (y ⇒ bit (inWord n == w) else 0)
+    count w ((x ⇒ (outWord n ∷ []) else []) ++ (y ⇒ (inWord n ∷ []) else [])) ≡ (x ⇒ toBit (outWord n == w) else 0) + (y ⇒ toBit (inWord n == w) else 0)
 words-count n w true true = omega arith
 words-count n w true false = omega arith
 words-count n w false true = omega arith
@@ -125,19 +125,19 @@ words-count n w false false = omega arith
 
 -- v owns w after the edge is entered: before, or by this edge
 owned-count : (own : List ℕ) (n a o v w : ℕ) → inWord n < length own → getD own (outWord n) 0 ≡ 0 → getD own (inWord n) 0 ≡ 0 → 1 ≤ v →
-    bit (getD (owned n a o own) w 0 == v) ≡ bit (getD own w 0 == v) + ((v == a) ⇒ bit (outWord n == w) else 0) + ((v == o) ⇒ bit (inWord n == w) else 0)
+    toBit (getD (owned n a o own) w 0 == v) ≡ toBit (getD own w 0 == v) + ((v == a) ⇒ toBit (outWord n == w) else 0) + ((v == o) ⇒ toBit (inWord n == w) else 0)
 owned-count own n a o v w h p q l = go (outWord n == w) (inWord n == w) refl refl
   where
     zero-v : (0 == v) ≡ false
     zero-v = ne-eqb 0 v (λ e. omega arith)
 
-    first : (x y : Bool) → bit x ≡ bit false + (x ⇒ 1 else 0) + (y ⇒ 0 else 0)
+    first : (x y : Bool) → toBit x ≡ toBit false + (x ⇒ 1 else 0) + (y ⇒ 0 else 0)
     first true true = refl
     first true false = refl
     first false true = refl
     first false false = refl
 
-    second : (x y : Bool) → bit y ≡ bit false + (x ⇒ 0 else 0) + (y ⇒ 1 else 0)
+    second : (x y : Bool) → toBit y ≡ toBit false + (x ⇒ 0 else 0) + (y ⇒ 1 else 0)
     second true true = refl
     second true false = refl
     second false true = refl
@@ -150,7 +150,7 @@ owned-count own n a o v w h p q l = go (outWord n == w) (inWord n == w) refl ref
     none false false b = omega arith
 
     go : (s t : Bool) → (outWord n == w) ≡ s → (inWord n == w) ≡ t →
-        bit (getD (owned n a o own) w 0 == v) ≡ bit (getD own w 0 == v) + ((v == a) ⇒ bit s else 0) + ((v == o) ⇒ bit t else 0)
+        toBit (getD (owned n a o own) w 0 == v) ≡ toBit (getD own w 0 == v) + ((v == a) ⇒ toBit s else 0) + ((v == o) ⇒ toBit t else 0)
     go true true e f = absurd (let x : outWord n ≡ w = eqb-true (outWord n) w e in let y : inWord n ≡ w = eqb-true (inWord n) w f in omega arith)
     go true false e f =
         let x : outWord n ≡ w = eqb-true (outWord n) w e in
@@ -160,14 +160,14 @@ owned-count own n a o v w h p q l = go (outWord n == w) (inWord n == w) refl ref
         rw (← y, owned-in own n a o h, q, zero-v, eqb-sym o v) (second (v == a) (v == o))
     go false false e f =
         rw (owned-other own n a o w (λ r. eqb-false (outWord n) w e (sym r)) (λ r. eqb-false (inWord n) w f (sym r)))
-        (none (v == a) (v == o) (bit (getD own w 0 == v)))
+        (none (v == a) (v == o) (toBit (getD own w 0 == v)))
 
 -- ---- the part
 
 module _ (cap types : ℕ) (vs : List ℕ) where
   -- a sound walk of one record more: the record, and the rest
   pub record EdgeStep (seen : List ℕ) (k : ℕ) (ws : List ℕ) (at : ℕ) : Type 0 where
-    pub ok : EdgeOk cap types (not (has (getD ws 0 0) seen)) (has (getD ws 1 0) vs) (has (getD ws 2 0) vs) (getD ws 0 0) (getD ws 3 0) (getD ws 4 0) (getD ws 5 0)
+    pub ok : EdgeOk cap types (not (member (getD ws 0 0) seen)) (member (getD ws 1 0) vs) (member (getD ws 2 0) vs) (getD ws 0 0) (getD ws 3 0) (getD ws 4 0) (getD ws 5 0)
     pub high : getD ws 0 0 ≤ cap
     pub rest : edgeWalk cap types vs (getD ws 0 0 ∷ seen) k (drop edgeSize ws) (at + edgeSize) ≡ Sound
 
@@ -175,16 +175,16 @@ module _ (cap types : ℕ) (vs : List ℕ) where
   unfolding edgeWalk
   edge-step seen k ws at s =
       let n = getD ws 0 0 in
-      let f = not (has n seen) in
-      let a = has (getD ws 1 0) vs in
-      let o = has (getD ws 2 0) vs in
+      let f = not (member n seen) in
+      let a = member (getD ws 1 0) vs in
+      let o = member (getD ws 2 0) vs in
       let r = record-sound 6 at (goodEdge cap types f a o n (getD ws 3 0) (getD ws 4 0) (getD ws 5 0)) (edgeWalk cap types vs (n ∷ seen) k (drop edgeSize ws) (at + edgeSize)) s in
       let q = edge-ok cap types f a o n (getD ws 3 0) (getD ws 4 0) (getD ws 5 0) (r .0) in
       record { ok = q; high = within-range 1 cap n (q .number) .1; rest = r .1 }
 
-  module _ (no-zero : has 0 vs ≡ false) where
-    not-zero : (a : ℕ) → has a vs ≡ true → a ≡ 0 → ⊥
-    not-zero a h e = true≢false (sym h ∙ subst (λ (v : ℕ). has v vs ≡ false) (sym e) no-zero)
+  module _ (no-zero : member 0 vs ≡ false) where
+    not-zero : (a : ℕ) → member a vs ≡ true → a ≡ 0 → ⊥
+    not-zero a h e = true≢false (sym h ∙ subst (λ (v : ℕ). member v vs ≡ false) (sym e) no-zero)
 
     pub edge-agrees : (deg own seen : List ℕ) (k : ℕ) (ws : List ℕ) (at : ℕ) → 2 * cap + 1 < length own → Marked vs deg → Seen seen own →
         edgeRun cap types deg own k ws at ≡ edgeWalk cap types vs seen k ws at
@@ -195,10 +195,10 @@ module _ (cap types : ℕ) (vs : List ℕ) where
         let a = getD ws 1 0 in
         let o = getD ws 2 0 in
         rw (s n, m a, m o)
-        (record-same 6 at (goodEdge cap types (not (has n seen)) (has a vs) (has o vs) n (getD ws 3 0) (getD ws 4 0) (getD ws 5 0)) _ _ λ g.
-        let ok = edge-ok cap types (not (has n seen)) (has a vs) (has o vs) n (getD ws 3 0) (getD ws 4 0) (getD ws 5 0) g in
+        (record-same 6 at (goodEdge cap types (not (member n seen)) (member a vs) (member o vs) n (getD ws 3 0) (getD ws 4 0) (getD ws 5 0)) _ _ λ g.
+        let ok = edge-ok cap types (not (member n seen)) (member a vs) (member o vs) n (getD ws 3 0) (getD ws 4 0) (getD ws 5 0) g in
         let l = within-range 1 cap n (ok .number) in
-        edge-agrees (ends a o deg) (owned n a o own) (n ∷ seen) k (drop edgeSize ws) (at + edgeSize)
+        edge-agrees (withEnds a o deg) (owned n a o own) (n ∷ seen) k (drop edgeSize ws) (at + edgeSize)
         (rw (length-set, length-set) h)
         (marked-ends vs deg a o (ok .starts) (ok .stops) m)
         (seen-owned own n a o seen (omega arith) (not-zero a (ok .starts)) s))
@@ -215,16 +215,16 @@ module _ (cap types : ℕ) (vs : List ℕ) where
         let r = edge-step seen k ws at s in
         omega (
           arith,
-          degrees-agree (ends a o deg) (n ∷ seen) k (drop edgeSize ws) (at + edgeSize) (marked-ends vs deg a o (r .ok .starts) (r .ok .stops) m) (r .rest) v,
+          degrees-agree (withEnds a o deg) (n ∷ seen) k (drop edgeSize ws) (at + edgeSize) (marked-ends vs deg a o (r .ok .starts) (r .ok .stops) m) (r .rest) v,
           ends-at deg a o v (marked-inside vs deg a m (r .ok .starts)) (marked-inside vs deg o m (r .ok .stops)),
           length-append (wordsOf v e) (wordsAt (edgesFrom k (drop edgeSize ws)) v),
           words-length v e,
-          ap bit (eqb-sym v a),
-          ap bit (eqb-sym v o),
+          ap toBit (eqb-sym v a),
+          ap toBit (eqb-sym v o),
         )
 
     pub owners-agree : (own seen : List ℕ) (k : ℕ) (ws : List ℕ) (at : ℕ) → 2 * cap + 1 < length own → Seen seen own → Paired own → edgeWalk cap types vs seen k ws at ≡ Sound →
-        (v : ℕ) → 1 ≤ v → (w : ℕ) → bit (getD (edgeOwners own k ws) w 0 == v) ≡ bit (getD own w 0 == v) + count w (wordsAt (edgesFrom k ws) v)
+        (v : ℕ) → 1 ≤ v → (w : ℕ) → toBit (getD (edgeOwners own k ws) w 0 == v) ≡ toBit (getD own w 0 == v) + count w (wordsAt (edgesFrom k ws) v)
     unfolding edgeOwners edgesFrom wordsAt
     owners-agree own seen zero ws at h u p s v l w = omega arith
     owners-agree own seen (suc k) ws at h u p s v l w =
@@ -239,6 +239,6 @@ module _ (cap types : ℕ) (vs : List ℕ) where
           arith,
           owners-agree (owned n a o own) (n ∷ seen) k (drop edgeSize ws) (at + edgeSize) (rw (length-set, length-set) h) (seen-owned own n a o seen i z u) (paired-owned own n a o i z p) (r .rest) v l w,
           owned-count own n a o v w i out (p n out) l,
-          sum-append (λ x. bit (x == w)) (((v == a) ⇒ (outWord n ∷ []) else []) ++ ((v == o) ⇒ (inWord n ∷ []) else [])) (wordsAt (edgesFrom k (drop edgeSize ws)) v),
+          sum-append (λ x. toBit (x == w)) (((v == a) ⇒ (outWord n ∷ []) else []) ++ ((v == o) ⇒ (inWord n ∷ []) else [])) (wordsAt (edgesFrom k (drop edgeSize ws)) v),
           words-count n w (v == a) (v == o),
         )

@@ -9,12 +9,12 @@ use lib.Dec.{leb, ltb}
 use lib.ListN.{length, getD, take, drop, length-drop, length-append, take-append-drop}
 use lib.Seq.{drop-at, take-append-le, take-append-add, length-take-le}
 use borrow.Author.Tests.{ne-eqb, lt-ltb, le-ltb, le-leb, leb-true}
-use Rattle.lists.specs.Choice.{_⇒_else_, _==_, bit, within}
-use Rattle.lists.specs.Lists.{has, count}
-use Rattle.lists.specs.Keyed.{rem}
+use Rattle.lists.specs.Choice.{_⇒_else_, _==_, toBit, within}
+use Rattle.lists.specs.Lists.{member, count}
+use Rattle.lists.specs.Keyed.{removeBy}
 use Rattle.lists.proofs.Bools.{and-true, and-both}
 use Rattle.lists.proofs.Sums.{has-count, has-not}
-use Rattle.graph.specs.Graph.{Edge, wd, isReading, readingOf}
+use Rattle.graph.specs.Graph.{Edge, itself, isReading, readingOf}
 use Rattle.graph.specs.WellFormed.{wordsAt}
 use Rattle.image.specs.Image.{degreeWord}
 use Rattle.image.specs.Checks.{goodVertex, goodEdge, vertexWalk, edgeWalk, goodList, listWalk}
@@ -34,32 +34,32 @@ pub record Free (cap : ℕ) (seen : List ℕ) : Type 0 where
   pub n : ℕ
   pub number : within 1 cap n ≡ true
   pub high : n ≤ cap
-  pub new : has n seen ≡ false
+  pub new : member n seen ≡ false
 
-none-there : (n : ℕ) (xs : List ℕ) → count n xs ≡ 0 → has n xs ≡ false
-none-there n xs e = go (has n xs) refl
+none-there : (n : ℕ) (xs : List ℕ) → count n xs ≡ 0 → member n xs ≡ false
+none-there n xs e = go (member n xs) refl
   where
-    go : (t : Bool) → has n xs ≡ t → t ≡ false
+    go : (t : Bool) → member n xs ≡ t → t ≡ false
     go true f = absurd (omega (arith, has-count n xs f))
     go false f = refl
 
 free : (cap : ℕ) (seen : List ℕ) → length seen < cap → Free cap seen
 free zero seen h = absurd (omega arith)
-free (suc cap) seen h = go (λ l q. free cap l q) (has (suc cap) seen) refl
+free (suc cap) seen h = go (λ l q. free cap l q) (member (suc cap) seen) refl
   where
-    go : ((l : List ℕ) → length l < cap → Free cap l) → (t : Bool) → has (suc cap) seen ≡ t → Free (suc cap) seen
+    go : ((l : List ℕ) → length l < cap → Free cap l) → (t : Bool) → member (suc cap) seen ≡ t → Free (suc cap) seen
     go ih true e =
         let c = has-count (suc cap) seen e in
-        let f = ih (rem wd (suc cap) seen) (omega (arith, rem-length (suc cap) seen c)) in
+        let f = ih (removeBy itself (suc cap) seen) (omega (arith, rem-length (suc cap) seen c)) in
         let n = f .n in
         let l = and-true (leb 1 n) (leb n cap) (f .number) in
         let q : (suc cap == n) ≡ false = ne-eqb (suc cap) n (λ r. omega (arith, f .high)) in
-        let z : bit (suc cap == n) ≡ 0 = ap bit q in
+        let z : toBit (suc cap == n) ≡ 0 = ap toBit q in
         record {
           n = n;
           number = and-both (leb 1 n) (leb n (suc cap)) (l .0) (le-leb n (suc cap) (omega (arith, f .high)));
           high = omega (arith, f .high);
-          new = none-there n seen (omega (arith, z, rem-count (suc cap) seen c n, has-not n (rem wd (suc cap) seen) (f .new)));
+          new = none-there n seen (omega (arith, z, rem-count (suc cap) seen c n, has-not n (removeBy itself (suc cap) seen) (f .new)));
         }
     go ih false e =
         record { n = suc cap; number = and-both (leb 1 (suc cap)) (leb (suc cap) (suc cap)) (le-leb 1 (suc cap) (omega arith)) (le-leb (suc cap) (suc cap) (omega arith)); high = omega arith; new = e }
@@ -92,7 +92,7 @@ module _ (size : ℕ) (z : Size size) (cap types : ℕ) (some : 1 ≤ types) whe
   row-length : (n t x d : ℕ) (us : List ℕ) → length (row n t x d us) ≡ size + length us
   row-length n t x d us = omega (arith, length-append (degreeWord size d) us, degree-length size z d)
 
-  vertex-cons : (seen : List ℕ) (k at n t x d : ℕ) (us : List ℕ) → VertexOk cap types (not (has n seen)) n t x → vwalk (n ∷ seen) k (at + size) us ≡ Sound →
+  vertex-cons : (seen : List ℕ) (k at n t x d : ℕ) (us : List ℕ) → VertexOk cap types (not (member n seen)) n t x → vwalk (n ∷ seen) k (at + size) us ≡ Sound →
       vwalk seen (suc k) at (row n t x d us) ≡ Sound
   unfolding vertexWalk goodVertex
   vertex-cons seen k at n t x d us o s =
@@ -112,7 +112,7 @@ module _ (size : ℕ) (z : Size size) (cap types : ℕ) (some : 1 ≤ types) whe
       }
 
   -- the first record, and the rest filled up
-  vertex-then : (seen : List ℕ) (k at j n t x : ℕ) (ws : List ℕ) → length seen + suc k ≤ cap → VertexOk cap types (not (has n seen)) n t x →
+  vertex-then : (seen : List ℕ) (k at j n t x : ℕ) (ws : List ℕ) → length seen + suc k ≤ cap → VertexOk cap types (not (member n seen)) n t x →
       ((us : List ℕ) → take j (n ∷ t ∷ x ∷ us) ≡ take j ws) → Filled (vwalk seen (suc k) at) (size * suc k) j ws
   vertex-then seen k at j n t x ws h o q =
       let r = vertex-fill (n ∷ seen) k (at + size) ws (omega arith) in
@@ -126,7 +126,7 @@ module _ (size : ℕ) (z : Size size) (cap types : ℕ) (some : 1 ≤ types) whe
   vertex-here : (seen : List ℕ) (k at j : ℕ) (ws : List ℕ) → length ws ≡ size * suc k → length seen + suc k ≤ cap → j ≡ vertexAt cap types seen ws → j < 3 →
       Filled (vwalk seen (suc k) at) (size * suc k) j ws
   unfolding goodVertex
-  vertex-here seen k at j ws e h q l = go (within 1 cap n) (not (has n seen)) (ltb t types) (ltb x (2 ^ 32)) refl refl refl refl q
+  vertex-here seen k at j ws e h q l = go (within 1 cap n) (not (member n seen)) (ltb t types) (ltb x (2 ^ 32)) refl refl refl refl q
     where
       n : ℕ
       n = getD ws 0 0
@@ -140,7 +140,7 @@ module _ (size : ℕ) (z : Size size) (cap types : ℕ) (some : 1 ≤ types) whe
       cut : row n t x (getD ws 3 0) (drop size ws) ≡ ws
       cut = cut-vertex size z ws (size * k) (omega arith)
 
-      go : (p y c u : Bool) → within 1 cap n ≡ p → not (has n seen) ≡ y → ltb t types ≡ c → ltb x (2 ^ 32) ≡ u → j ≡ (not (p && y) ⇒ 0 else not c ⇒ 1 else not u ⇒ 2 else 3) →
+      go : (p y c u : Bool) → within 1 cap n ≡ p → not (member n seen) ≡ y → ltb t types ≡ c → ltb x (2 ^ 32) ≡ u → j ≡ (not (p && y) ⇒ 0 else not c ⇒ 1 else not u ⇒ 2 else 3) →
           Filled (vwalk seen (suc k) at) (size * suc k) j ws
       go true true true true e1 e2 e3 e4 q = absurd (omega arith)
       go true true true false e1 e2 e3 e4 q =
@@ -151,7 +151,7 @@ module _ (size : ℕ) (z : Size size) (cap types : ℕ) (some : 1 ≤ types) whe
       go false y c u e1 e2 e3 e4 q = subst (λ (i : ℕ). Filled (vwalk seen (suc k) at) (size * suc k) i ws) (sym q) (vertex-fill seen (suc k) at ws h)
 
   -- the first record as it is, and the rest filled up
-  vertex-more : (seen : List ℕ) (k at n t x d : ℕ) (ws : List ℕ) {i j : ℕ} → VertexOk cap types (not (has n seen)) n t x →
+  vertex-more : (seen : List ℕ) (k at n t x d : ℕ) (ws : List ℕ) {i j : ℕ} → VertexOk cap types (not (member n seen)) n t x →
       Filled (vwalk (n ∷ seen) k (at + size)) (size * k) i (drop size ws) → j ≡ size + i → row n t x d (drop size ws) ≡ ws → Filled (vwalk seen (suc k) at) (size * suc k) j ws
   vertex-more seen k at n t x d ws {i} {j} o r e cut =
       record {
@@ -174,7 +174,7 @@ module _ (size : ℕ) (z : Size size) (cap types : ℕ) (some : 1 ≤ types) whe
       elim (record-bad 3 at (vertexAt cap types seen ws) m (vertexWalk size cap types (n ∷ seen) k (drop size ws) (at + size)) h) [
         | inl y ↦ vertex-here seen k at j ws e l (omega (arith, q, y .1)) (omega (arith, q, y .0, y .1))
         | inr y ↦
-            let o = vertex-ok cap types (not (has n seen)) n t x (y .0) in
+            let o = vertex-ok cap types (not (member n seen)) n t x (y .0) in
             let g = vertex-range size z cap types (n ∷ seen) k (drop size ws) (at + size) m (y .1) .0 in
             let i : j ≡ size + (j - size) = omega (arith, q, g) in
             let r = vertex-fit (n ∷ seen) k (drop size ws) (at + size) m (j - size) (y .1) (omega (arith, q, g)) (omega (arith, e, length-drop size ws)) (omega (arith, l)) in
@@ -197,14 +197,14 @@ module _ (cap types : ℕ) (some : 1 ≤ types) (ns : List ℕ) where
   ewalk seen k at us = edgeWalk cap types ns seen k us at
 
   abbrev Ok : List ℕ → ℕ → ℕ → ℕ → ℕ → ℕ → ℕ → Type 0
-  Ok seen n a o t c d = EdgeOk cap types (not (has n seen)) (has a ns) (has o ns) n t c d
+  Ok seen n a o t c d = EdgeOk cap types (not (member n seen)) (member a ns) (member o ns) n t c d
 
   edge-cons : (seen : List ℕ) (k at n a o t c d : ℕ) (us : List ℕ) → Ok seen n a o t c d → ewalk (n ∷ seen) k (at + 6) us ≡ Sound →
       ewalk seen (suc k) at (n ∷ a ∷ o ∷ t ∷ c ∷ d ∷ us) ≡ Sound
   unfolding edgeWalk goodEdge
   edge-cons seen k at n a o t c d us x s = rw (x .number, x .new, x .starts, x .stops, x .type, reading-kind c d (x .reading), x .reading) s
 
-  module _ (v : ℕ) (there : has v ns ≡ true) where
+  module _ (v : ℕ) (there : member v ns ≡ true) where
     pub edge-fill : (seen : List ℕ) (k at : ℕ) (ws : List ℕ) → length seen + k ≤ cap → Filled (ewalk seen k at) (6 * k) 0 ws
     unfolding edgeWalk
     edge-fill seen zero at ws h = record { words = []; long = refl; sound = refl; begin = refl }
@@ -231,7 +231,7 @@ module _ (cap types : ℕ) (some : 1 ≤ types) (ns : List ℕ) where
         Filled (ewalk seen (suc k) at) (6 * suc k) j ws
     unfolding goodEdge
     edge-here seen k at j ws e h q l =
-        go (within 1 cap n) (not (has n seen)) (has a ns) (has o ns) (ltb t types) (leb c 2) (isReading c d) refl refl refl refl refl refl refl q
+        go (within 1 cap n) (not (member n seen)) (member a ns) (member o ns) (ltb t types) (leb c 2) (isReading c d) refl refl refl refl refl refl refl q
       where
         n : ℕ
         n = getD ws 0 0
@@ -257,7 +257,7 @@ module _ (cap types : ℕ) (some : 1 ≤ types) (ns : List ℕ) where
         zt : ltb 0 types ≡ true
         zt = lt-ltb 0 types (omega arith)
 
-        go : (p y f g z u r : Bool) → within 1 cap n ≡ p → not (has n seen) ≡ y → has a ns ≡ f → has o ns ≡ g → ltb t types ≡ z → leb c 2 ≡ u → isReading c d ≡ r →
+        go : (p y f g z u r : Bool) → within 1 cap n ≡ p → not (member n seen) ≡ y → member a ns ≡ f → member o ns ≡ g → ltb t types ≡ z → leb c 2 ≡ u → isReading c d ≡ r →
             j ≡ (not (p && y) ⇒ 0 else not f ⇒ 1 else not g ⇒ 2 else not z ⇒ 3 else not u ⇒ 4 else not r ⇒ 5 else 6) → Filled (ewalk seen (suc k) at) (6 * suc k) j ws
         go true true true true true true true e1 e2 e3 e4 e5 e6 e7 q = absurd (omega arith)
         go true true true true true true false e1 e2 e3 e4 e5 e6 e7 q =
@@ -297,7 +297,7 @@ module _ (cap types : ℕ) (some : 1 ≤ types) (ns : List ℕ) where
         elim (record-bad 6 at (edgeAt cap types ns seen ws) m (edgeWalk cap types ns (n ∷ seen) k (drop 6 ws) (at + 6)) h) [
           | inl y ↦ edge-here seen k at j ws e l (omega (arith, q, y .1)) (omega (arith, q, y .0, y .1))
           | inr y ↦
-              let x = edge-ok cap types (not (has n seen)) (has a ns) (has o ns) n t c d (y .0) in
+              let x = edge-ok cap types (not (member n seen)) (member a ns) (member o ns) n t c d (y .0) in
               let g = edge-range cap types ns (n ∷ seen) k (drop 6 ws) (at + 6) m (y .1) .0 in
               let i : j ≡ suc (suc (suc (suc (suc (suc (j - 6)))))) = omega (arith, q, g) in
               let r = edge-fit (n ∷ seen) k (drop 6 ws) (at + 6) m (j - 6) (y .1) (omega (arith, q, g)) (omega (arith, e, length-drop 6 ws)) (omega (arith, l)) in
@@ -316,9 +316,9 @@ list-fit : (d : ℕ) (wanted ws : List ℕ) → length wanted ≡ d → ListFit 
 unfolding goodList
 list-fit zero wanted ws e = record { words = []; long = refl; good = λ rest. refl; begin = refl }
 list-fit (suc d) wanted [] e = record { words = wanted; long = e; good = λ rest. alike-good (suc d) wanted wanted rest e (λ n. refl); begin = refl }
-list-fit (suc d) wanted (w ∷ ws) e = go (λ q. list-fit d (rem wd w wanted) ws q) (has w wanted) refl
+list-fit (suc d) wanted (w ∷ ws) e = go (λ q. list-fit d (removeBy itself w wanted) ws q) (member w wanted) refl
   where
-    go : (length (rem wd w wanted) ≡ d → ListFit d (rem wd w wanted) ws) → (t : Bool) → has w wanted ≡ t → ListFit (suc d) wanted (w ∷ ws)
+    go : (length (removeBy itself w wanted) ≡ d → ListFit d (removeBy itself w wanted) ws) → (t : Bool) → member w wanted ≡ t → ListFit (suc d) wanted (w ∷ ws)
     go ih true f =
         let r = ih (omega (arith, rem-length w wanted (has-count w wanted f))) in
         record { words = w ∷ r .words; long = ap suc (r .long); good = λ rest. rw f (ap suc (r .good rest)); begin = rw f (ap (λ (l : List ℕ). w ∷ l) (r .begin)) }

@@ -10,7 +10,7 @@ use lib.ListN.{length, getD, take, drop, length-append, List·getD-append}
 use lib.Seq.{drop-drop, take-at, drop-at, getD-take, getD-append-add}
 use borrow.Author.Tests.{eq-eqb, eqb-true, eqb-false, ltb-true, ltb-false}
 use Rattle.lists.specs.Choice.{_⇒_else_, _==_}
-use Rattle.lists.specs.Lists.{has, same}
+use Rattle.lists.specs.Lists.{member, equalLists}
 use Rattle.lists.proofs.Bools.{and-true, and-both}
 use Rattle.graph.specs.Graph.{Edge}
 use Rattle.graph.specs.WellFormed.{Bounds, wordsAt}
@@ -58,7 +58,7 @@ pub record Follows (b : Bounds) (ws : List ℕ) (k : ℕ) : Type 0 where
   pub loads : loadable b words ≡ true
   pub begin : Begins ws k words
 
-some-number : (size v : ℕ) (vs : List ℕ) → 1 ≤ v → has (getD vs 0 0) (numbersIn size v vs) ≡ true
+some-number : (size v : ℕ) (vs : List ℕ) → 1 ≤ v → member (getD vs 0 0) (numbersIn size v vs) ≡ true
 unfolding numbersIn
 some-number size zero vs h = absurd (omega arith)
 some-number size (suc v) vs h = has-self (getD vs 0 0) (numbersIn size v (drop size vs))
@@ -111,7 +111,7 @@ module _ (b : Bounds) (ws : List ℕ) (header : soundHeader ws ≡ true) where
     unfolding headerAs
     whole-header =
         sound-as n (record-size ws) (whole vs es is)
-        (and-both (same (headerOf n v e) (headerOf n v e)) (length (whole vs es is) == lengthAs n v e) (same-refl (headerOf n v e)) (eq-eqb (length (whole vs es is)) (lengthAs n v e) whole-length))
+        (and-both (equalLists (headerOf n v e) (headerOf n v e)) (length (whole vs es is) == lengthAs n v e) (same-refl (headerOf n v e)) (eq-eqb (length (whole vs es is)) (lengthAs n v e) whole-length))
 
     whole-size : recordSize (whole vs es is) ≡ n
     whole-size = size-by (whole vs es is) ws refl (sym (header-words ws header .second))

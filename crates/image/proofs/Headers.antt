@@ -10,7 +10,7 @@ use lib.Dec.{leb, eqb}
 use lib.ListN.{length, getD, take, length-take}
 use borrow.Author.Tests.{eq-eqb, ne-eqb, eqb-true, leb-true, le-ltb}
 use Rattle.lists.specs.Choice.{_==_, _⇒_else_}
-use Rattle.lists.specs.Lists.{same}
+use Rattle.lists.specs.Lists.{equalLists}
 use Rattle.lists.proofs.Bools.{and-true, and-false}
 use Rattle.image.specs.Image.{vertexSize, oldVertexSize, vertexOffset, edgeOffset, incidenceOffset, lengthAs, headerOf, headerAs, soundHeader, vertexCount, edgeCount, recordSize}
 use Rattle.image.specs.Checks.{bounds, checked, soundCounts}
@@ -35,10 +35,10 @@ module _ (size : ℕ) where
   short : (ws : List ℕ) → length ws < 6 → headerAs size ws ≡ tests size ws
   unfolding tests headerAs
   short ws h =
-      go (same (take 6 ws) (headerOf size (vertexCount ws) (edgeCount ws))) refl
+      go (equalLists (take 6 ws) (headerOf size (vertexCount ws) (edgeCount ws))) refl
       ∙ sym (simp (ne-eqb (length ws) (lengthAs size (vertexCount ws) (edgeCount ws)) (λ e. omega arith), and-false))
     where
-      go : (t : Bool) → same (take 6 ws) (headerOf size (vertexCount ws) (edgeCount ws)) ≡ t → (t && (length ws == lengthAs size (vertexCount ws) (edgeCount ws))) ≡ false
+      go : (t : Bool) → equalLists (take 6 ws) (headerOf size (vertexCount ws) (edgeCount ws)) ≡ t → (t && (length ws == lengthAs size (vertexCount ws) (edgeCount ws))) ≡ false
       go false e = refl
       go true e = absurd (omega (arith, ap length (same-eq (take 6 ws) (headerOf size (vertexCount ws) (edgeCount ws)) e), length-take 6 ws))
 
@@ -139,7 +139,7 @@ sound-length ws h = header-words ws h .long
 
 pub sound-front : (ws : List ℕ) → soundHeader ws ≡ true → take 6 ws ≡ headerOf (recordSize ws) (vertexCount ws) (edgeCount ws)
 unfolding soundHeader headerAs
-sound-front ws h = same-eq _ _ (and-true (same (take 6 ws) (headerOf (recordSize ws) (vertexCount ws) (edgeCount ws))) _ h .0)
+sound-front ws h = same-eq _ _ (and-true (equalLists (take 6 ws) (headerOf (recordSize ws) (vertexCount ws) (edgeCount ws))) _ h .0)
 
 -- a header is sound where it fits records of either size
 pub sound-as : (size : ℕ) → Size size → (ws : List ℕ) → headerAs size ws ≡ true → soundHeader ws ≡ true
@@ -185,6 +185,13 @@ counts-le vcap ecap v e h =
     let a = and-true (leb v vcap) (leb e ecap && ((v == 0) ⇒ (e == 0) else true)) h in
     let b = and-true (leb e ecap) ((v == 0) ⇒ (e == 0) else true) (a .1) in
     (leb-true v vcap (a .0), leb-true e ecap (b .0))
+
+pub counts-none : (vcap ecap v e : ℕ) → soundCounts vcap ecap v e ≡ true → v ≡ 0 → e ≡ 0
+unfolding soundCounts
+counts-none vcap ecap v e h z =
+    let a = and-true (leb v vcap) (leb e ecap && ((v == 0) ⇒ (e == 0) else true)) h in
+    let b = and-true (leb e ecap) ((v == 0) ⇒ (e == 0) else true) (a .1) in
+    eqb-true e 0 (rw (eq-eqb v 0 z) at (b .1))
 
 -- capacities within the limits are checked as they are
 pub checked-same : (v e t : ℕ) → v ≤ 1000 → e ≤ 4000 → checked v e t ≡ bounds v e t

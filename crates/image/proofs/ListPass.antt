@@ -8,12 +8,12 @@ use lib.Dec.{ltb}
 use lib.ListN.{length, getD, drop, set}
 use lib.Seq.{set-out, getD-set-same, getD-set-other}
 use borrow.Author.Tests.{ne-eqb, eqb-true, eqb-false, ltb-true, ltb-false, not-true}
-use Rattle.lists.specs.Choice.{_==_, _⇒_else_, bit}
-use Rattle.lists.specs.Lists.{has, count, distinct}
-use Rattle.lists.specs.Keyed.{rem}
+use Rattle.lists.specs.Choice.{_==_, _⇒_else_, toBit}
+use Rattle.lists.specs.Lists.{member, count, distinct}
+use Rattle.lists.specs.Keyed.{removeBy}
 use Rattle.lists.proofs.Bools.{ft, and-true, or-none}
 use Rattle.lists.proofs.Sums.{has-count, has-not, bit-le}
-use Rattle.graph.specs.Graph.{Edge, wd}
+use Rattle.graph.specs.Graph.{Edge, itself}
 use Rattle.graph.specs.WellFormed.{wordsAt}
 use Rattle.image.specs.Checks.{numbersIn, goodList, listWalk}
 use Rattle.image.specs.Scratch.{listRun, listOwners, incidenceRun}
@@ -26,35 +26,35 @@ use Rattle.image.proofs.EdgePass.{inside}
 
 -- v owns exactly the words that are wanted, each once
 abbrev pub Owns : ℕ → List ℕ → List ℕ → Type 0
-Owns v own wanted = (w : ℕ) → bit (getD own w 0 == v) ≡ count w wanted
+Owns v own wanted = (w : ℕ) → toBit (getD own w 0 == v) ≡ count w wanted
 
-owns-has : (v : ℕ) (own wanted : List ℕ) → Owns v own wanted → (w : ℕ) → (getD own w 0 == v) ≡ has w wanted
-owns-has v own wanted k w = go (getD own w 0 == v) (has w wanted) refl refl (k w)
+owns-has : (v : ℕ) (own wanted : List ℕ) → Owns v own wanted → (w : ℕ) → (getD own w 0 == v) ≡ member w wanted
+owns-has v own wanted k w = go (getD own w 0 == v) (member w wanted) refl refl (k w)
   where
-    go : (s t : Bool) → (getD own w 0 == v) ≡ s → has w wanted ≡ t → bit s ≡ count w wanted → s ≡ t
+    go : (s t : Bool) → (getD own w 0 == v) ≡ s → member w wanted ≡ t → toBit s ≡ count w wanted → s ≡ t
     go true true e f q = refl
     go true false e f q = absurd (omega (arith, has-not w wanted f))
     go false true e f q = absurd (omega (arith, has-count w wanted f))
     go false false e f q = refl
 
-owns-set : (v : ℕ) (own wanted : List ℕ) (w : ℕ) → 1 ≤ v → Owns v own wanted → has w wanted ≡ true → Owns v (set own w 0) (rem wd w wanted)
+owns-set : (v : ℕ) (own wanted : List ℕ) (w : ℕ) → 1 ≤ v → Owns v own wanted → member w wanted ≡ true → Owns v (set own w 0) (removeBy itself w wanted)
 owns-set v own wanted w l k h x = go (w == x) refl
   where
     at-w : getD own w 0 ≡ v
     at-w = eqb-true (getD own w 0) v (owns-has v own wanted k w ∙ h)
 
-    less : bit (w == x) + count x (rem wd w wanted) ≡ count x wanted
+    less : toBit (w == x) + count x (removeBy itself w wanted) ≡ count x wanted
     less = rem-count w wanted (has-count w wanted h) x
 
-    go : (t : Bool) → (w == x) ≡ t → bit (getD (set own w 0) x 0 == v) ≡ count x (rem wd w wanted)
+    go : (t : Bool) → (w == x) ≡ t → toBit (getD (set own w 0) x 0 == v) ≡ count x (removeBy itself w wanted)
     go true e =
         let q : w ≡ x = eqb-true w x e in
         let s : getD (set own w 0) x 0 ≡ 0 = subst (λ (y : ℕ). getD (set own w 0) y 0 ≡ 0) q (getD-set-same own w 0 0 (inside own w (omega (arith, at-w)))) in
         let z : (0 == v) ≡ false = ne-eqb 0 v (λ r. omega arith) in
-        let less′ : 1 + count x (rem wd w wanted) ≡ count x wanted = rw e at less in
+        let less′ : 1 + count x (removeBy itself w wanted) ≡ count x wanted = rw e at less in
         rw (s, z) (omega (arith, k x, bit-le (getD own x 0 == v)))
     go false e =
-        let less′ : 0 + count x (rem wd w wanted) ≡ count x wanted = rw e at less in
+        let less′ : 0 + count x (removeBy itself w wanted) ≡ count x wanted = rw e at less in
         rw (getD-set-other own w x 0 0 (λ r. eqb-false w x e (sym r))) (omega (arith, k x))
 
 list-agrees : (v d : ℕ) (own wanted ws : List ℕ) → 1 ≤ v → Owns v own wanted → listRun v d own ws ≡ goodList d wanted ws
@@ -62,10 +62,10 @@ unfolding listRun goodList
 list-agrees v zero own wanted ws l k = refl
 list-agrees v (suc d) own wanted [] l k = refl
 list-agrees v (suc d) own wanted (w ∷ ws) l k =
-    rw (owns-has v own wanted k w) (go (λ e. list-agrees v d (set own w 0) (rem wd w wanted) ws l (owns-set v own wanted w l k e)) (has w wanted) refl)
+    rw (owns-has v own wanted k w) (go (λ e. list-agrees v d (set own w 0) (removeBy itself w wanted) ws l (owns-set v own wanted w l k e)) (member w wanted) refl)
   where
-    go : (has w wanted ≡ true → listRun v d (set own w 0) ws ≡ goodList d (rem wd w wanted) ws) → (t : Bool) → has w wanted ≡ t →
-        (t ⇒ suc (listRun v d (set own w 0) ws) else 0) ≡ (t ⇒ suc (goodList d (rem wd w wanted) ws) else 0)
+    go : (member w wanted ≡ true → listRun v d (set own w 0) ws ≡ goodList d (removeBy itself w wanted) ws) → (t : Bool) → member w wanted ≡ t →
+        (t ⇒ suc (listRun v d (set own w 0) ws) else 0) ≡ (t ⇒ suc (goodList d (removeBy itself w wanted) ws) else 0)
     go ih true e = ap suc (ih e)
     go ih false e = refl
 
@@ -83,38 +83,38 @@ taken-keeps u v own w l n a x = go (w == x) refl
         at-w false i = rw (set-out own w 0 (ltb-false w (length own) i))
 
 -- a list of v takes nothing from u
-list-keeps : (u v d : ℕ) (own ws : List ℕ) → 1 ≤ u → (u ≡ v → ⊥) → d ≤ listRun v d own ws → (x : ℕ) → bit (getD (listOwners d own ws) x 0 == u) ≡ bit (getD own x 0 == u)
+list-keeps : (u v d : ℕ) (own ws : List ℕ) → 1 ≤ u → (u ≡ v → ⊥) → d ≤ listRun v d own ws → (x : ℕ) → toBit (getD (listOwners d own ws) x 0 == u) ≡ toBit (getD own x 0 == u)
 unfolding listRun listOwners
 list-keeps u v zero own ws l n h x = refl
 list-keeps u v (suc d) own [] l n h x = absurd (omega arith)
 list-keeps u v (suc d) own (w ∷ ws) l n h x = go (λ i. list-keeps u v d (set own w 0) ws l n i x) (getD own w 0 == v) refl h
   where
-    go : (d ≤ listRun v d (set own w 0) ws → bit (getD (listOwners d (set own w 0) ws) x 0 == u) ≡ bit (getD (set own w 0) x 0 == u)) →
+    go : (d ≤ listRun v d (set own w 0) ws → toBit (getD (listOwners d (set own w 0) ws) x 0 == u) ≡ toBit (getD (set own w 0) x 0 == u)) →
         (t : Bool) → (getD own w 0 == v) ≡ t → suc d ≤ (t ⇒ suc (listRun v d (set own w 0) ws) else 0) →
-        bit (getD (listOwners d (set own w 0) ws) x 0 == u) ≡ bit (getD own x 0 == u)
+        toBit (getD (listOwners d (set own w 0) ws) x 0 == u) ≡ toBit (getD own x 0 == u)
     go ih false e h = absurd (omega arith)
-    go ih true e h = ih (omega arith) ∙ ap bit (taken-keeps u v own w l n (eqb-true (getD own w 0) v e) x)
+    go ih true e h = ih (omega arith) ∙ ap toBit (taken-keeps u v own w l n (eqb-true (getD own w 0) v e) x)
 
 -- ---- each vertex's list in turn
 
-pub has-later : (u v : ℕ) (vs : List ℕ) → has u vs ≡ true → has u (v ∷ vs) ≡ true
+pub has-later : (u v : ℕ) (vs : List ℕ) → member u vs ≡ true → member u (v ∷ vs) ≡ true
 has-later u v vs h = go (v == u)
   where
-    go : (t : Bool) → (t || has u vs) ≡ true
+    go : (t : Bool) → (t || member u vs) ≡ true
     go true = refl
     go false = h
 
-not-has : (u v : ℕ) (vs : List ℕ) → has v vs ≡ false → has u vs ≡ true → u ≡ v → ⊥
-not-has u v vs f h e = true≢false (sym h ∙ subst (λ (y : ℕ). has y vs ≡ false) (sym e) f)
+not-has : (u v : ℕ) (vs : List ℕ) → member v vs ≡ false → member u vs ≡ true → u ≡ v → ⊥
+not-has u v vs f h e = true≢false (sym h ∙ subst (λ (y : ℕ). member y vs ≡ false) (sym e) f)
 
-pub positive : (u : ℕ) (vs : List ℕ) → has 0 vs ≡ false → has u vs ≡ true → 1 ≤ u
+pub positive : (u : ℕ) (vs : List ℕ) → member 0 vs ≡ false → member u vs ≡ true → 1 ≤ u
 positive zero vs f h = ft (sym f ∙ h)
 positive (suc u) vs f h = omega arith
 
 pub incidence-agrees : (size : ℕ) (es : List Edge) (deg own : List ℕ) (k : ℕ) (vs ws : List ℕ) (at : ℕ) →
-    ((v : ℕ) → has v (numbersIn size k vs) ≡ true → getD deg v 0 - 1 ≡ length (wordsAt es v)) →
-    ((v : ℕ) → has v (numbersIn size k vs) ≡ true → Owns v own (wordsAt es v)) →
-    has 0 (numbersIn size k vs) ≡ false → distinct (numbersIn size k vs) ≡ true →
+    ((v : ℕ) → member v (numbersIn size k vs) ≡ true → getD deg v 0 - 1 ≡ length (wordsAt es v)) →
+    ((v : ℕ) → member v (numbersIn size k vs) ≡ true → Owns v own (wordsAt es v)) →
+    member 0 (numbersIn size k vs) ≡ false → distinct (numbersIn size k vs) ≡ true →
     incidenceRun size deg own k vs ws at ≡ listWalk es (numbersIn size k vs) ws at
 unfolding incidenceRun listWalk numbersIn
 incidence-agrees size es deg own zero vs ws at dg ow z ds = refl
@@ -123,14 +123,14 @@ incidence-agrees size es deg own (suc k) vs ws at dg ow z ds =
     let ns = numbersIn size k (drop size vs) in
     let d = length (wordsAt es v) in
     let self = has-self v ns in
-    let dd = and-true (not (has v ns)) (distinct ns) ds in
+    let dd = and-true (not (member v ns)) (distinct ns) ds in
     let tie = list-agrees v d own (wordsAt es v) ws (positive v (v ∷ ns) z self) (ow v self) in
     rw (dg v self, tie)
     (list-same d at (goodList d (wordsAt es v) ws) _ _ λ g.
     incidence-agrees size es deg (listOwners d own ws) k (drop size vs) (drop d ws) (at + d)
     (λ u h. dg u (has-later u v ns h))
     (λ u h w.
-    list-keeps u v d own ws (positive u (v ∷ ns) z (has-later u v ns h)) (not-has u v ns (not-true (has v ns) (dd .0)) h) (rw tie g) w
+    list-keeps u v d own ws (positive u (v ∷ ns) z (has-later u v ns h)) (not-has u v ns (not-true (member v ns) (dd .0)) h) (rw tie g) w
     ∙ ow u (has-later u v ns h) w)
-    (or-none (v == 0) (has 0 ns) z .1)
+    (or-none (v == 0) (member 0 ns) z .1)
     (dd .1))

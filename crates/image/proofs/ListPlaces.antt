@@ -6,7 +6,7 @@ use mathlib.Core.List.{List, [], _∷_, _++_}
 use native.Mathlib.Omega.{arith}
 use lib.ListN.{length, getD, take, drop}
 use lib.Seq.{getD-drop, getD-take, drop-drop, take-at, drop-append-add}
-use Rattle.lists.specs.Lists.{each}
+use Rattle.lists.specs.Lists.{concatMap}
 use Rattle.graph.specs.Graph.{Vertex, Graph, noVertex}
 use Rattle.graph.specs.WellFormed.{Bounds}
 use Rattle.image.specs.Image.{vertexSize, vertexRecord, incidencesOf, vertexOffset, incidenceOffset, saveAs, vertexCount, edgeCount, recordSize, degreeOf, listOffset, ListAt, load, loadable}
@@ -14,12 +14,12 @@ use Rattle.image.proofs.Sizes.{new, row-in}
 use Rattle.image.proofs.Loads.{vertex-words, incidence-words, loaded}
 
 -- a word of record i
-row-word : (vs : List Vertex) (i r : ℕ) → i < length vs → getD (each (vertexRecord vertexSize) vs) (vertexSize * i + r) 0 ≡ getD (vertexRecord vertexSize (getD vs i noVertex) ++ each (vertexRecord vertexSize) (drop (suc i) vs)) r 0
+row-word : (vs : List Vertex) (i r : ℕ) → i < length vs → getD (concatMap (vertexRecord vertexSize) vs) (vertexSize * i + r) 0 ≡ getD (vertexRecord vertexSize (getD vs i noVertex) ++ concatMap (vertexRecord vertexSize) (drop (suc i) vs)) r 0
 row-word [] i r h = absurd (omega arith)
-row-word (v ∷ vs) zero r h = let e : vertexSize * 0 + r ≡ r = omega arith in ap (λ (k : ℕ). getD (each (vertexRecord vertexSize) (v ∷ vs)) k 0) e
+row-word (v ∷ vs) zero r h = let e : vertexSize * 0 + r ≡ r = omega arith in ap (λ (k : ℕ). getD (concatMap (vertexRecord vertexSize) (v ∷ vs)) k 0) e
 row-word (v ∷ vs) (suc i) r h =
     let e : vertexSize * suc i + r ≡ 4 + (vertexSize * i + r) = omega arith in
-    ap (λ (k : ℕ). getD (each (vertexRecord vertexSize) (v ∷ vs)) k 0) e ∙ sym (getD-drop 4 (each (vertexRecord vertexSize) (v ∷ vs)) (vertexSize * i + r) 0) ∙ row-word vs i r (omega arith)
+    ap (λ (k : ℕ). getD (concatMap (vertexRecord vertexSize) (v ∷ vs)) k 0) e ∙ sym (getD-drop 4 (concatMap (vertexRecord vertexSize) (v ∷ vs)) (vertexSize * i + r) 0) ∙ row-word vs i r (omega arith)
 
 -- the words of the first i lists
 total : ℕ → List Vertex → ℕ
@@ -31,18 +31,18 @@ unfolding total
 total-cons zero v vs = omega arith
 total-cons (suc i) v vs = omega (arith, total-cons i v vs)
 
-list-word : (vs : List Vertex) (i : ℕ) → i < length vs → drop (total i vs) (each incidencesOf vs) ≡ getD vs i noVertex .incidences ++ each incidencesOf (drop (suc i) vs)
+list-word : (vs : List Vertex) (i : ℕ) → i < length vs → drop (total i vs) (concatMap incidencesOf vs) ≡ getD vs i noVertex .incidences ++ concatMap incidencesOf (drop (suc i) vs)
 unfolding total
 list-word [] i h = absurd (omega arith)
 list-word (v ∷ vs) zero h = refl
 list-word (v ∷ vs) (suc i) h =
-    ap (λ (k : ℕ). drop k (v .incidences ++ each incidencesOf vs)) (total-cons i v vs) ∙ drop-append-add (v .incidences) (each incidencesOf vs) (total i vs) ∙ list-word vs i (omega arith)
+    ap (λ (k : ℕ). drop k (v .incidences ++ concatMap incidencesOf vs)) (total-cons i v vs) ∙ drop-append-add (v .incidences) (concatMap incidencesOf vs) (total i vs) ∙ list-word vs i (omega arith)
 
 module _ (g : Graph) where
   abbrev saved : List ℕ
   saved = saveAs vertexSize g
 
-  at-row : (i r : ℕ) → i < length (g .vseq) → r < 4 → getD saved (vertexOffset + (vertexSize * i + r)) 0 ≡ getD (each (vertexRecord vertexSize) (g .vseq)) (vertexSize * i + r) 0
+  at-row : (i r : ℕ) → i < length (g .vseq) → r < 4 → getD saved (vertexOffset + (vertexSize * i + r)) 0 ≡ getD (concatMap (vertexRecord vertexSize) (g .vseq)) (vertexSize * i + r) 0
   unfolding saveAs
   at-row i r h l =
       sym (getD-drop vertexOffset saved (vertexSize * i + r) 0)
@@ -67,7 +67,7 @@ module _ (g : Graph) where
   saved-at : (i : ℕ) → i < length (g .vseq) → ListAt saved i (getD (g .vseq) i noVertex)
   saved-at i h =
       let v = getD (g .vseq) i noVertex in
-      let at : drop (listOffset saved i) saved ≡ v .incidences ++ each incidencesOf (drop (suc i) (g .vseq)) =
+      let at : drop (listOffset saved i) saved ≡ v .incidences ++ concatMap incidencesOf (drop (suc i) (g .vseq)) =
       ap (λ (k : ℕ). drop k saved) (offset-at i (omega arith))
       ∙ sym (drop-drop (total i (g .vseq)) (incidenceOffset vertexSize (vertexCount saved) (edgeCount saved)) saved)
       ∙ ap (drop (total i (g .vseq))) (incidence-words vertexSize new g)
@@ -76,7 +76,7 @@ module _ (g : Graph) where
       record {
         number = number-at i h;
         degree = degree-at i h;
-        list = ap (take (degreeOf saved i)) at ∙ take-at (v .incidences) (each incidencesOf (drop (suc i) (g .vseq))) (degreeOf saved i) (sym (degree-at i h));
+        list = ap (take (degreeOf saved i)) at ∙ take-at (v .incidences) (concatMap incidencesOf (drop (suc i) (g .vseq))) (degreeOf saved i) (sym (degree-at i h));
       }
 
 -- the list of the vertex of record i begins at the incidence offset plus the degrees of the records before it

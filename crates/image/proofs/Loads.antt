@@ -10,7 +10,7 @@ use lib.ListN.{length, getD, take, drop, length-append}
 use lib.Seq.{take-at, drop-at, drop-drop}
 use borrow.Author.Tests.{eq-eqb}
 use Rattle.lists.specs.Choice.{_==_}
-use Rattle.lists.specs.Lists.{each, same}
+use Rattle.lists.specs.Lists.{concatMap, equalLists}
 use Rattle.lists.proofs.Bools.{ft, and-true, and-both, or-right}
 use Rattle.graph.specs.Graph.{Vertex, Edge, Graph}
 use Rattle.graph.specs.WellFormed.{Bounds, wellFormed}
@@ -24,27 +24,27 @@ use Rattle.image.proofs.Ends.{sound-fits, incidences-length}
 -- ---- saved words, in records of either size
 
 module _ (size : ℕ) (z : Size size) (g : Graph) where
-  after-vertices : drop (edgeOffset size (length (g .vseq))) (saveAs size g) ≡ each edgeRecord (g .eseq) ++ each incidencesOf (g .vseq)
+  after-vertices : drop (edgeOffset size (length (g .vseq))) (saveAs size g) ≡ concatMap edgeRecord (g .eseq) ++ concatMap incidencesOf (g .vseq)
   unfolding saveAs
   after-vertices =
       sym (drop-drop (size * length (g .vseq)) 6 (saveAs size g))
-      ∙ drop-at (each (vertexRecord size) (g .vseq)) _ (size * length (g .vseq)) (vertices-length size z (g .vseq))
+      ∙ drop-at (concatMap (vertexRecord size) (g .vseq)) _ (size * length (g .vseq)) (vertices-length size z (g .vseq))
 
-  pub vertex-words : vertexPart size (saveAs size g) ≡ each (vertexRecord size) (g .vseq)
+  pub vertex-words : vertexPart size (saveAs size g) ≡ concatMap (vertexRecord size) (g .vseq)
   unfolding saveAs
-  vertex-words = take-at (each (vertexRecord size) (g .vseq)) _ (size * length (g .vseq)) (vertices-length size z (g .vseq))
+  vertex-words = take-at (concatMap (vertexRecord size) (g .vseq)) _ (size * length (g .vseq)) (vertices-length size z (g .vseq))
 
-  pub edge-words : edgePart size (saveAs size g) ≡ each edgeRecord (g .eseq)
+  pub edge-words : edgePart size (saveAs size g) ≡ concatMap edgeRecord (g .eseq)
   unfolding saveAs
   edge-words =
-      ap (take (edgeSize * length (g .eseq))) after-vertices ∙ take-at (each edgeRecord (g .eseq)) _ (edgeSize * length (g .eseq)) (edges-length (g .eseq))
+      ap (take (edgeSize * length (g .eseq))) after-vertices ∙ take-at (concatMap edgeRecord (g .eseq)) _ (edgeSize * length (g .eseq)) (edges-length (g .eseq))
 
-  pub incidence-words : incidencePart size (saveAs size g) ≡ each incidencesOf (g .vseq)
+  pub incidence-words : incidencePart size (saveAs size g) ≡ concatMap incidencesOf (g .vseq)
   unfolding saveAs
   incidence-words =
       sym (drop-drop (edgeSize * length (g .eseq)) (edgeOffset size (length (g .vseq))) (saveAs size g))
       ∙ ap (drop (edgeSize * length (g .eseq))) after-vertices
-      ∙ drop-at (each edgeRecord (g .eseq)) _ (edgeSize * length (g .eseq)) (edges-length (g .eseq))
+      ∙ drop-at (concatMap edgeRecord (g .eseq)) _ (edgeSize * length (g .eseq)) (edges-length (g .eseq))
 
   load-save : Fits (g .eseq) (g .vseq) → loadAs size (saveAs size g) ≡ g
   unfolding loadAs saveAs
@@ -53,7 +53,7 @@ module _ (size : ℕ) (z : Size size) (g : Graph) where
       let es : edgesFrom (length (g .eseq)) (edgePart size ws) ≡ g .eseq = ap (edgesFrom (length (g .eseq))) edge-words ∙ edges-back (g .eseq) in
       let vs : verticesFrom size (edgesFrom (length (g .eseq)) (edgePart size ws)) (length (g .vseq)) (vertexPart size ws) (incidencePart size ws) ≡ g .vseq =
       ap₂ (λ (y x : List ℕ). verticesFrom size (edgesFrom (length (g .eseq)) (edgePart size ws)) (length (g .vseq)) y x) vertex-words incidence-words
-      ∙ ap (λ (x : List Edge). verticesFrom size x (length (g .vseq)) (each (vertexRecord size) (g .vseq)) (each incidencesOf (g .vseq))) es
+      ∙ ap (λ (x : List Edge). verticesFrom size x (length (g .vseq)) (concatMap (vertexRecord size) (g .vseq)) (concatMap incidencesOf (g .vseq))) es
       ∙ vertices-back size z (g .eseq) (g .vseq) f
       in
       λ i. record { vseq = vs i; eseq = es i }
@@ -65,8 +65,8 @@ module _ (size : ℕ) (z : Size size) (g : Graph) where
     length-saved =
         omega (
           arith,
-          length-append (each (vertexRecord size) (g .vseq)) (each edgeRecord (g .eseq) ++ each incidencesOf (g .vseq)),
-          length-append (each edgeRecord (g .eseq)) (each incidencesOf (g .vseq)),
+          length-append (concatMap (vertexRecord size) (g .vseq)) (concatMap edgeRecord (g .eseq) ++ concatMap incidencesOf (g .vseq)),
+          length-append (concatMap edgeRecord (g .eseq)) (concatMap incidencesOf (g .vseq)),
           vertices-length size z (g .vseq),
           edges-length (g .eseq),
           incidences-length b g (formed b g h),
@@ -77,7 +77,7 @@ module _ (size : ℕ) (z : Size size) (g : Graph) where
     header-fits =
         let head = headerOf size (length (g .vseq)) (length (g .eseq)) in
         let total = lengthAs size (length (g .vseq)) (length (g .eseq)) in
-        and-both (same head head) (length (saveAs size g) == total) (same-refl head) (eq-eqb (length (saveAs size g)) total length-saved)
+        and-both (equalLists head head) (length (saveAs size g) == total) (same-refl head) (eq-eqb (length (saveAs size g)) total length-saved)
 
     pub header-sound : soundHeader (saveAs size g) ≡ true
     header-sound = sound-as size z (saveAs size g) header-fits
@@ -148,12 +148,12 @@ module _ (b : Bounds) (g : Graph) (h : wellFormed b g ≡ true) where
   pub saves-loads : (ws : List ℕ) → SavesAs g ws → loadable b ws ≡ true
   unfolding loadable
   saves-loads ws s =
-      subst (λ (x : Graph). (soundHeader ws && wellFormed b x && (same ws (save x) || same ws (saveOld x))) ≡ true) (sym (loads-back ws s))
-      (and-both (soundHeader ws && wellFormed b g) (same ws (save g) || same ws (saveOld g))
+      subst (λ (x : Graph). (soundHeader ws && wellFormed b x && (equalLists ws (save x) || equalLists ws (saveOld x))) ≡ true) (sym (loads-back ws s))
+      (and-both (soundHeader ws && wellFormed b g) (equalLists ws (save g) || equalLists ws (saveOld g))
       (and-both (soundHeader ws) (wellFormed b g) (subst (λ (l : List ℕ). soundHeader l ≡ true) (saved-shown g ws s) (header-sound (recordSize ws) (record-size ws) g b h)) h)
       (elim s [
-        | inl e ↦ subst (λ (l : List ℕ). (same l (save g) || same l (saveOld g)) ≡ true) e (rw (same-refl (save g)))
-        | inr e ↦ subst (λ (l : List ℕ). (same l (save g) || same l (saveOld g)) ≡ true) e (or-right (same (saveOld g) (save g)) (same (saveOld g) (saveOld g)) (same-refl (saveOld g)))
+        | inl e ↦ subst (λ (l : List ℕ). (equalLists l (save g) || equalLists l (saveOld g)) ≡ true) e (rw (same-refl (save g)))
+        | inr e ↦ subst (λ (l : List ℕ). (equalLists l (save g) || equalLists l (saveOld g)) ≡ true) e (or-right (equalLists (saveOld g) (save g)) (equalLists (saveOld g) (saveOld g)) (same-refl (saveOld g)))
       ]))
 
   pub saved-loads : loadable b (save g) ≡ true
@@ -170,12 +170,12 @@ pub loaded : (b : Bounds) (ws : List ℕ) → loadable b ws ≡ true → Loaded 
 unfolding loadable
 loaded b ws h =
     let g = load ws in
-    let a = and-true (soundHeader ws && wellFormed b g) (same ws (save g) || same ws (saveOld g)) h in
+    let a = and-true (soundHeader ws && wellFormed b g) (equalLists ws (save g) || equalLists ws (saveOld g)) h in
     let c = and-true (soundHeader ws) (wellFormed b g) (a .0) in
-    let s = either (same ws (save g)) (same ws (saveOld g)) refl refl (a .1) in
+    let s = either (equalLists ws (save g)) (equalLists ws (saveOld g)) refl refl (a .1) in
     record { header = c .0; formed = c .1; saves = s; again = saved-shown g ws s }
   where
-    either : (x y : Bool) → same ws (save (load ws)) ≡ x → same ws (saveOld (load ws)) ≡ y → (x || y) ≡ true → SavesAs (load ws) ws
+    either : (x y : Bool) → equalLists ws (save (load ws)) ≡ x → equalLists ws (saveOld (load ws)) ≡ y → (x || y) ≡ true → SavesAs (load ws) ws
     either true y e f q = inl (sym (same-eq ws (save (load ws)) e))
     either false true e f q = inr (sym (same-eq ws (saveOld (load ws)) f))
     either false false e f q = ft q
@@ -184,7 +184,7 @@ loaded b ws h =
 pub loads : (b : Bounds) (ws : List ℕ) → (loadable b ws ≡ true) ↔ ((g : Graph) × (wellFormed b g ≡ true) × SavesAs g ws)
 loads b ws = (λ h. let l = loaded b ws h in (load ws, l .formed, l .saves), λ s. saves-loads b (s .0) (s .1) ws (s .2))
 
--- saving what either record loaded gives new words, for the same graph; new words are saved as they were
+-- what was loaded, by old words or new, is saved with degrees and is then the same graph; new words come back unchanged
 module _ (b : Bounds) (ws : List ℕ) (h : loadable b ws ≡ true) where
   pub saved-anew : (recordSize (save (load ws)) ≡ vertexSize) × (loadable b (save (load ws)) ≡ true) × (load (save (load ws)) ≡ load ws)
   saved-anew = let f = loaded b ws h .formed in (new-size (load ws), saved-loads b (load ws) f, saved-same b (load ws) f)

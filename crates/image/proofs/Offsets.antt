@@ -10,9 +10,9 @@ use lib.ListN.{length, getD, drop, length-drop}
 use lib.Seq.{getD-drop}
 use borrow.Author.Tests.{ltb-true, ltb-false}
 use Rattle.lists.specs.Choice.{_⇒_else_, within}
-use Rattle.lists.specs.Lists.{has}
-use Rattle.lists.specs.Keyed.{rem}
-use Rattle.graph.specs.Graph.{Edge, wd, isReading}
+use Rattle.lists.specs.Lists.{member}
+use Rattle.lists.specs.Keyed.{removeBy}
+use Rattle.graph.specs.Graph.{Edge, itself, isReading}
 use Rattle.graph.specs.WellFormed.{wordsAt}
 use Rattle.image.specs.Checks.{goodVertex, goodEdge, goodDegree, recordAt, vertexWalk, edgeWalk, degreeWalk, goodList, listAt, listWalk, andThen}
 use Rattle.image.specs.declared.Verdict.{Verdict}
@@ -119,7 +119,7 @@ vertex-cut true true true z′ u′ h k = rw (h (omega arith), k (omega arith))
 
 -- how many words of the first record are sound
 abbrev pub vertexAt : ℕ → ℕ → List ℕ → List ℕ → ℕ
-vertexAt cap types seen ws = goodVertex cap types (not (has (getD ws 0 0) seen)) (getD ws 0 0) (getD ws 1 0) (getD ws 2 0)
+vertexAt cap types seen ws = goodVertex cap types (not (member (getD ws 0 0) seen)) (getD ws 0 0) (getD ws 1 0) (getD ws 2 0)
 
 -- us has the words of the records of ws up to the place m, their degrees left aside
 abbrev pub UptoRecords : ℕ → ℕ → ℕ → List ℕ → List ℕ → Type 0
@@ -176,7 +176,7 @@ module _ (size : ℕ) (z : Size size) (cap types : ℕ) where
   unfolding goodVertex
   vertex-same seen us ws a =
       rw (a 0 (omega arith) (omega arith))
-      (vertex-cut (within 1 cap (getD ws 0 0) && not (has (getD ws 0 0) seen)) (ltb (getD ws 1 0) types) (ltb (getD ws 2 0) (2 ^ 32)) (ltb (getD us 1 0) types) (ltb (getD us 2 0) (2 ^ 32))
+      (vertex-cut (within 1 cap (getD ws 0 0) && not (member (getD ws 0 0) seen)) (ltb (getD ws 1 0) types) (ltb (getD ws 2 0) (2 ^ 32)) (ltb (getD us 1 0) types) (ltb (getD us 2 0) (2 ^ 32))
       (λ h. ap (λ (t : ℕ). ltb t types) (a 1 (omega arith) h)) (λ h. ap (λ (x : ℕ). ltb x (2 ^ 32)) (a 2 (omega arith) h)))
 
   -- the place of the bad word, in the record or behind it
@@ -215,7 +215,7 @@ edge-cut true true true true true true a′ b′ z′ u′ v′ h1 h2 h3 h4 h5 =
 
 abbrev pub edgeAt : ℕ → ℕ → List ℕ → List ℕ → List ℕ → ℕ
 edgeAt cap types ns seen ws =
-    goodEdge cap types (not (has (getD ws 0 0) seen)) (has (getD ws 1 0) ns) (has (getD ws 2 0) ns) (getD ws 0 0) (getD ws 3 0) (getD ws 4 0) (getD ws 5 0)
+    goodEdge cap types (not (member (getD ws 0 0) seen)) (member (getD ws 1 0) ns) (member (getD ws 2 0) ns) (getD ws 0 0) (getD ws 3 0) (getD ws 4 0) (getD ws 5 0)
 
 module _ (cap types : ℕ) (ns : List ℕ) where
   pub edge-range : (seen : List ℕ) (k : ℕ) (ws : List ℕ) (at m : ℕ) → edgeWalk cap types ns seen k ws at ≡ BadRecord m → (at ≤ m) × (m < at + 6 * k)
@@ -235,10 +235,10 @@ module _ (cap types : ℕ) (ns : List ℕ) where
   unfolding goodEdge
   edge-same seen us ws a =
       rw (a 0 (omega arith) (omega arith))
-      (edge-cut (within 1 cap (getD ws 0 0) && not (has (getD ws 0 0) seen)) (has (getD ws 1 0) ns) (has (getD ws 2 0) ns) (ltb (getD ws 3 0) types) (leb (getD ws 4 0) 2) (isReading (getD ws 4 0) (getD ws 5 0))
-      (has (getD us 1 0) ns) (has (getD us 2 0) ns) (ltb (getD us 3 0) types) (leb (getD us 4 0) 2) (isReading (getD us 4 0) (getD us 5 0))
-      (λ h. ap (λ (x : ℕ). has x ns) (a 1 (omega arith) h))
-      (λ h. ap (λ (x : ℕ). has x ns) (a 2 (omega arith) h))
+      (edge-cut (within 1 cap (getD ws 0 0) && not (member (getD ws 0 0) seen)) (member (getD ws 1 0) ns) (member (getD ws 2 0) ns) (ltb (getD ws 3 0) types) (leb (getD ws 4 0) 2) (isReading (getD ws 4 0) (getD ws 5 0))
+      (member (getD us 1 0) ns) (member (getD us 2 0) ns) (ltb (getD us 3 0) types) (leb (getD us 4 0) 2) (isReading (getD us 4 0) (getD us 5 0))
+      (λ h. ap (λ (x : ℕ). member x ns) (a 1 (omega arith) h))
+      (λ h. ap (λ (x : ℕ). member x ns) (a 2 (omega arith) h))
       (λ h. ap (λ (x : ℕ). ltb x types) (a 3 (omega arith) h))
       (λ h. ap (λ (x : ℕ). leb x 2) (a 4 (omega arith) h))
       (λ h. ap (λ (x : ℕ). isReading x (getD us 5 0)) (a 4 (omega arith) (omega (arith, h))) ∙ ap (λ (x : ℕ). isReading (getD ws 4 0) x) (a 5 (omega arith) h)))
@@ -330,10 +330,10 @@ good-same zero wanted us ws e a = refl
 good-same (suc d) wanted [] [] e a = refl
 good-same (suc d) wanted [] (w ∷ ws) e a = absurd (omega arith)
 good-same (suc d) wanted (u ∷ us) [] e a = absurd (omega arith)
-good-same (suc d) wanted (u ∷ us) (w ∷ ws) e a = rw (a 0 (omega arith) (omega arith)) (go (λ k. good-same d (rem wd w wanted) us ws (omega arith) k) (has w wanted) refl)
+good-same (suc d) wanted (u ∷ us) (w ∷ ws) e a = rw (a 0 (omega arith) (omega arith)) (go (λ k. good-same d (removeBy itself w wanted) us ws (omega arith) k) (member w wanted) refl)
   where
-    go : (((i : ℕ) → i < d → i ≤ goodList d (rem wd w wanted) ws → getD us i 0 ≡ getD ws i 0) → goodList d (rem wd w wanted) us ≡ goodList d (rem wd w wanted) ws) →
-        (t : Bool) → has w wanted ≡ t → _≡_ {A = ℕ} (t ⇒ suc (goodList d (rem wd w wanted) us) else 0) (t ⇒ suc (goodList d (rem wd w wanted) ws) else 0)
+    go : (((i : ℕ) → i < d → i ≤ goodList d (removeBy itself w wanted) ws → getD us i 0 ≡ getD ws i 0) → goodList d (removeBy itself w wanted) us ≡ goodList d (removeBy itself w wanted) ws) →
+        (t : Bool) → member w wanted ≡ t → _≡_ {A = ℕ} (t ⇒ suc (goodList d (removeBy itself w wanted) us) else 0) (t ⇒ suc (goodList d (removeBy itself w wanted) ws) else 0)
     go ih true f = ap suc (ih (λ i l g. a (suc i) (omega arith) (rw f (omega arith))))
     go ih false f = refl
 

@@ -8,7 +8,7 @@ use lib.ListN.{length, length-append}
 use lib.Seq.{take-at, drop-at}
 use borrow.Author.Tests.{eqb-true, eq-eqb}
 use Rattle.lists.specs.Choice.{_==_}
-use Rattle.lists.specs.Lists.{each, same}
+use Rattle.lists.specs.Lists.{concatMap, equalLists}
 use Rattle.lists.proofs.Bools.{ft, and-true, and-both}
 use Rattle.graph.specs.Graph.{Vertex, Edge}
 use Rattle.graph.specs.WellFormed.{wordsAt}
@@ -16,31 +16,31 @@ use Rattle.image.specs.Image.{vertexRecord, edgeSize, edgeRecord, incide
 use Rattle.graph.proofs.Readings.{reading-back}
 use Rattle.image.proofs.Sizes.{Size, degree-length}
 
-pub same-eq : (xs ys : List ℕ) → same xs ys ≡ true → xs ≡ ys
+pub same-eq : (xs ys : List ℕ) → equalLists xs ys ≡ true → xs ≡ ys
 same-eq [] [] e = refl
 same-eq [] (y ∷ ys) e = ft e
 same-eq (x ∷ xs) [] e = ft e
 same-eq (x ∷ xs) (y ∷ ys) e =
-    let a = and-true (x == y) (same xs ys) e in
+    let a = and-true (x == y) (equalLists xs ys) e in
     ap₂ _∷_ (eqb-true x y (a .0)) (same-eq xs ys (a .1))
 
-pub same-refl : (xs : List ℕ) → same xs xs ≡ true
+pub same-refl : (xs : List ℕ) → equalLists xs xs ≡ true
 same-refl [] = refl
-same-refl (x ∷ xs) = and-both (x == x) (same xs xs) (eq-eqb x x refl) (same-refl xs)
+same-refl (x ∷ xs) = and-both (x == x) (equalLists xs xs) (eq-eqb x x refl) (same-refl xs)
 
 pub record-length : (size : ℕ) → Size size → (v : Vertex) → length (vertexRecord size v) ≡ size
 record-length size z v = omega (arith, degree-length size z (length (v .incidences)))
 
-pub vertices-length : (size : ℕ) → Size size → (vs : List Vertex) → length (each (vertexRecord size) vs) ≡ size * length vs
+pub vertices-length : (size : ℕ) → Size size → (vs : List Vertex) → length (concatMap (vertexRecord size) vs) ≡ size * length vs
 vertices-length size z [] = omega arith
 vertices-length size z (v ∷ vs) =
-    omega (arith, length-append (vertexRecord size v) (each (vertexRecord size) vs), record-length size z v, vertices-length size z vs)
+    omega (arith, length-append (vertexRecord size v) (concatMap (vertexRecord size) vs), record-length size z v, vertices-length size z vs)
 
-pub edges-length : (es : List Edge) → length (each edgeRecord es) ≡ edgeSize * length es
+pub edges-length : (es : List Edge) → length (concatMap edgeRecord es) ≡ edgeSize * length es
 edges-length [] = refl
 edges-length (e ∷ es) = omega (arith, edges-length es)
 
-pub edges-back : (es : List Edge) → edgesFrom (length es) (each edgeRecord es) ≡ es
+pub edges-back : (es : List Edge) → edgesFrom (length es) (concatMap edgeRecord es) ≡ es
 unfolding edgesFrom
 edges-back [] = refl
 edges-back (e ∷ es) =
@@ -54,13 +54,13 @@ Fits es [] = Unit {0}
 Fits es (v ∷ vs) = (length (v .incidences) ≡ length (wordsAt es (v .number))) × Fits es vs
 
 pub vertices-back : (size : ℕ) → Size size → (es : List Edge) (vs : List Vertex) → Fits es vs →
-    verticesFrom size es (length vs) (each (vertexRecord size) vs) (each incidencesOf vs) ≡ vs
+    verticesFrom size es (length vs) (concatMap (vertexRecord size) vs) (concatMap incidencesOf vs) ≡ vs
 unfolding verticesFrom Fits
 vertices-back size z es [] f = refl
 vertices-back size z es (v ∷ vs) f =
     rw (
-      drop-at (vertexRecord size v) (each (vertexRecord size) vs) size (record-length size z v),
-      take-at (v .incidences) (each incidencesOf vs) _ (f .0),
-      drop-at (v .incidences) (each incidencesOf vs) _ (f .0),
+      drop-at (vertexRecord size v) (concatMap (vertexRecord size) vs) size (record-length size z v),
+      take-at (v .incidences) (concatMap incidencesOf vs) _ (f .0),
+      drop-at (v .incidences) (concatMap incidencesOf vs) _ (f .0),
       vertices-back size z es vs (f .1),
     )

@@ -10,13 +10,13 @@ use lib.ListN.{length, drop}
 use lib.Seq.{drop-at}
 use borrow.Author.Tests.{eq-eqb, eqb-true, le-ltb, le-leb, not-true}
 use Rattle.lists.specs.Choice.{_==_, _⇒_else_}
-use Rattle.lists.specs.Lists.{any, all, has, count, distinct, each}
-use Rattle.lists.specs.Keyed.{rem}
+use Rattle.lists.specs.Lists.{any, all, member, count, distinct, concatMap}
+use Rattle.lists.specs.Keyed.{removeBy}
 use Rattle.lists.proofs.Bools.{tf, ft, and-true}
 use Rattle.lists.proofs.Sums.{count-has, Alike, alike-length}
 use Rattle.graph.specs.declared.Reading.{Reading}
 use Rattle.graph.specs.declared.Reading.the-variants.{Untested, Silent, Heard}
-use Rattle.graph.specs.Graph.{Vertex, Edge, Graph, vn, en, wd, isVertex, hasVertex, readingKind}
+use Rattle.graph.specs.Graph.{Vertex, Edge, Graph, vertexNumber, edgeNumber, itself, isVertex, hasVertex, readingKind}
 use Rattle.graph.specs.WellFormed.{Bounds, wordsAt, soundVertex, soundEdge, wellFormed}
 use Rattle.image.specs.Image.{vertexRecord, edgeRecord, incidencesOf, vertexOffset, edgeOffset, incidenceOffset, saveAs, vertexCount, edgeCount, recordSize, load, loadable}
 use Rattle.image.specs.Checks.{goodVertex, goodEdge, vertexWalk, numbersIn, edgeWalk, degreeWalk, goodList, listWalk, soundCounts, partsVerdict, verdict}
@@ -33,42 +33,42 @@ use Rattle.image.proofs.DegreePass.{degree-whole}
 use Rattle.image.proofs.SoundLoads.{sound-loads}
 
 -- later numbers are not seen, once n is
-later : (n : ℕ) (seen ns : List ℕ) → has n ns ≡ false → ((m : ℕ) → has m (n ∷ ns) ≡ true → has m seen ≡ false) → (m : ℕ) → has m ns ≡ true → has m (n ∷ seen) ≡ false
+later : (n : ℕ) (seen ns : List ℕ) → member n ns ≡ false → ((m : ℕ) → member m (n ∷ ns) ≡ true → member m seen ≡ false) → (m : ℕ) → member m ns ≡ true → member m (n ∷ seen) ≡ false
 later n seen ns f k m h = go (n == m) refl
   where
-    go : (t : Bool) → (n == m) ≡ t → (t || has m seen) ≡ false
-    go true e = tf (sym h ∙ subst (λ (y : ℕ). has y ns ≡ false) (eqb-true n m e) f)
+    go : (t : Bool) → (n == m) ≡ t → (t || member m seen) ≡ false
+    go true e = tf (sym h ∙ subst (λ (y : ℕ). member y ns ≡ false) (eqb-true n m e) f)
     go false e = k m (rw e h)
 
 -- ---- vertices
 
 module _ (size : ℕ) (z : Size size) where
-  behind : (v : Vertex) (vs : List Vertex) → drop size (vertexRecord size v ++ each (vertexRecord size) vs) ≡ each (vertexRecord size) vs
-  behind v vs = drop-at (vertexRecord size v) (each (vertexRecord size) vs) size (record-length size z v)
+  behind : (v : Vertex) (vs : List Vertex) → drop size (vertexRecord size v ++ concatMap (vertexRecord size) vs) ≡ concatMap (vertexRecord size) vs
+  behind v vs = drop-at (vertexRecord size v) (concatMap (vertexRecord size) vs) size (record-length size z v)
 
-  vertices-walk : (b : Bounds) (g : Graph) (seen : List ℕ) (vs : List Vertex) (at : ℕ) → all (soundVertex b g) vs ≡ true → distinct (map vn vs) ≡ true →
-      ((m : ℕ) → has m (map vn vs) ≡ true → has m seen ≡ false) → vertexWalk size (b .vertices) (b .types) seen (length vs) (each (vertexRecord size) vs) at ≡ Sound
+  vertices-walk : (b : Bounds) (g : Graph) (seen : List ℕ) (vs : List Vertex) (at : ℕ) → all (soundVertex b g) vs ≡ true → distinct (map vertexNumber vs) ≡ true →
+      ((m : ℕ) → member m (map vertexNumber vs) ≡ true → member m seen ≡ false) → vertexWalk size (b .vertices) (b .types) seen (length vs) (concatMap (vertexRecord size) vs) at ≡ Sound
   unfolding vertexWalk goodVertex
   vertices-walk b g seen [] at h d k = refl
   vertices-walk b g seen (v ∷ vs) at h d k =
       let a = and-true (soundVertex b g v) (all (soundVertex b g) vs) h in
       let f = vertex-facts b g v (a .0) in
-      let e = and-true (not (has (v .number) (map vn vs))) (distinct (map vn vs)) d in
-      rw (f .number, f .type, f .value, k (v .number) (has-self (v .number) (map vn vs)), behind v vs)
-      (vertices-walk b g (v .number ∷ seen) vs (at + size) (a .1) (e .1) (later (v .number) seen (map vn vs) (not-true (has (v .number) (map vn vs)) (e .0)) k))
+      let e = and-true (not (member (v .number) (map vertexNumber vs))) (distinct (map vertexNumber vs)) d in
+      rw (f .number, f .type, f .value, k (v .number) (has-self (v .number) (map vertexNumber vs)), behind v vs)
+      (vertices-walk b g (v .number ∷ seen) vs (at + size) (a .1) (e .1) (later (v .number) seen (map vertexNumber vs) (not-true (member (v .number) (map vertexNumber vs)) (e .0)) k))
 
-  numbers-each : (vs : List Vertex) → numbersIn size (length vs) (each (vertexRecord size) vs) ≡ map vn vs
+  numbers-each : (vs : List Vertex) → numbersIn size (length vs) (concatMap (vertexRecord size) vs) ≡ map vertexNumber vs
   unfolding numbersIn
   numbers-each [] = refl
   numbers-each (v ∷ vs) = rw (behind v vs) (ap (λ (l : List ℕ). v .number ∷ l) (numbers-each vs))
 
   -- each degree is the length of its list, and so the ends of its vertex
-  degrees-walk : (es : List Edge) (vs : List Vertex) (at : ℕ) → Fits es vs → degreeWalk size es (length vs) (each (vertexRecord size) vs) at ≡ Sound
+  degrees-walk : (es : List Edge) (vs : List Vertex) (at : ℕ) → Fits es vs → degreeWalk size es (length vs) (concatMap (vertexRecord size) vs) at ≡ Sound
   unfolding degreeWalk Fits
   degrees-walk es [] at f = refl
   degrees-walk es (v ∷ vs) at f =
       rw (
-        le-ltb _ size (degree-whole size z (v .number) (v .type) (v .value) (length (wordsAt es (v .number))) (length (v .incidences)) (each (vertexRecord size) vs) (f .0)),
+        le-ltb _ size (degree-whole size z (v .number) (v .type) (v .value) (length (wordsAt es (v .number))) (length (v .incidences)) (concatMap (vertexRecord size) vs) (f .0)),
         behind v vs,
       )
       (degrees-walk es vs (at + size) (f .1))
@@ -80,17 +80,17 @@ kind-le Untested = refl
 kind-le Silent = refl
 kind-le (Heard d) = refl
 
-edges-walk : (b : Bounds) (g : Graph) (ns seen : List ℕ) (es : List Edge) (at : ℕ) → ((m : ℕ) → hasVertex g m ≡ has m ns) → all (soundEdge b g) es ≡ true →
-    distinct (map en es) ≡ true → ((m : ℕ) → has m (map en es) ≡ true → has m seen ≡ false) →
-    edgeWalk (b .edges) (b .types) ns seen (length es) (each edgeRecord es) at ≡ Sound
+edges-walk : (b : Bounds) (g : Graph) (ns seen : List ℕ) (es : List Edge) (at : ℕ) → ((m : ℕ) → hasVertex g m ≡ member m ns) → all (soundEdge b g) es ≡ true →
+    distinct (map edgeNumber es) ≡ true → ((m : ℕ) → member m (map edgeNumber es) ≡ true → member m seen ≡ false) →
+    edgeWalk (b .edges) (b .types) ns seen (length es) (concatMap edgeRecord es) at ≡ Sound
 unfolding edgeWalk goodEdge
 edges-walk b g ns seen [] at u h d k = refl
 edges-walk b g ns seen (x ∷ es) at u h d k =
     let a = and-true (soundEdge b g x) (all (soundEdge b g) es) h in
     let f = edge-facts b g x (a .0) in
-    let e = and-true (not (has (x .number) (map en es))) (distinct (map en es)) d in
-    rw (f .number, k (x .number) (has-self (x .number) (map en es)), sym (u (x .alpha)) ∙ f .starts, sym (u (x .omega)) ∙ f .stops, f .type, kind-le (x .reading), f .reading)
-    (edges-walk b g ns (x .number ∷ seen) es (at + 6) u (a .1) (e .1) (later (x .number) seen (map en es) (not-true (has (x .number) (map en es)) (e .0)) k))
+    let e = and-true (not (member (x .number) (map edgeNumber es))) (distinct (map edgeNumber es)) d in
+    rw (f .number, k (x .number) (has-self (x .number) (map edgeNumber es)), sym (u (x .alpha)) ∙ f .starts, sym (u (x .omega)) ∙ f .stops, f .type, kind-le (x .reading), f .reading)
+    (edges-walk b g ns (x .number ∷ seen) es (at + 6) u (a .1) (e .1) (later (x .number) seen (map edgeNumber es) (not-true (member (x .number) (map edgeNumber es)) (e .0)) k))
 
 -- ---- lists
 
@@ -102,9 +102,9 @@ alike-good (suc d) (y ∷ ys) [] rest e k = absurd (omega (arith, self-one y, k 
 alike-good (suc d) (y ∷ ys) (w ∷ xs) rest e k =
     let c : 1 ≤ count w (y ∷ ys) = omega (arith, self-one w, k w) in
     rw (count-has w (y ∷ ys) c)
-    (ap suc (alike-good d (rem wd w (y ∷ ys)) xs rest (omega (arith, rem-length w (y ∷ ys) c)) (λ x. omega (arith, rem-count w (y ∷ ys) c x, k x))))
+    (ap suc (alike-good d (removeBy itself w (y ∷ ys)) xs rest (omega (arith, rem-length w (y ∷ ys) c)) (λ x. omega (arith, rem-count w (y ∷ ys) c x, k x))))
 
-lists-walk : (b : Bounds) (g : Graph) (vs : List Vertex) (at : ℕ) → all (soundVertex b g) vs ≡ true → listWalk (g .eseq) (map vn vs) (each incidencesOf vs) at ≡ Sound
+lists-walk : (b : Bounds) (g : Graph) (vs : List Vertex) (at : ℕ) → all (soundVertex b g) vs ≡ true → listWalk (g .eseq) (map vertexNumber vs) (concatMap incidencesOf vs) at ≡ Sound
 unfolding listWalk
 lists-walk b g [] at h = refl
 lists-walk b g (v ∷ vs) at h =
@@ -112,9 +112,9 @@ lists-walk b g (v ∷ vs) at h =
     let k = vertex-facts b g v (a .0) .words in
     let wanted = wordsAt (g .eseq) (v .number) in
     rw (
-      alike-good (length wanted) wanted (v .incidences) (each incidencesOf vs) refl k,
+      alike-good (length wanted) wanted (v .incidences) (concatMap incidencesOf vs) refl k,
       le-ltb (length wanted) (length wanted) (omega arith),
-      drop-at (v .incidences) (each incidencesOf vs) (length wanted) (alike-length (v .incidences) wanted k),
+      drop-at (v .incidences) (concatMap incidencesOf vs) (length wanted) (alike-length (v .incidences) wanted k),
     )
     (lists-walk b g vs (at + length wanted) (a .1))
 
@@ -143,16 +143,16 @@ module _ (b : Bounds) (g : Graph) (h : wellFormed b g ≡ true) where
       go false e = refl
 
   module _ (size : ℕ) (z : Size size) where
-    first : vertexWalk size (b .vertices) (b .types) [] (length (g .vseq)) (each (vertexRecord size) (g .vseq)) vertexOffset ≡ Sound
+    first : vertexWalk size (b .vertices) (b .types) [] (length (g .vseq)) (concatMap (vertexRecord size) (g .vseq)) vertexOffset ≡ Sound
     first = vertices-walk size z b g [] (g .vseq) vertexOffset (p .vertices-sound) (p .vertex-numbers) (λ m e. refl)
 
-    second : (at : ℕ) → edgeWalk (b .edges) (b .types) (map vn (g .vseq)) [] (length (g .eseq)) (each edgeRecord (g .eseq)) at ≡ Sound
-    second at = edges-walk b g (map vn (g .vseq)) [] (g .eseq) at (λ m. has-number m (g .vseq)) (p .edges-sound) (p .edge-numbers) (λ m e. refl)
+    second : (at : ℕ) → edgeWalk (b .edges) (b .types) (map vertexNumber (g .vseq)) [] (length (g .eseq)) (concatMap edgeRecord (g .eseq)) at ≡ Sound
+    second at = edges-walk b g (map vertexNumber (g .vseq)) [] (g .eseq) at (λ m. has-number m (g .vseq)) (p .edges-sound) (p .edge-numbers) (λ m e. refl)
 
-    third : degreeWalk size (g .eseq) (length (g .vseq)) (each (vertexRecord size) (g .vseq)) vertexOffset ≡ Sound
+    third : degreeWalk size (g .eseq) (length (g .vseq)) (concatMap (vertexRecord size) (g .vseq)) vertexOffset ≡ Sound
     third = degrees-walk size z (g .eseq) (g .vseq) vertexOffset (sound-fits b g (g .vseq) (p .vertices-sound))
 
-    fourth : (at : ℕ) → listWalk (g .eseq) (map vn (g .vseq)) (each incidencesOf (g .vseq)) at ≡ Sound
+    fourth : (at : ℕ) → listWalk (g .eseq) (map vertexNumber (g .vseq)) (concatMap incidencesOf (g .vseq)) at ≡ Sound
     fourth at = lists-walk b g (g .vseq) at (p .vertices-sound)
 
     -- all four walks over saved words

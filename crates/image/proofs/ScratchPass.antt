@@ -8,17 +8,17 @@ use types.Run.{OneOf}
 use denote.Enum.Declared.{tagOf}
 use lib.ListN.{length, getD, drop, replicate, length-drop, length-replicate}
 use borrow.Author.Tests.{eq-eqb, ne-eqb}
-use Rattle.lists.specs.Choice.{_==_, bit}
-use Rattle.lists.specs.Lists.{has}
+use Rattle.lists.specs.Choice.{_==_, toBit}
+use Rattle.lists.specs.Lists.{member}
 use Rattle.graph.specs.WellFormed.{Bounds, wordsAt}
 use Rattle.image.specs.Image.{vertexOffset, edgeOffset, incidenceOffset, recordSize, soundHeader, vertexCount, edgeCount, part, edgesFrom}
-use Rattle.image.specs.Checks.{bounds, vertexWalk, numbersIn, edgeWalk, degreeWalk, listWalk, soundCounts, andThen, verdict}
+use Rattle.image.specs.Checks.{bounds, vertexWalk, numbersIn, edgeWalk, degreeWalk, listWalk, soundCounts, ended, andThen, verdict}
 use Rattle.image.specs.Scratch.{vertexRun, vertexMarks, edgeRun, edgeDegrees, edgeOwners, degreeRun, incidenceRun, scratchRun}
 use Rattle.image.specs.declared.Verdict.{Verdict}
 use Rattle.image.specs.declared.Verdict.the-variants.{Sound, BadHeader}
 use Rattle.image.proofs.Verdict.{the-type}
 use Rattle.image.proofs.Verdicts.{stop, then-same}
-use Rattle.image.proofs.Headers.{sound-length}
+use Rattle.image.proofs.Headers.{sound-length, counts-none}
 use Rattle.image.proofs.Parts.{part-1, part-2, part-3}
 use Rattle.image.proofs.VertexPass.{Small, small-take, small-drop, Indicator, vertex-agrees, marks-agree, walk-distinct, walk-positive}
 use Rattle.image.proofs.EdgePass.{Marked, Seen, Paired, marked-by, edge-agrees, degrees-agree, owners-agree}
@@ -69,12 +69,12 @@ module _ (deg own : List ℕ) (deg-zero : (i : ℕ) → getD deg i 0 ≡ 0) (own
           (λ n h w.
           let p = positive n numbers nz h in
           let z : (0 == n) ≡ false = ne-eqb 0 n (λ r. omega arith) in
-          let y : bit (getD own w 0 == n) ≡ 0 = rw (own-zero w, z) in
+          let y : toBit (getD own w 0 == n) ≡ 0 = rw (own-zero w, z) in
           omega (arith, y, owners-agree (b .edges) (b .types) numbers nz own [] e es (edgeOffset size v) own-room seen0 paired0 q n p w))
           nz
           (walk-distinct size (b .vertices) (b .types) [] v vs vertexOffset s)))
         where
-          nz : has 0 numbers ≡ false
+          nz : member 0 numbers ≡ false
           nz = walk-positive size (b .vertices) (b .types) [] v vs vertexOffset s
 
           indicator : Indicator numbers marks
@@ -85,9 +85,9 @@ module _ (deg own : List ℕ) (deg-zero : (i : ℕ) → getD deg i 0 ≡ 0) (own
 
           -- deg has 1 more than the ends of each vertex
           counted : edgeWalk (b .edges) (b .types) numbers [] e es (edgeOffset size v) ≡ Sound →
-              (n : ℕ) → has n numbers ≡ true → getD (edgeDegrees marks e es) n 0 - 1 ≡ length (wordsAt (edgesFrom e es) n)
+              (n : ℕ) → member n numbers ≡ true → getD (edgeDegrees marks e es) n 0 - 1 ≡ length (wordsAt (edgesFrom e es) n)
           counted q n h =
-              let m : getD marks n 0 ≡ 1 = indicator n ∙ ap bit h in
+              let m : getD marks n 0 ≡ 1 = indicator n ∙ ap toBit h in
               omega (arith, m, degrees-agree (b .edges) (b .types) numbers nz marks [] e es (edgeOffset size v) marked q n)
 
 -- ---- the passes one by one
@@ -139,3 +139,18 @@ module _ (ws : List ℕ) (h : soundHeader ws ≡ true) where
       let t =
       scratch-agrees (replicate 1001 0) (replicate 8002 0) (zeros 1001) (zeros 8002) (bounds vcap ecap types) (rw length-replicate (omega arith)) (rw length-replicate (omega arith)) size v e vs es is small in
       rw (h, k′) (rw (p ∙ part-1 ws h, q ∙ part-2 ws h, s ∙ part-3 ws h, hs, hv, he) at (g ∙ t))
+
+  -- without a vertex there is nothing to go through
+  pub none-sound : Small ws → (vcap ecap types v e : ℕ) → vcap ≤ 1000 → ecap ≤ 4000 → v ≡ vertexCount ws → e ≡ edgeCount ws → soundCounts vcap ecap v e ≡ true → v ≡ 0 →
+      Sound ≡ verdict (bounds vcap ecap types) ws
+  unfolding scratchRun
+  none-sound m vcap ecap types v e lv le hv he k z =
+      let y = counts-none vcap ecap v e k z in
+      let few : length (part 3 ws) ≡ 0 =
+      omega (arith, y, he, sound-length ws h, ap length (part-3 ws h), length-drop (incidenceOffset (recordSize ws) (vertexCount ws) (edgeCount ws)) ws) in
+      verdict-by m vcap ecap types (recordSize ws) v e lv le refl hv he k (part 1 ws) (part 2 ws) (part 3 ws) refl refl refl Sound
+      (rw (z, y) (sym (no-words (part 3 ws) few _)))
+    where
+      no-words : (is : List ℕ) → length is ≡ 0 → (at : ℕ) → ended is at ≡ Sound
+      no-words [] l at = refl
+      no-words (x ∷ is) l at = absurd (omega arith)

@@ -8,13 +8,13 @@ use lib.Dec.{leb, ltb, eqb}
 use lib.ListN.{length, getD, take, drop, length-drop, take-append-drop}
 use lib.Seq.{drop-drop, length-take-le}
 use borrow.Author.Tests.{ne-eqb, eqb-true, eqb-false, leb-true, not-true}
-use Rattle.lists.specs.Choice.{_==_, _⇒_else_, bit, within}
-use Rattle.lists.specs.Lists.{all, has, count, distinct, each}
-use Rattle.lists.specs.Keyed.{rem}
+use Rattle.lists.specs.Choice.{_==_, _⇒_else_, toBit, within}
+use Rattle.lists.specs.Lists.{all, member, count, distinct, concatMap}
+use Rattle.lists.specs.Keyed.{removeBy}
 use Rattle.lists.proofs.Bools.{tf, ft, and-both}
 use Rattle.lists.proofs.Sums.{has-count, Alike, alike-same, alike-length}
 use Rattle.graph.specs.declared.Reading.the-variants.{Untested, Silent, Heard}
-use Rattle.graph.specs.Graph.{Edge, Graph, vn, en, wd, hasVertex, vertexNumbers, edgeNumbers, readingKind, decimetres, readingOf, isReading}
+use Rattle.graph.specs.Graph.{Edge, Graph, vertexNumber, edgeNumber, itself, hasVertex, vertexNumbers, edgeNumbers, readingKind, decimetres, readingOf, isReading}
 use Rattle.graph.specs.WellFormed.{Bounds, wordsAt, sameWords, soundVertex, soundEdge, wellFormed}
 use Rattle.image.specs.Image.{degreeWord, vertexRecord, edgeSize, edgeRecord, incidencesOf, vertexOffset, edgeOffset, incidenceOffset, saveAs, vertexCount, edgeCount, recordSize, soundHeader, vertexPart, edgePart, incidencePart, edgesFrom, verticesFrom, load, loadable}
 use Rattle.image.specs.Checks.{vertexWalk, numbersIn, edgeWalk, degreeWalk, goodList, listWalk, soundCounts, numbersOf, edgesOf, vertexVerdict, edgeVerdict, degreeVerdict, listVerdict, partsVerdict, verdict}
@@ -36,10 +36,10 @@ unfolding goodList
 good-alike zero [] ws e h x = refl
 good-alike zero (y ∷ ys) ws e h x = absurd (omega arith)
 good-alike (suc d) wanted [] e h x = absurd (omega arith)
-good-alike (suc d) wanted (w ∷ ws) e h x = go (λ k m. good-alike d (rem wd w wanted) ws k m x) (has w wanted) refl h
+good-alike (suc d) wanted (w ∷ ws) e h x = go (λ k m. good-alike d (removeBy itself w wanted) ws k m x) (member w wanted) refl h
   where
-    go : (length (rem wd w wanted) ≡ d → d ≤ goodList d (rem wd w wanted) ws → count x (take d ws) ≡ count x (rem wd w wanted)) → (t : Bool) → has w wanted ≡ t →
-        suc d ≤ (t ⇒ suc (goodList d (rem wd w wanted) ws) else 0) → bit (w == x) + count x (take d ws) ≡ count x wanted
+    go : (length (removeBy itself w wanted) ≡ d → d ≤ goodList d (removeBy itself w wanted) ws → count x (take d ws) ≡ count x (removeBy itself w wanted)) → (t : Bool) → member w wanted ≡ t →
+        suc d ≤ (t ⇒ suc (goodList d (removeBy itself w wanted) ws) else 0) → toBit (w == x) + count x (take d ws) ≡ count x wanted
     go ih true f h =
         let c = has-count w wanted f in
         omega (arith, ih (omega (arith, rem-length w wanted c)) (omega arith), rem-count w wanted c x)
@@ -47,7 +47,7 @@ good-alike (suc d) wanted (w ∷ ws) e h x = go (λ k m. good-alike d (rem wd w 
 
 -- ---- vertices
 
-numbers-load : (size : ℕ) (es : List Edge) (k : ℕ) (vs ws : List ℕ) → map vn (verticesFrom size es k vs ws) ≡ numbersIn size k vs
+numbers-load : (size : ℕ) (es : List Edge) (k : ℕ) (vs ws : List ℕ) → map vertexNumber (verticesFrom size es k vs ws) ≡ numbersIn size k vs
 unfolding verticesFrom numbersIn
 numbers-load size es zero vs ws = refl
 numbers-load size es (suc k) vs ws = ap (λ (l : List ℕ). getD vs 0 0 ∷ l) (numbers-load size es k (drop size vs) (drop (length (wordsAt es (getD vs 0 0))) ws))
@@ -100,31 +100,31 @@ reading-known k d h = go (k == 0) (k == 1) refl refl
         two false i = sym (high i)
 
 module _ (cap types : ℕ) (vs : List ℕ) where
-  edge-new : (seen : List ℕ) (k : ℕ) (ws : List ℕ) (at m : ℕ) → edgeWalk cap types vs seen k ws at ≡ Sound → has m seen ≡ true → has m (map en (edgesFrom k ws)) ≡ false
+  edge-new : (seen : List ℕ) (k : ℕ) (ws : List ℕ) (at m : ℕ) → edgeWalk cap types vs seen k ws at ≡ Sound → member m seen ≡ true → member m (map edgeNumber (edgesFrom k ws)) ≡ false
   unfolding edgesFrom
   edge-new seen zero ws at m s h = refl
   edge-new seen (suc k) ws at m s h =
       let r = edge-step cap types vs seen k ws at s in
-      go (not-true (has (getD ws 0 0) seen) (r .ok .new)) (edge-new (getD ws 0 0 ∷ seen) k (drop edgeSize ws) (at + edgeSize) m (r .rest)) (getD ws 0 0 == m) refl
+      go (not-true (member (getD ws 0 0) seen) (r .ok .new)) (edge-new (getD ws 0 0 ∷ seen) k (drop edgeSize ws) (at + edgeSize) m (r .rest)) (getD ws 0 0 == m) refl
     where
-      go : has (getD ws 0 0) seen ≡ false → (((getD ws 0 0 == m) || has m seen) ≡ true → has m (map en (edgesFrom k (drop edgeSize ws))) ≡ false) →
-          (t : Bool) → (getD ws 0 0 == m) ≡ t → (t || has m (map en (edgesFrom k (drop edgeSize ws)))) ≡ false
-      go f ih true e = tf (sym (subst (λ (k : ℕ). has k seen ≡ true) (sym (eqb-true (getD ws 0 0) m e)) h) ∙ f)
+      go : member (getD ws 0 0) seen ≡ false → (((getD ws 0 0 == m) || member m seen) ≡ true → member m (map edgeNumber (edgesFrom k (drop edgeSize ws))) ≡ false) →
+          (t : Bool) → (getD ws 0 0 == m) ≡ t → (t || member m (map edgeNumber (edgesFrom k (drop edgeSize ws)))) ≡ false
+      go f ih true e = tf (sym (subst (λ (k : ℕ). member k seen ≡ true) (sym (eqb-true (getD ws 0 0) m e)) h) ∙ f)
       go f ih false e = ih (rw e h)
 
-  edges-distinct : (seen : List ℕ) (k : ℕ) (ws : List ℕ) (at : ℕ) → edgeWalk cap types vs seen k ws at ≡ Sound → distinct (map en (edgesFrom k ws)) ≡ true
+  edges-distinct : (seen : List ℕ) (k : ℕ) (ws : List ℕ) (at : ℕ) → edgeWalk cap types vs seen k ws at ≡ Sound → distinct (map edgeNumber (edgesFrom k ws)) ≡ true
   unfolding edgesFrom
   edges-distinct seen zero ws at s = refl
   edges-distinct seen (suc k) ws at s =
       let n = getD ws 0 0 in
-      let ns = map en (edgesFrom k (drop edgeSize ws)) in
+      let ns = map edgeNumber (edgesFrom k (drop edgeSize ws)) in
       let r = edge-step cap types vs seen k ws at s in
-      and-both (not (has n ns)) (distinct ns)
+      and-both (not (member n ns)) (distinct ns)
       (ap not (edge-new (n ∷ seen) k (drop edgeSize ws) (at + edgeSize) n (r .rest) (has-self n seen)))
       (edges-distinct (n ∷ seen) k (drop edgeSize ws) (at + edgeSize) (r .rest))
 
 edges-sound : (b : Bounds) (g : Graph) (vs seen : List ℕ) (k : ℕ) (ws : List ℕ) (at : ℕ) → edgeWalk (b .edges) (b .types) vs seen k ws at ≡ Sound →
-    ((m : ℕ) → has m vs ≡ true → hasVertex g m ≡ true) → all (soundEdge b g) (edgesFrom k ws) ≡ true
+    ((m : ℕ) → member m vs ≡ true → hasVertex g m ≡ true) → all (soundEdge b g) (edgesFrom k ws) ≡ true
 unfolding edgesFrom
 edges-sound b g vs seen zero ws at s u = refl
 edges-sound b g vs seen (suc k) ws at s u =
@@ -165,7 +165,7 @@ cut-vertex size z ws m e =
 -- where degrees and lists are sound, the records have their words again
 vertices-again : (size : ℕ) → Size size → (es : List Edge) (k : ℕ) (vs ws : List ℕ) (at to : ℕ) → degreeWalk size es k vs at ≡ Sound →
     listWalk es (numbersIn size k vs) ws to ≡ Sound → length vs ≡ size * k →
-    (each (vertexRecord size) (verticesFrom size es k vs ws) ≡ vs) × (length (verticesFrom size es k vs ws) ≡ k)
+    (concatMap (vertexRecord size) (verticesFrom size es k vs ws) ≡ vs) × (length (verticesFrom size es k vs ws) ≡ k)
 unfolding verticesFrom listWalk numbersIn
 vertices-again size z es zero [] ws at to s l e = (refl, refl)
 vertices-again size z es zero (x ∷ vs) ws at to s l e = absurd (omega arith)
@@ -182,7 +182,7 @@ vertices-again size z es (suc k) vs ws at to s l e =
     )
 
 edges-again : (cap types : ℕ) (vs seen : List ℕ) (k : ℕ) (ws : List ℕ) (at : ℕ) → edgeWalk cap types vs seen k ws at ≡ Sound → length ws ≡ edgeSize * k →
-    (each edgeRecord (edgesFrom k ws) ≡ ws) × (length (edgesFrom k ws) ≡ k)
+    (concatMap edgeRecord (edgesFrom k ws) ≡ ws) × (length (edgesFrom k ws) ≡ k)
 unfolding edgesFrom
 edges-again cap types vs seen zero [] at s e = (refl, refl)
 edges-again cap types vs seen zero (x ∷ ws) at s e = absurd (omega arith)
@@ -193,7 +193,7 @@ edges-again cap types vs seen (suc k) ws at s e =
     (rw (q .0, q .1, i .0) (cut6 ws (6 * k) (omega arith)), ap suc (i .1))
 
 lists-again : (size : ℕ) (es : List Edge) (k : ℕ) (vs ws : List ℕ) (at : ℕ) → listWalk es (numbersIn size k vs) ws at ≡ Sound →
-    each incidencesOf (verticesFrom size es k vs ws) ≡ ws
+    concatMap incidencesOf (verticesFrom size es k vs ws) ≡ ws
 unfolding listWalk numbersIn verticesFrom
 lists-again size es zero vs ws at l = sym (ended-nil ws at l)
 lists-again size es (suc k) vs ws at l =
@@ -277,11 +277,11 @@ sound-loads b ws h = saves-loads b (load ws) formed ws (saves-by size z (load ws
     is : List ℕ
     is = incidencePart size ws
 
-    numbers : map vn (load ws .vseq) ≡ numbersOf size ws
+    numbers : map vertexNumber (load ws .vseq) ≡ numbersOf size ws
     numbers = numbers-load size es v vs is
 
-    known : (k : ℕ) → has k (numbersOf size ws) ≡ true → hasVertex (load ws) k ≡ true
-    known k x = has-number k (load ws .vseq) ∙ ap (has k) numbers ∙ x
+    known : (k : ℕ) → member k (numbersOf size ws) ≡ true → hasVertex (load ws) k ≡ true
+    known k x = has-number k (load ws .vseq) ∙ ap (member k) numbers ∙ x
 
     formed : wellFormed b (load ws) ≡ true
     formed =
@@ -293,10 +293,10 @@ sound-loads b ws h = saves-loads b (load ws) formed ws (saves-by size z (load ws
         (vertices-sound size b (load ws) [] v vs is vertexOffset (incidenceOffset size v e) (s .vertices) (s .lists)))
         (edges-sound b (load ws) (numbersOf size ws) [] e (edgePart size ws) (edgeOffset size v) (s .edges) known)
 
-    vs-again : (each (vertexRecord size) (load ws .vseq) ≡ vs) × (length (load ws .vseq) ≡ v)
+    vs-again : (concatMap (vertexRecord size) (load ws .vseq) ≡ vs) × (length (load ws .vseq) ≡ v)
     vs-again = vertices-again size z es v vs is vertexOffset (incidenceOffset size v e) (s .degrees) (s .lists) (long-vertices ws (s .header))
 
-    es-again : (each edgeRecord es ≡ edgePart size ws) × (length es ≡ e)
+    es-again : (concatMap edgeRecord es ≡ edgePart size ws) × (length es ≡ e)
     es-again = edges-again (b .edges) (b .types) (numbersOf size ws) [] e (edgePart size ws) (edgeOffset size v) (s .edges) (long-edges ws (s .header))
 
     again : saveAs size (load ws) ≡ ws

@@ -12,7 +12,7 @@ use borrow.Author.Tests.{eq-eqb, ne-eqb, lt-ltb, le-ltb, leb-true}
 use Rattle.lists.specs.Choice.{_==_, _⇒_else_}
 use Rattle.graph.specs.Graph.{isReading}
 use Rattle.image.specs.Checks.{goodVertex, goodEdge}
-use Rattle.image.specs.Scratch.{Below, bumped, ends, owned, edgeGood, edgeEnds, edgeOwned, vertexRun, vertexMarks, edgeRun, edgeDegrees, edgeOwners, degreeRun, listRun, listOwners, incidenceRun}
+use Rattle.image.specs.Scratch.{NoneAbove, bumped, withEnds, owned, edgeGood, edgeEnds, edgeOwned, vertexRun, vertexMarks, edgeRun, edgeDegrees, edgeOwners, degreeRun, listRun, listOwners, incidenceRun}
 use Rattle.image.specs.declared.Verdict.the-variants.{Sound, BadRecord, BadIncidence}
 
 -- ---- the word at a place of the rest
@@ -193,29 +193,29 @@ module _ (size : ℕ) (deg own : List ℕ) (count i : ℕ) (vs ws : List ℕ) (k
 
 -- ---- bounds of the counts
 
-below-set : (k : ℕ) (s : List ℕ) (v x : ℕ) → Below k s → x ≤ k → Below k (set s v x)
+below-set : (k : ℕ) (s : List ℕ) (v x : ℕ) → NoneAbove k s → x ≤ k → NoneAbove k (set s v x)
 below-set k [] v x b h i = b i
 below-set k (a ∷ s) zero x b h zero = h
 below-set k (a ∷ s) zero x b h (suc i) = b (suc i)
 below-set k (a ∷ s) (suc v) x b h zero = b zero
 below-set k (a ∷ s) (suc v) x b h (suc i) = below-set k s v x (λ j. b (suc j)) h i
 
-pub below-more : (k m : ℕ) (s : List ℕ) → k ≤ m → Below k s → Below m s
+pub below-more : (k m : ℕ) (s : List ℕ) → k ≤ m → NoneAbove k s → NoneAbove m s
 below-more k m s h b i = omega (arith, b i)
 
-pub below-bump : (k : ℕ) (s : List ℕ) (v : ℕ) → Below k s → Below (k + 1) (bumped v s)
+pub below-bump : (k : ℕ) (s : List ℕ) (v : ℕ) → NoneAbove k s → NoneAbove (k + 1) (bumped v s)
 below-bump k s v b = below-set (k + 1) s v (getD s v 0 + 1) (below-more k (k + 1) s (omega arith) b) (omega (arith, b v))
 
-pub below-ends : (at : ℕ) (s : List ℕ) (a o : ℕ) → Below (1 + at) s → Below (1 + (at + 6)) (ends a o s)
+pub below-ends : (at : ℕ) (s : List ℕ) (a o : ℕ) → NoneAbove (1 + at) s → NoneAbove (1 + (at + 6)) (withEnds a o s)
 below-ends at s a o b =
-    below-more (1 + at + 1 + 1) (1 + (at + 6)) (ends a o s) (omega arith) (below-bump (1 + at + 1) (bumped a s) o (below-bump (1 + at) s a b))
+    below-more (1 + at + 1 + 1) (1 + (at + 6)) (withEnds a o s) (omega arith) (below-bump (1 + at + 1) (bumped a s) o (below-bump (1 + at) s a b))
 
-below-marks : (size : ℕ) (deg : List ℕ) (k : ℕ) (ws : List ℕ) → Below 1 deg → Below 1 (vertexMarks size deg k ws)
+below-marks : (size : ℕ) (deg : List ℕ) (k : ℕ) (ws : List ℕ) → NoneAbove 1 deg → NoneAbove 1 (vertexMarks size deg k ws)
 unfolding vertexMarks
 below-marks size deg zero ws b = b
 below-marks size deg (suc k) ws b = below-marks size (set deg (getD ws 0 0) 1) k (drop size ws) (below-set 1 deg (getD ws 0 0) 1 b (omega arith))
 
-below-zeros : (n k : ℕ) → Below k (replicate n 0)
+below-zeros : (n k : ℕ) → NoneAbove k (replicate n 0)
 below-zeros zero k i = omega arith
 below-zeros (suc n) k zero = omega arith
 below-zeros (suc n) k (suc i) = below-zeros n k i
@@ -225,21 +225,21 @@ below-zeros (suc n) k (suc i) = below-zeros n k i
 pub bump-by : (s t : List ℕ) (i x : ℕ) → x ≡ getD s i 0 → t ≡ set s i (x + 1) → t ≡ bumped i s
 bump-by s t i x e f = cc
 
-pub ends-by : (deg d d′ : List ℕ) (a o x y : ℕ) → x ≡ a → d ≡ bumped x deg → y ≡ o → d′ ≡ bumped y d → d′ ≡ ends a o deg
+pub ends-by : (deg d d′ : List ℕ) (a o x y : ℕ) → x ≡ a → d ≡ bumped x deg → y ≡ o → d′ ≡ bumped y d → d′ ≡ withEnds a o deg
 ends-by deg d d′ a o x y e f g h = cc
 
 pub owned-by : (own s s′ : List ℕ) (n a o m : ℕ) → m ≡ n → s ≡ set own (2 * m) a → s′ ≡ set s (2 * m + 1) o → s′ ≡ owned n a o own
 owned-by own s s′ n a o m e f g = cc
 
-pub edge-ends-by : (deg d ws : List ℕ) (at a o : ℕ) → a ≡ getD ws (at + 1) 0 → o ≡ getD ws (at + 2) 0 → d ≡ ends a o deg → d ≡ edgeEnds ws at deg
+pub edge-ends-by : (deg d ws : List ℕ) (at a o : ℕ) → a ≡ getD ws (at + 1) 0 → o ≡ getD ws (at + 2) 0 → d ≡ withEnds a o deg → d ≡ edgeEnds ws at deg
 edge-ends-by deg d ws at a o e f g = cc
 
 pub edge-owned-by : (own s ws : List ℕ) (at n a o : ℕ) → n ≡ getD ws at 0 → a ≡ getD ws (at + 1) 0 → o ≡ getD ws (at + 2) 0 → s ≡ owned n a o own → s ≡ edgeOwned ws at own
 edge-owned-by own s ws at n a o e f g h = cc
 
 -- no count is above 1 once the vertices are marked
-pub below-marked : (d : List ℕ) (n size k : ℕ) (ws : List ℕ) → d ≡ vertexMarks size (replicate n 0) k ws → Below 1 d
-below-marked d n size k ws e = subst (λ (l : List ℕ). Below 1 l) (sym e) (below-marks size (replicate n 0) k ws (below-zeros n 1))
+pub below-marked : (d : List ℕ) (n size k : ℕ) (ws : List ℕ) → d ≡ vertexMarks size (replicate n 0) k ws → NoneAbove 1 d
+below-marked d n size k ws e = subst (λ (l : List ℕ). NoneAbove 1 l) (sym e) (below-marks size (replicate n 0) k ws (below-zeros n 1))
 
 pub edge-by : (cap types : ℕ) (deg own ws : List ℕ) (at n m f a fa o fo t k d r : ℕ) →
     n ≡ getD ws at 0 → m ≡ n → f ≡ getD own (2 * m) 0 → a ≡ getD ws (at + 1) 0 → fa ≡ getD deg a 0 → o ≡ getD ws (at + 2) 0 → fo ≡ getD deg o 0 →

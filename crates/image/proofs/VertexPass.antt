@@ -8,15 +8,15 @@ use lib.Dec.{eqb}
 use lib.ListN.{length, getD, take, drop, set, length-set}
 use lib.Seq.{getD-set-same, getD-set-other}
 use borrow.Author.Tests.{eq-eqb, ne-eqb, eqb-true, eqb-false, not-true}
-use Rattle.lists.specs.Choice.{_==_, bit}
-use Rattle.lists.specs.Lists.{has, distinct}
+use Rattle.lists.specs.Choice.{_==_, toBit}
+use Rattle.lists.specs.Lists.{member, distinct}
 use Rattle.lists.proofs.Bools.{tf, and-both, within-range, or-false}
 use Rattle.image.specs.Checks.{goodVertex, vertexWalk, numbersIn}
 use Rattle.image.specs.Scratch.{vertexRun, vertexMarks}
 use Rattle.image.specs.declared.Verdict.the-variants.{Sound}
 use Rattle.image.proofs.Verdicts.{record-same, record-sound, VertexOk, vertex-ok, any-value}
 
-pub has-self : (n : ℕ) (ns : List ℕ) → has n (n ∷ ns) ≡ true
+pub has-self : (n : ℕ) (ns : List ℕ) → member n (n ∷ ns) ≡ true
 has-self n ns = rw (eq-eqb n n refl)
 
 -- each word is one of 32 bits
@@ -36,16 +36,16 @@ small-drop (suc n) (w ∷ ws) s = small-drop n ws (λ j. s (suc j))
 
 -- a number has 1 in the table where it is in the list, else 0
 abbrev pub Indicator : List ℕ → List ℕ → Type 0
-Indicator seen deg = (n : ℕ) → getD deg n 0 ≡ bit (has n seen)
+Indicator seen deg = (n : ℕ) → getD deg n 0 ≡ toBit (member n seen)
 
-fresh-by : (x : ℕ) (t : Bool) → x ≡ bit t → (x == 0) ≡ not t
+fresh-by : (x : ℕ) (t : Bool) → x ≡ toBit t → (x == 0) ≡ not t
 fresh-by x true e = rw e
 fresh-by x false e = rw e
 
 indicator-set : (seen deg : List ℕ) (n : ℕ) → n < length deg → Indicator seen deg → Indicator (n ∷ seen) (set deg n 1)
 indicator-set seen deg n h a m = go (n == m) refl
   where
-    go : (t : Bool) → (n == m) ≡ t → getD (set deg n 1) m 0 ≡ bit (t || has m seen)
+    go : (t : Bool) → (n == m) ≡ t → getD (set deg n 1) m 0 ≡ toBit (t || member m seen)
     go true e = subst (λ (k : ℕ). getD (set deg n 1) k 0 ≡ 1) (eqb-true n m e) (getD-set-same deg n 1 0 h)
     go false e = getD-set-other deg n m 1 0 (λ q. eqb-false n m e (sym q)) ∙ a m
 
@@ -64,14 +64,14 @@ module _ (size cap types : ℕ) where
       let n = getD ws 0 0 in
       let t = getD ws 1 0 in
       let x = getD ws 2 0 in
-      rw (fresh-by (getD deg n 0) (has n seen) (a n), any-value cap types (not (has n seen)) n t x (m 2))
-      (record-same 3 at (goodVertex cap types (not (has n seen)) n t x) _ _ λ g.
-      let l = within-range 1 cap n (vertex-ok cap types (not (has n seen)) n t x g .number) in
+      rw (fresh-by (getD deg n 0) (member n seen) (a n), any-value cap types (not (member n seen)) n t x (m 2))
+      (record-same 3 at (goodVertex cap types (not (member n seen)) n t x) _ _ λ g.
+      let l = within-range 1 cap n (vertex-ok cap types (not (member n seen)) n t x g .number) in
       vertex-agrees (set deg n 1) (n ∷ seen) k (drop size ws) (at + size) (rw length-set h) (indicator-set seen deg n (omega arith) a) (small-drop size ws m))
 
   -- a sound walk of one record more: the record, and the rest
   pub record VertexStep (seen : List ℕ) (k : ℕ) (ws : List ℕ) (at : ℕ) : Type 0 where
-    pub ok : VertexOk cap types (not (has (getD ws 0 0) seen)) (getD ws 0 0) (getD ws 1 0) (getD ws 2 0)
+    pub ok : VertexOk cap types (not (member (getD ws 0 0) seen)) (getD ws 0 0) (getD ws 1 0) (getD ws 2 0)
     pub low : 1 ≤ getD ws 0 0
     pub high : getD ws 0 0 ≤ cap
     pub rest : vertexWalk size cap types (getD ws 0 0 ∷ seen) k (drop size ws) (at + size) ≡ Sound
@@ -82,32 +82,32 @@ module _ (size cap types : ℕ) where
       let n = getD ws 0 0 in
       let t = getD ws 1 0 in
       let x = getD ws 2 0 in
-      let r = record-sound 3 at (goodVertex cap types (not (has n seen)) n t x) (vertexWalk size cap types (n ∷ seen) k (drop size ws) (at + size)) s in
-      let o = vertex-ok cap types (not (has n seen)) n t x (r .0) in
+      let r = record-sound 3 at (goodVertex cap types (not (member n seen)) n t x) (vertexWalk size cap types (n ∷ seen) k (drop size ws) (at + size)) s in
+      let o = vertex-ok cap types (not (member n seen)) n t x (r .0) in
       let l = within-range 1 cap n (o .number) in
       record { ok = o; low = l .0; high = l .1; rest = r .1 }
 
   pub marks-agree : (deg seen : List ℕ) (k : ℕ) (ws : List ℕ) (at : ℕ) → cap < length deg → Indicator seen deg → vertexWalk size cap types seen k ws at ≡ Sound →
-      (m : ℕ) → getD (vertexMarks size deg k ws) m 0 ≡ bit (has m seen || has m (numbersIn size k ws))
+      (m : ℕ) → getD (vertexMarks size deg k ws) m 0 ≡ toBit (member m seen || member m (numbersIn size k ws))
   unfolding vertexMarks numbersIn
-  marks-agree deg seen zero ws at h a s m = rw (or-false (has m seen)) (a m)
+  marks-agree deg seen zero ws at h a s m = rw (or-false (member m seen)) (a m)
   marks-agree deg seen (suc k) ws at h a s m =
       let n = getD ws 0 0 in
       let r = vertex-step seen k ws at s in
       marks-agree (set deg n 1) (n ∷ seen) k (drop size ws) (at + size) (rw length-set h) (indicator-set seen deg n (omega (arith, r .high)) a) (r .rest) m
-      ∙ ap bit (or-swap (n == m) (has m seen) (has m (numbersIn size k (drop size ws))))
+      ∙ ap toBit (or-swap (n == m) (member m seen) (member m (numbersIn size k (drop size ws))))
 
   -- what a sound walk says of the numbers: each is new, they are distinct, none is 0
-  walk-new : (seen : List ℕ) (k : ℕ) (ws : List ℕ) (at m : ℕ) → vertexWalk size cap types seen k ws at ≡ Sound → has m seen ≡ true → has m (numbersIn size k ws) ≡ false
+  walk-new : (seen : List ℕ) (k : ℕ) (ws : List ℕ) (at m : ℕ) → vertexWalk size cap types seen k ws at ≡ Sound → member m seen ≡ true → member m (numbersIn size k ws) ≡ false
   unfolding numbersIn
   walk-new seen zero ws at m s h = refl
   walk-new seen (suc k) ws at m s h =
       let r = vertex-step seen k ws at s in
-      go (not-true (has (getD ws 0 0) seen) (r .ok .new)) (walk-new (getD ws 0 0 ∷ seen) k (drop size ws) (at + size) m (r .rest)) (getD ws 0 0 == m) refl
+      go (not-true (member (getD ws 0 0) seen) (r .ok .new)) (walk-new (getD ws 0 0 ∷ seen) k (drop size ws) (at + size) m (r .rest)) (getD ws 0 0 == m) refl
     where
-      go : has (getD ws 0 0) seen ≡ false → (((getD ws 0 0 == m) || has m seen) ≡ true → has m (numbersIn size k (drop size ws)) ≡ false) →
-          (t : Bool) → (getD ws 0 0 == m) ≡ t → (t || has m (numbersIn size k (drop size ws))) ≡ false
-      go f ih true e = tf (sym (subst (λ (k : ℕ). has k seen ≡ true) (sym (eqb-true (getD ws 0 0) m e)) h) ∙ f)
+      go : member (getD ws 0 0) seen ≡ false → (((getD ws 0 0 == m) || member m seen) ≡ true → member m (numbersIn size k (drop size ws)) ≡ false) →
+          (t : Bool) → (getD ws 0 0 == m) ≡ t → (t || member m (numbersIn size k (drop size ws))) ≡ false
+      go f ih true e = tf (sym (subst (λ (k : ℕ). member k seen ≡ true) (sym (eqb-true (getD ws 0 0) m e)) h) ∙ f)
       go f ih false e = ih (rw e h)
 
   pub walk-distinct : (seen : List ℕ) (k : ℕ) (ws : List ℕ) (at : ℕ) → vertexWalk size cap types seen k ws at ≡ Sound → distinct (numbersIn size k ws) ≡ true
@@ -117,11 +117,11 @@ module _ (size cap types : ℕ) where
       let n = getD ws 0 0 in
       let ns = numbersIn size k (drop size ws) in
       let r = vertex-step seen k ws at s in
-      and-both (not (has n ns)) (distinct ns)
+      and-both (not (member n ns)) (distinct ns)
       (ap not (walk-new (n ∷ seen) k (drop size ws) (at + size) n (r .rest) (has-self n seen)))
       (walk-distinct (n ∷ seen) k (drop size ws) (at + size) (r .rest))
 
-  pub walk-positive : (seen : List ℕ) (k : ℕ) (ws : List ℕ) (at : ℕ) → vertexWalk size cap types seen k ws at ≡ Sound → has 0 (numbersIn size k ws) ≡ false
+  pub walk-positive : (seen : List ℕ) (k : ℕ) (ws : List ℕ) (at : ℕ) → vertexWalk size cap types seen k ws at ≡ Sound → member 0 (numbersIn size k ws) ≡ false
   unfolding numbersIn
   walk-positive seen zero ws at s = refl
   walk-positive seen (suc k) ws at s =

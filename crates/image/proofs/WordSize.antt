@@ -7,7 +7,7 @@ use native.Mathlib.Omega.{arith}
 use lib.ListN.{length, getD, length-append}
 use borrow.Author.Tests.{ltb-true, eqb-true}
 use Rattle.lists.specs.Choice.{_⇒_else_, _==_}
-use Rattle.lists.specs.Lists.{any, all, each, All, done, more}
+use Rattle.lists.specs.Lists.{any, all, concatMap, All, done, more}
 use Rattle.lists.proofs.Bools.{ft, and-true, within-range}
 use Rattle.lists.proofs.Sums.{all-append, all-bool, bit-le, alike-length}
 use Rattle.lists.proofs.Members.{all-counted, counted-all}
@@ -38,7 +38,7 @@ word : (w : ℕ) {ws : List ℕ} → w < 2 ^ 32 → All Word ws → All Word (w 
 word w h a = more h a
 
 module _ {A : Type 0} {P : ℕ → Type 0} (f : A → List ℕ) where
-  all-each : {xs : List A} → All (λ x. All P (f x)) xs → All P (each f xs)
+  all-each : {xs : List A} → All (λ x. All P (f x)) xs → All P (concatMap f xs)
   all-each done = done
   all-each (more p a) = all-append p (all-each a)
 

@@ -5,9 +5,9 @@ use mathlib.Core.List.{List, [], _∷_}
 use lib.ListN.{length, getD, drop}
 use lib.Dec.{leb, ltb}
 use Rattle.lists.specs.Choice.{_⇒_else_, _==_, within}
-use Rattle.lists.specs.Lists.{has}
-use Rattle.lists.specs.Keyed.{rem}
-use Rattle.graph.specs.Graph.{Edge, wd, isReading}
+use Rattle.lists.specs.Lists.{member}
+use Rattle.lists.specs.Keyed.{removeBy}
+use Rattle.graph.specs.Graph.{Edge, itself, isReading}
 use Rattle.graph.specs.WellFormed.{Bounds, wordsAt}
 use Rattle.image.specs.Image.{
   vertexSize,
@@ -82,7 +82,7 @@ unfolding goodVertex
 vertexWalk size cap types seen zero ws at = Sound
 vertexWalk size cap types seen (suc k) ws at =
     recordAt oldVertexSize at
-    (goodVertex cap types (not (has (getD ws 0 0) seen)) (getD ws 0 0) (getD ws 1 0) (getD ws 2 0))
+    (goodVertex cap types (not (member (getD ws 0 0) seen)) (getD ws 0 0) (getD ws 1 0) (getD ws 2 0))
     (vertexWalk size cap types (getD ws 0 0 ∷ seen) k (drop size ws) (at + size))
 
 -- k edge records in turn; vs has the vertices' numbers, seen the edges' numbers before
@@ -91,7 +91,7 @@ unfolding goodEdge
 edgeWalk cap types vs seen zero ws at = Sound
 edgeWalk cap types vs seen (suc k) ws at =
     recordAt edgeSize at
-    (goodEdge cap types (not (has (getD ws 0 0) seen)) (has (getD ws 1 0) vs) (has (getD ws 2 0) vs)
+    (goodEdge cap types (not (member (getD ws 0 0) seen)) (member (getD ws 1 0) vs) (member (getD ws 2 0) vs)
     (getD ws 0 0) (getD ws 3 0) (getD ws 4 0) (getD ws 5 0))
     (edgeWalk cap types vs (getD ws 0 0 ∷ seen) k (drop edgeSize ws) (at + edgeSize))
 
@@ -112,7 +112,7 @@ degreeWalk size es (suc k) ws at =
 unfoldable pub goodList : ℕ → List ℕ → List ℕ → ℕ
 goodList zero wanted ws = 0
 goodList (suc d) wanted [] = 0
-goodList (suc d) wanted (w ∷ ws) = has w wanted ⇒ suc (goodList d (rem wd w wanted) ws) else 0
+goodList (suc d) wanted (w ∷ ws) = member w wanted ⇒ suc (goodList d (removeBy itself w wanted) ws) else 0
 
 -- words behind the last list
 abbrev pub ended : List ℕ → ℕ → Verdict

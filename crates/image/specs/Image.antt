@@ -6,7 +6,7 @@ use mathlib.Core.Bool.{Bool, not, _&&_, _||_}
 use mathlib.Core.List.{List, [], _∷_, _++_}
 use lib.ListN.{length, getD, take, drop}
 use Rattle.lists.specs.Choice.{_⇒_else_, _==_}
-use Rattle.lists.specs.Lists.{each, same}
+use Rattle.lists.specs.Lists.{concatMap, equalLists}
 use Rattle.graph.specs.Graph.{Vertex, Edge, Graph, readingKind, decimetres, readingOf}
 use Rattle.graph.specs.WellFormed.{Bounds, wordsAt, wellFormed}
 
@@ -61,7 +61,7 @@ headerOf size v e =
 unfoldable pub saveAs : ℕ → Graph → List ℕ
 saveAs size g =
     headerOf size (length (g .vseq)) (length (g .eseq))
-    ++ (each (vertexRecord size) (g .vseq) ++ (each edgeRecord (g .eseq) ++ each incidencesOf (g .vseq)))
+    ++ (concatMap (vertexRecord size) (g .vseq) ++ (concatMap edgeRecord (g .eseq) ++ concatMap incidencesOf (g .vseq)))
 
 -- what a graph saves as, and what it was saved as before records had a degree
 unfoldable pub save : Graph → List ℕ
@@ -93,7 +93,7 @@ recordSize ws =
 -- REFERENCE 10.5: length, offsets and total fit records of one size
 unfoldable pub headerAs : ℕ → List ℕ → Bool
 headerAs size ws =
-    same (take 6 ws) (headerOf size (vertexCount ws) (edgeCount ws))
+    equalLists (take 6 ws) (headerOf size (vertexCount ws) (edgeCount ws))
     && (length ws == lengthAs size (vertexCount ws) (edgeCount ws))
 
 unfoldable pub soundHeader : List ℕ → Bool
@@ -173,4 +173,4 @@ load ws = loadAs (recordSize ws) ws
 unfoldable pub loadable : Bounds → List ℕ → Bool
 unfolding soundHeader load save saveOld wellFormed
 loadable b ws =
-    soundHeader ws && wellFormed b (load ws) && (same ws (save (load ws)) || same ws (saveOld (load ws)))
+    soundHeader ws && wellFormed b (load ws) && (equalLists ws (save (load ws)) || equalLists ws (saveOld (load ws)))

@@ -14,8 +14,8 @@ use Rattle.image.specs.declared.Verdict.{Verdict}
 use Rattle.image.specs.declared.Verdict.the-variants.{Sound}
 
 -- no word is above k
-abbrev pub Below : ℕ → List ℕ → Type 0
-Below k s = (i : ℕ) → getD s i 0 ≤ k
+abbrev pub NoneAbove : ℕ → List ℕ → Type 0
+NoneAbove k s = (i : ℕ) → getD s i 0 ≤ k
 
 -- ---- vertices
 
@@ -35,8 +35,8 @@ vertexMarks size deg (suc k) ws = vertexMarks size (set deg (getD ws 0 0) 1) k (
 abbrev pub bumped : ℕ → List ℕ → List ℕ
 bumped v deg = set deg v (getD deg v 0 + 1)
 
-abbrev pub ends : ℕ → ℕ → List ℕ → List ℕ
-ends a o deg = bumped o (bumped a deg)
+abbrev pub withEnds : ℕ → ℕ → List ℕ → List ℕ
+withEnds a o deg = bumped o (bumped a deg)
 
 abbrev pub owned : ℕ → ℕ → ℕ → List ℕ → List ℕ
 owned n a o own = set (set own (outWord n) a) (inWord n) o
@@ -49,7 +49,7 @@ edgeGood cap types deg own ws at =
     (getD ws at 0) (getD ws (at + 3) 0) (getD ws (at + 4) 0) (getD ws (at + 5) 0)
 
 abbrev pub edgeEnds : List ℕ → ℕ → List ℕ → List ℕ
-edgeEnds ws at deg = ends (getD ws (at + 1) 0) (getD ws (at + 2) 0) deg
+edgeEnds ws at deg = withEnds (getD ws (at + 1) 0) (getD ws (at + 2) 0) deg
 
 abbrev pub edgeOwned : List ℕ → ℕ → List ℕ → List ℕ
 edgeOwned ws at own = owned (getD ws at 0) (getD ws (at + 1) 0) (getD ws (at + 2) 0) own

@@ -1,5 +1,6 @@
 // The layout of an image, in words: header, records, where the parts begin (REFERENCE 10.1 to 10.4). Counts may be any
 // words, so the sums are those of 64 bits.
+// A caller has counts that are words, and a size that `record_size` gave.
 ghost use mathlib.Core.Path.{_≡_};
 ghost use Prim.Native.Nat.{_+_, _*_, _≤_, _<_, _^_};
 ghost use Rattle.image.specs.Image.{edgeOffset, incidenceOffset, lengthAs, recordSize};

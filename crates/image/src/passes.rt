@@ -4,7 +4,7 @@ ghost use mathlib.Core.Path.{_≡_};
 ghost use Prim.Native.Nat.{_≤_};
 ghost use lib.ListN.{length, getD, drop, replicate};
 ghost use Rattle.image.specs.Checks.{bounds};
-ghost use Rattle.image.specs.Scratch.{Below, ends, owned, edgeGood, edgeEnds, edgeOwned};
+ghost use Rattle.image.specs.Scratch.{NoneAbove, withEnds, owned, edgeGood, edgeEnds, edgeOwned};
 ghost use Rattle.image.specs.Scratch.{vertexRun, vertexMarks, edgeRun, edgeDegrees, edgeOwners};
 ghost use Rattle.image.specs.Scratch.{degreeRun, listRun, listOwners, incidenceRun, scratchRun};
 use crate::Verdict;
@@ -68,8 +68,8 @@ fn edge_good(part: &[u32], at: usize, deg: &[u32], own: &[u32], cap: u32, types:
 
 // Counts both ends of an edge, and enters its two words with their vertices.
 fn enter(deg: &mut [u32], own: &mut [u32], n: u32, a: u32, o: u32)
-    requires { ⌜ (n ≤ 100000) × Below 900000 (now deg) ⌝ }
-    ensures { λ r. ⌜ (now (deg .exit) ≡ ends a o (now (deg .entry)))
+    requires { ⌜ (n ≤ 100000) × NoneAbove 900000 (now deg) ⌝ }
+    ensures { λ r. ⌜ (now (deg .exit) ≡ withEnds a o (now (deg .entry)))
         × (now (own .exit) ≡ owned n a o (now (own .entry))) ⌝ }
 {
     bump(deg, wide(a));
@@ -81,7 +81,7 @@ fn enter(deg: &mut [u32], own: &mut [u32], n: u32, a: u32, o: u32)
 
 // The same for the record at `at`.
 fn edge_enter(part: &[u32], at: usize, deg: &mut [u32], own: &mut [u32])
-    requires { ⌜ (at ≤ 100000) × (getD (now part) at 0 ≤ 100000) × Below 900000 (now deg) ⌝ }
+    requires { ⌜ (at ≤ 100000) × (getD (now part) at 0 ≤ 100000) × NoneAbove 900000 (now deg) ⌝ }
     ensures { λ r. ⌜ (now (deg .exit) ≡ edgeEnds (now (part .entry)) at (now (deg .entry)))
         × (now (own .exit) ≡ edgeOwned (now (part .entry)) at (now (own .entry))) ⌝ }
 {
@@ -104,7 +104,7 @@ fn edges(
     cap: u32,
     types: u32,
 ) -> Verdict
-    requires { ⌜ (count ≤ 4000) × (from ≤ 100000) × (cap ≤ 100000) × Below 1 (now deg) ⌝ }
+    requires { ⌜ (count ≤ 4000) × (from ≤ 100000) × (cap ≤ 100000) × NoneAbove 1 (now deg) ⌝ }
     ensures { λ r. ⌜ (r ≡ edgeRun cap types (now (deg .entry)) (now (own .entry)) count (now (part .entry)) from)
         × (r ≡ Verdict.Sound → (now (deg .exit) ≡ edgeDegrees (now (deg .entry)) count (now (part .entry)))
         × (now (own .exit) ≡ edgeOwners (now (own .entry)) count (now (part .entry)))) ⌝ }

@@ -11,7 +11,10 @@ use Rattle.graph.specs.declared.Edit.{Edit}
 use Rattle.graph.specs.declared.Edit.the-variants.{InsertVertex, RemoveVertex, InsertEdge, RemoveEdge, SetVertex, SetEdge, MoveVertex, MoveEdge, MoveWord}
 use Rattle.graph.specs.Graph.{readingKind, decimetres, readingOf}
 use Rattle.graph.proofs.Readings.{reading-back}
-use Rattle.journal.specs.Rows.{wordsOf, editOf, editAt, storeFrom, rowAt, costAt, rowed, Below, turned, IsWords}
+use Rattle.graph_tables.specs.Tables.{State, removeEdgeS}
+use Rattle.journal.specs.declared.removal.EdgeWords.{EdgeWords}
+use Rattle.journal.specs.Written.{Written, edgeWords, removalOf}
+use Rattle.journal.specs.Rows.{rowWords, editOf, editAt, storeFrom, rowAt, costAt, rowed, SameBelow, turned, IsWords}
 
 -- ---- words stored one after another
 
@@ -32,7 +35,7 @@ store-at q (x ∷ l) t (suc i) h f =
 
 -- ---- an edit as words, and back
 
-pub words-length : (e : Edit) → length (wordsOf e) ≡ 10
+pub words-length : (e : Edit) → length (rowWords e) ≡ 10
 words-length (InsertVertex n t v p) = refl
 words-length (RemoveVertex n t v p) = refl
 words-length (InsertEdge n a z t r p o i) = refl
@@ -48,7 +51,7 @@ abbrev pub listed : List ℕ → Edit
 listed l = editOf (getD l 0 0) (getD l 1 0) (getD l 2 0) (getD l 3 0) (getD l 4 0) (getD l 5 0) (getD l 6 0) (getD l 7 0) (getD l 8 0) (getD l 9 0)
 
 -- decoding is the inverse of encoding
-pub listed-words : (e : Edit) → listed (wordsOf e) ≡ e
+pub listed-words : (e : Edit) → listed (rowWords e) ≡ e
 unfolding editOf
 listed-words (InsertVertex n t v p) = refl
 listed-words (RemoveVertex n t v p) = refl
@@ -67,10 +70,10 @@ edit-at t l q at =
 
 -- ---- words that agree below row u
 
-pub below-less : (u v : ℕ) (t t′ : List ℕ) → v ≤ u → Below u t t′ → Below v t t′
+pub below-less : (u v : ℕ) (t t′ : List ℕ) → v ≤ u → SameBelow u t t′ → SameBelow v t t′
 below-less u v t t′ h b j l = b j (omega arith)
 
-pub row-agree : (u i : ℕ) (t t′ : List ℕ) → Below u t t′ → i < u → rowAt t′ i ≡ rowAt t i
+pub row-agree : (u i : ℕ) (t t′ : List ℕ) → SameBelow u t t′ → i < u → rowAt t′ i ≡ rowAt t i
 unfolding rowAt
 row-agree u i t t′ b h =
     rw (
@@ -86,7 +89,7 @@ row-agree u i t t′ b h =
       b (12 * i + 9) (omega arith),
     )
 
-pub cost-agree : (u i : ℕ) (t t′ : List ℕ) → Below u t t′ → i < u → costAt t′ i ≡ costAt t i
+pub cost-agree : (u i : ℕ) (t t′ : List ℕ) → SameBelow u t t′ → i < u → costAt t′ i ≡ costAt t i
 unfolding costAt
 cost-agree u i t t′ b h = b (12 * i + 10) (omega arith)
 
@@ -95,22 +98,22 @@ cost-agree u i t t′ b h = b (12 * i + 10) (omega arith)
 module _ (u : ℕ) (e : Edit) (c : ℕ) (t t′ : List ℕ) (q : t′ ≡ rowed u e c t) (room : 12 * u + 12 ≤ length t) where
   pub rowed-length : length t′ ≡ length t
   unfolding rowed
-  rowed-length = rw q (simp (length-set, store-length (12 * u) (wordsOf e) t))
+  rowed-length = rw q (simp (length-set, store-length (12 * u) (rowWords e) t))
 
-  pub rowed-below : Below u t t′
+  pub rowed-below : SameBelow u t t′
   unfolding rowed
-  rowed-below j l = rw q (getD-set-other (storeFrom (12 * u) (wordsOf e) t) (12 * u + 10) j c 0 (λ x. omega arith) ∙ store-before (12 * u) (wordsOf e) t j l)
+  rowed-below j l = rw q (getD-set-other (storeFrom (12 * u) (rowWords e) t) (12 * u + 10) j c 0 (λ x. omega arith) ∙ store-before (12 * u) (rowWords e) t j l)
 
   pub rowed-cost : costAt t′ u ≡ c
   unfolding rowed costAt
-  rowed-cost = rw q (getD-set-same (storeFrom (12 * u) (wordsOf e) t) (12 * u + 10) c 0 (omega (arith, store-length (12 * u) (wordsOf e) t)))
+  rowed-cost = rw q (getD-set-same (storeFrom (12 * u) (rowWords e) t) (12 * u + 10) c 0 (omega (arith, store-length (12 * u) (rowWords e) t)))
 
   pub rowed-row : rowAt t′ u ≡ e
   unfolding rowed rowAt
   rowed-row =
-      let w = storeFrom (12 * u) (wordsOf e) t in
-      edit-at t′ (wordsOf e) (12 * u) (λ i h. rw q (getD-set-other w (12 * u + 10) (12 * u + i) c 0 (λ x. omega arith)
-      ∙ store-at (12 * u) (wordsOf e) t i (omega (arith, words-length e)) (omega (arith, words-length e))))
+      let w = storeFrom (12 * u) (rowWords e) t in
+      edit-at t′ (rowWords e) (12 * u) (λ i h. rw q (getD-set-other w (12 * u + 10) (12 * u + i) c 0 (λ x. omega arith)
+      ∙ store-at (12 * u) (rowWords e) t i (omega (arith, words-length e)) (omega (arith, words-length e))))
       ∙ listed-words e
 
 -- ---- the calls
@@ -123,21 +126,26 @@ pub cost-read : (t : List ℕ) (i w c : ℕ) → c ≡ getD t (12 * w + 10) 0 �
 unfolding costAt
 cost-read t i w c a b = a ∙ ap (λ (x : ℕ). getD t (12 * x + 10) 0) b
 
-pub row-written : (t t′ : List ℕ) (i w : ℕ) (e : Edit) (c : ℕ) → t′ ≡ storeFrom (12 * w) (wordsOf e) t → w ≡ i → set t′ (12 * w + 10) c ≡ rowed i e c t
-unfolding rowed
-row-written t t′ i w e c a b = ap (λ (x : List ℕ). set x (12 * w + 10) c) a ∙ ap (λ (x : ℕ). set (storeFrom (12 * x) (wordsOf e) t) (12 * x + 10) c) b
-
 -- ---- a row, word by word
 
 pub words-written : (t t′ : List ℕ) (i w c : ℕ) (l : List ℕ) → t′ ≡ storeFrom (12 * w) l t → w ≡ i → set t′ (12 * w + 10) c ≡ set (storeFrom (12 * i) l t) (12 * i + 10) c
 words-written t t′ i w c l a b = ap (λ (x : List ℕ). set x (12 * w + 10) c) a ∙ ap (λ (x : ℕ). set (storeFrom (12 * x) l t) (12 * x + 10) c) b
 
-pub rowed-by : (i : ℕ) (e : Edit) (c : ℕ) (t t′ l : List ℕ) → l ≡ wordsOf e → t′ ≡ set (storeFrom (12 * i) l t) (12 * i + 10) c → t′ ≡ rowed i e c t
+pub rowed-by : (i : ℕ) (e : Edit) (c : ℕ) (t t′ l : List ℕ) → l ≡ rowWords e → t′ ≡ set (storeFrom (12 * i) l t) (12 * i + 10) c → t′ ≡ rowed i e c t
 unfolding rowed
 rowed-by i e c t t′ l q p = p ∙ ap (λ (x : List ℕ). set (storeFrom (12 * i) x t) (12 * i + 10) c) q
 
-pub removed-words : (n a z s k d p o i : ℕ) → IsWords k d → 4 ∷ n ∷ a ∷ z ∷ s ∷ k ∷ d ∷ p ∷ o ∷ i ∷ [] ≡ wordsOf (RemoveEdge n a z s (readingOf k d) p o i)
-removed-words n a z s k d p o i w = λ j. 4 ∷ n ∷ a ∷ z ∷ s ∷ sym (w .0) j ∷ sym (w .1) j ∷ p ∷ o ∷ i ∷ []
+pub removed-words : (n : ℕ) (w : EdgeWords) → IsWords (w .kind) (w .decimetres)
+    → 4 ∷ n ∷ w .alpha ∷ w .omega ∷ w .sort ∷ w .kind ∷ w .decimetres ∷ w .order ∷ w .out ∷ w .into ∷ [] ≡ rowWords (removalOf n w)
+removed-words n w h = λ j. 4 ∷ n ∷ w .alpha ∷ w .omega ∷ w .sort ∷ sym (h .0) j ∷ sym (h .1) j ∷ w .order ∷ w .out ∷ w .into ∷ []
 
-pub edge-words : (n s k d s′ k′ d′ : ℕ) → IsWords k d → IsWords k′ d′ → 6 ∷ n ∷ s ∷ k ∷ d ∷ s′ ∷ k′ ∷ d′ ∷ 0 ∷ 0 ∷ [] ≡ wordsOf (SetEdge n s (readingOf k d) s′ (readingOf k′ d′))
+-- an edge taken out by the words that were read off its row
+pub removal-written : (s : State) (n c i : ℕ) (t : List ℕ) (w : EdgeWords) → w ≡ edgeWords (s .et) n → (s′ : State) (t′ : List ℕ)
+    → s′ ≡ removeEdgeS n (w .alpha) (w .omega) s → t′ ≡ rowed i (removalOf n w) c t → Written (removalOf n (edgeWords (s .et) n)) c i s t s′ t′
+removal-written s n c i t w e s′ t′ p q = record {
+  state = p ∙ ap (λ (x : EdgeWords). removeEdgeS n (x .alpha) (x .omega) s) e;
+  row = q ∙ ap (λ (x : EdgeWords). rowed i (removalOf n x) c t) e;
+}
+
+pub edge-words : (n s k d s′ k′ d′ : ℕ) → IsWords k d → IsWords k′ d′ → 6 ∷ n ∷ s ∷ k ∷ d ∷ s′ ∷ k′ ∷ d′ ∷ 0 ∷ 0 ∷ [] ≡ rowWords (SetEdge n s (readingOf k d) s′ (readingOf k′ d′))
 edge-words n s k d s′ k′ d′ w v = λ j. 6 ∷ n ∷ s ∷ sym (w .0) j ∷ sym (w .1) j ∷ s′ ∷ sym (v .0) j ∷ sym (v .1) j ∷ 0 ∷ 0 ∷ []

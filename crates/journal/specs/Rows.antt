@@ -21,17 +21,17 @@ use Rattle.graph.specs.Edits.{inverse}
 use Rattle.graph.specs.Graph.{readingKind, decimetres, readingOf}
 
 -- the ten words of an edit: which of the nine it is, and its parts in their order, a reading as kind and decimetres
-abbrev pub wordsOf : Edit → List ℕ
-wordsOf (InsertVertex n t v p) = 1 ∷ n ∷ t ∷ v ∷ p ∷ 0 ∷ 0 ∷ 0 ∷ 0 ∷ 0 ∷ []
-wordsOf (RemoveVertex n t v p) = 2 ∷ n ∷ t ∷ v ∷ p ∷ 0 ∷ 0 ∷ 0 ∷ 0 ∷ 0 ∷ []
-wordsOf (InsertEdge n a z t r p o i) = 3 ∷ n ∷ a ∷ z ∷ t ∷ readingKind r ∷ decimetres r ∷ p ∷ o ∷ i ∷ []
-wordsOf (RemoveEdge n a z t r p o i) = 4 ∷ n ∷ a ∷ z ∷ t ∷ readingKind r ∷ decimetres r ∷ p ∷ o ∷ i ∷ []
-wordsOf (SetVertex n t v t′ v′) = 5 ∷ n ∷ t ∷ v ∷ t′ ∷ v′ ∷ 0 ∷ 0 ∷ 0 ∷ 0 ∷ []
-wordsOf (SetEdge n t r t′ r′) =
+abbrev pub rowWords : Edit → List ℕ
+rowWords (InsertVertex n t v p) = 1 ∷ n ∷ t ∷ v ∷ p ∷ 0 ∷ 0 ∷ 0 ∷ 0 ∷ 0 ∷ []
+rowWords (RemoveVertex n t v p) = 2 ∷ n ∷ t ∷ v ∷ p ∷ 0 ∷ 0 ∷ 0 ∷ 0 ∷ 0 ∷ []
+rowWords (InsertEdge n a z t r p o i) = 3 ∷ n ∷ a ∷ z ∷ t ∷ readingKind r ∷ decimetres r ∷ p ∷ o ∷ i ∷ []
+rowWords (RemoveEdge n a z t r p o i) = 4 ∷ n ∷ a ∷ z ∷ t ∷ readingKind r ∷ decimetres r ∷ p ∷ o ∷ i ∷ []
+rowWords (SetVertex n t v t′ v′) = 5 ∷ n ∷ t ∷ v ∷ t′ ∷ v′ ∷ 0 ∷ 0 ∷ 0 ∷ 0 ∷ []
+rowWords (SetEdge n t r t′ r′) =
     6 ∷ n ∷ t ∷ readingKind r ∷ decimetres r ∷ t′ ∷ readingKind r′ ∷ decimetres r′ ∷ 0 ∷ 0 ∷ []
-wordsOf (MoveVertex n old new) = 7 ∷ n ∷ old ∷ new ∷ 0 ∷ 0 ∷ 0 ∷ 0 ∷ 0 ∷ 0 ∷ []
-wordsOf (MoveEdge n old new) = 8 ∷ n ∷ old ∷ new ∷ 0 ∷ 0 ∷ 0 ∷ 0 ∷ 0 ∷ 0 ∷ []
-wordsOf (MoveWord w v old u new) = 9 ∷ w ∷ v ∷ old ∷ u ∷ new ∷ 0 ∷ 0 ∷ 0 ∷ 0 ∷ []
+rowWords (MoveVertex n old new) = 7 ∷ n ∷ old ∷ new ∷ 0 ∷ 0 ∷ 0 ∷ 0 ∷ 0 ∷ 0 ∷ []
+rowWords (MoveEdge n old new) = 8 ∷ n ∷ old ∷ new ∷ 0 ∷ 0 ∷ 0 ∷ 0 ∷ 0 ∷ 0 ∷ []
+rowWords (MoveWord w v old u new) = 9 ∷ w ∷ v ∷ old ∷ u ∷ new ∷ 0 ∷ 0 ∷ 0 ∷ 0 ∷ []
 
 -- the edit that ten words are
 unfoldable pub editOf : (k a b c d e f g h i : ℕ) → Edit
@@ -73,11 +73,11 @@ costAt t i = getD t (12 * i + 10) 0
 
 -- the words with row i written
 unfoldable pub rowed : ℕ → Edit → ℕ → List ℕ → List ℕ
-rowed i e c t = set (storeFrom (12 * i) (wordsOf e) t) (12 * i + 10) c
+rowed i e c t = set (storeFrom (12 * i) (rowWords e) t) (12 * i + 10) c
 
 -- the words below row u are as they were
-abbrev pub Below : ℕ → List ℕ → List ℕ → Type 0
-Below u t t′ = (j : ℕ) → j < 12 * u → getD t′ j 0 ≡ getD t j 0
+abbrev pub SameBelow : ℕ → List ℕ → List ℕ → Type 0
+SameBelow u t t′ = (j : ℕ) → j < 12 * u → getD t′ j 0 ≡ getD t j 0
 
 -- kind and decimetres are those of the reading that they are read as
 abbrev pub IsWords : ℕ → ℕ → Type 0

@@ -1,16 +1,15 @@
 // The journal's rows: twelve words each, of which ten are an edit and one is the cost of the edit's step.
+// A caller has room for row i, or rows that the run wrote.
 use graph::Edit;
-use tables::rows::decimetres_of;
-use tables::rows::kind_of;
-use tables::rows::reading_of;
+use graph_tables::rows::reading_of;
 ghost use mathlib.Core.Path.{_≡_};
 ghost use mathlib.Core.List.{[], _∷_};
 ghost use Prim.Native.Nat.{_+_, _*_, _≤_};
-ghost use lib.ListN.{length};
+ghost use lib.ListN.{length, set};
 ghost use Rattle.graph.specs.Edits.{inverse};
-ghost use Rattle.journal.specs.Rows.{wordsOf, editOf, turned, editAt, storeFrom, rowAt, costAt, rowed};
+ghost use Rattle.journal.specs.Rows.{editOf, turned, editAt, storeFrom, rowAt, costAt};
 
-pub mod single; // a row for each edit, word by word
+pub mod removal; // the words of an edge that goes
 
 // Five words, half of an edit.
 pub struct Five {
@@ -30,200 +29,6 @@ fn put_five(t: &mut [u32], q: usize, x: Five)
     t[q + 1 + 1 + 0] = x.c;
     t[q + 1 + 1 + 1 + 0] = x.d;
     t[q + 1 + 1 + 1 + 1 + 0] = x.e;
-}
-
-fn put_ten(t: &mut [u32], q: usize, x: Five, y: Five)
-    requires { ⌜ q + 10 ≤ length (now t) ⌝ }
-    ensures { λ _. ⌜ now (t .exit) ≡ storeFrom q
-        (x .a ∷ x .b ∷ x .c ∷ x .d ∷ x .e ∷ y .a ∷ y .b ∷ y .c ∷ y .d ∷ y .e ∷ []) (now (t .entry)) ⌝ }
-{
-    put_five(t, q, x);
-    put_five(t, q + 1 + 1 + 1 + 1 + 1, y);
-}
-
-// Stores an edit from word q on.
-fn put_edit(t: &mut [u32], q: usize, edit: Edit)
-    requires { ⌜ q + 10 ≤ length (now t) ⌝ }
-    ensures { λ _. ⌜ now (t .exit) ≡ storeFrom q (wordsOf edit) (now (t .entry)) ⌝ }
-{
-    match edit {
-        Edit::InsertVertex(a, b, c, d) => put_ten(
-            t,
-            q,
-            Five {
-                a: 1,
-                b: a,
-                c: b,
-                d: c,
-                e: d,
-            },
-            Five {
-                a: 0,
-                b: 0,
-                c: 0,
-                d: 0,
-                e: 0,
-            },
-        ),
-        Edit::RemoveVertex(a, b, c, d) => put_ten(
-            t,
-            q,
-            Five {
-                a: 2,
-                b: a,
-                c: b,
-                d: c,
-                e: d,
-            },
-            Five {
-                a: 0,
-                b: 0,
-                c: 0,
-                d: 0,
-                e: 0,
-            },
-        ),
-        Edit::InsertEdge(n, x, z, s, r, p, o, i) => {
-            let k = kind_of(r);
-            let m = decimetres_of(r);
-            put_ten(
-                t,
-                q,
-                Five {
-                    a: 3,
-                    b: n,
-                    c: x,
-                    d: z,
-                    e: s,
-                },
-                Five {
-                    a: k,
-                    b: m,
-                    c: p,
-                    d: o,
-                    e: i,
-                },
-            )
-        }
-        Edit::RemoveEdge(n, x, z, s, r, p, o, i) => {
-            let k = kind_of(r);
-            let m = decimetres_of(r);
-            put_ten(
-                t,
-                q,
-                Five {
-                    a: 4,
-                    b: n,
-                    c: x,
-                    d: z,
-                    e: s,
-                },
-                Five {
-                    a: k,
-                    b: m,
-                    c: p,
-                    d: o,
-                    e: i,
-                },
-            )
-        }
-        Edit::SetVertex(a, b, c, d, e) => put_ten(
-            t,
-            q,
-            Five {
-                a: 5,
-                b: a,
-                c: b,
-                d: c,
-                e: d,
-            },
-            Five {
-                a: e,
-                b: 0,
-                c: 0,
-                d: 0,
-                e: 0,
-            },
-        ),
-        Edit::SetEdge(n, s, r, s2, r2) => {
-            let k = kind_of(r);
-            let m = decimetres_of(r);
-            let k2 = kind_of(r2);
-            let m2 = decimetres_of(r2);
-            put_ten(
-                t,
-                q,
-                Five {
-                    a: 6,
-                    b: n,
-                    c: s,
-                    d: k,
-                    e: m,
-                },
-                Five {
-                    a: s2,
-                    b: k2,
-                    c: m2,
-                    d: 0,
-                    e: 0,
-                },
-            )
-        }
-        Edit::MoveVertex(a, b, c) => put_ten(
-            t,
-            q,
-            Five {
-                a: 7,
-                b: a,
-                c: b,
-                d: c,
-                e: 0,
-            },
-            Five {
-                a: 0,
-                b: 0,
-                c: 0,
-                d: 0,
-                e: 0,
-            },
-        ),
-        Edit::MoveEdge(a, b, c) => put_ten(
-            t,
-            q,
-            Five {
-                a: 8,
-                b: a,
-                c: b,
-                d: c,
-                e: 0,
-            },
-            Five {
-                a: 0,
-                b: 0,
-                c: 0,
-                d: 0,
-                e: 0,
-            },
-        ),
-        Edit::MoveWord(a, b, c, d, e) => put_ten(
-            t,
-            q,
-            Five {
-                a: 9,
-                b: a,
-                c: b,
-                d: c,
-                e: d,
-            },
-            Five {
-                a: e,
-                b: 0,
-                c: 0,
-                d: 0,
-                e: 0,
-            },
-        ),
-    }
 }
 
 fn decode(k: u32, x: Five, f: u32, g: u32, h: u32, i: u32) -> Edit
@@ -328,12 +133,48 @@ pub fn cost_at(t: &[u32], i: u32) -> u32
     t[12 * wide(i) + 10]
 }
 
-// Writes row i: an edit and its step's cost.
-pub fn put_row(t: &mut [u32], i: u32, edit: Edit, cost: u32)
+// Ten words and the cost of their step as row i: the writer of every row. Which words an edit is, `wordsOf` says.
+pub fn put_row(
+    t: &mut [u32],
+    i: u32,
+    cost: u32,
+    k: u32,
+    a: u32,
+    b: u32,
+    c: u32,
+    d: u32,
+    e: u32,
+    f: u32,
+    g: u32,
+    h: u32,
+    j: u32,
+)
     requires { ⌜ 12 * i + 12 ≤ length (now t) ⌝ }
-    ensures { λ _. ⌜ now (t .exit) ≡ rowed i edit cost (now (t .entry)) ⌝ }
+    ensures { λ _. ⌜ now (t .exit) ≡ set
+        (storeFrom (12 * i) (k ∷ a ∷ b ∷ c ∷ d ∷ e ∷ f ∷ g ∷ h ∷ j ∷ []) (now (t .entry))) (12 * i + 10) cost ⌝ }
 {
     let q = 12 * wide(i);
-    put_edit(t, q, edit);
+    put_five(
+        t,
+        q,
+        Five {
+            a: k,
+            b: a,
+            c: b,
+            d: c,
+            e: d,
+        },
+    );
+    put_five(
+        t,
+        q + 1 + 1 + 1 + 1 + 1,
+        Five {
+            a: e,
+            b: f,
+            c: g,
+            d: h,
+            e: j,
+        },
+    );
     t[q + 10] = cost;
 }

@@ -5,17 +5,17 @@ use mathlib.Core.Bool.{Bool, true, false, _||_}
 use mathlib.Core.List.{List, [], _∷_, map}
 use native.Mathlib.Omega.{arith}
 use borrow.Author.Tests.{eqb-true, eqb-false}
-use Rattle.lists.specs.Choice.{_⇒_else_, _==_, pick, is, bit}
+use Rattle.lists.specs.Choice.{_⇒_else_, _==_, ifEqual, indicator, toBit}
 use Rattle.lists.specs.Lists.{any, count}
 use Rattle.lists.specs.Keyed.{countBy}
 use Rattle.lists.proofs.Bools.{tf, ft}
 use Rattle.lists.proofs.Picks.{is-yes, is-no}
 
-pub bit-is : (m n : ℕ) → bit (m == n) ≡ is m n
-unfolding pick
+pub bit-is : (m n : ℕ) → toBit (m == n) ≡ indicator m n
+unfolding ifEqual
 bit-is m n = go (m == n)
   where
-    go : (t : Bool) → bit t ≡ (t ⇒ 1 else 0)
+    go : (t : Bool) → toBit t ≡ (t ⇒ 1 else 0)
     go true = refl
     go false = refl
 
@@ -32,7 +32,7 @@ module _ {A : Type 0} (key : A → ℕ) where
   any-count n [] h = ft h
   any-count n (x ∷ l) h = go (λ i. any-count n l i) (key x == n) refl
     where
-      go : (any (λ (y : A). key y == n) l ≡ true → 1 ≤ countBy key n l) → (t : Bool) → (key x == n) ≡ t → 1 ≤ is (key x) n + countBy key n l
+      go : (any (λ (y : A). key y == n) l ≡ true → 1 ≤ countBy key n l) → (t : Bool) → (key x == n) ≡ t → 1 ≤ indicator (key x) n + countBy key n l
       go ih true e = omega (arith, is-yes (key x) n (eqb-true (key x) n e))
       go ih false e = omega (arith, ih (rw e at h))
 
@@ -48,13 +48,6 @@ module _ {A : Type 0} (key : A → ℕ) where
   any-none n [] h = refl
   any-none n (x ∷ l) h = go (λ i. any-none n l i) (key x == n) refl
     where
-      go : (any (λ (y : A). key y == n) l ≡ false → countBy key n l ≡ 0) → (t : Bool) → (key x == n) ≡ t → is (key x) n + countBy key n l ≡ 0
+      go : (any (λ (y : A). key y == n) l ≡ false → countBy key n l ≡ 0) → (t : Bool) → (key x == n) ≡ t → indicator (key x) n + countBy key n l ≡ 0
       go ih true e = tf (rw e at h)
       go ih false e = omega (arith, ih (rw e at h), is-no (key x) n (eqb-false (key x) n e))
-
-  pub none-any : (n : ℕ) (l : List A) → countBy key n l ≡ 0 → any (λ (x : A). key x == n) l ≡ false
-  none-any n l h = go (any (λ (x : A). key x == n) l) refl
-    where
-      go : (t : Bool) → any (λ (x : A). key x == n) l ≡ t → t ≡ false
-      go true e = absurd (omega (arith, any-count n l e))
-      go false e = refl

@@ -7,8 +7,8 @@ use mathlib.Core.List.{List, [], _∷_, map}
 use native.Mathlib.Omega.{arith}
 use lib.ListN.{length}
 use borrow.Author.Tests.{eqb-true, eq-eqb}
-use Rattle.lists.specs.Choice.{_⇒_else_, _==_, bit}
-use Rattle.lists.specs.Lists.{keep, has, count, first, behind, after, firstsFrom, firsts, All, done, more}
+use Rattle.lists.specs.Choice.{_⇒_else_, _==_, toBit}
+use Rattle.lists.specs.Lists.{filter, member, count, first, dropThrough, after, dedupFrom, dedup, All, done, more}
 use Rattle.lists.proofs.Sums.{count-has}
 
 module _ {P : ℕ → Type 0} where
@@ -16,14 +16,14 @@ module _ {P : ℕ → Type 0} where
   pub all-counted : (xs : List ℕ) → ((n : ℕ) → 1 ≤ count n xs → P n) → All P xs
   all-counted [] h = done
   all-counted (x ∷ xs) h =
-      let one : bit (x == x) ≡ 1 = rw (eq-eqb x x refl) in
+      let one : toBit (x == x) ≡ 1 = rw (eq-eqb x x refl) in
       more (h x (omega arith)) (all-counted xs (λ n c. h n (omega arith)))
 
   pub counted-all : {xs : List ℕ} → All P xs → (n : ℕ) → 1 ≤ count n xs → P n
   counted-all done n c = absurd (omega arith)
   counted-all (more {x = x} {xs = xs} p a) n c = go (λ i. counted-all a n i) (x == n) refl c
     where
-      go : (1 ≤ count n xs → P n) → (t : Bool) → (x == n) ≡ t → 1 ≤ bit t + count n xs → P n
+      go : (1 ≤ count n xs → P n) → (t : Bool) → (x == n) ≡ t → 1 ≤ toBit t + count n xs → P n
       go ih true e c = subst P (eqb-true x n e) p
       go ih false e c = ih (omega arith)
 
@@ -33,26 +33,26 @@ module _ {P : ℕ → Type 0} where
   all-first z done = z
   all-first z (more p a) = p
 
-  all-behind : (a : ℕ) {xs : List ℕ} → All P xs → All P (behind a xs)
+  all-behind : (a : ℕ) {xs : List ℕ} → All P xs → All P (dropThrough a xs)
   all-behind a done = done
   all-behind a (more {x = x} {xs = xs} p s) = go (all-behind a s) (x == a)
     where
-      go : All P (behind a xs) → (t : Bool) → All P (t ⇒ xs else behind a xs)
+      go : All P (dropThrough a xs) → (t : Bool) → All P (t ⇒ xs else dropThrough a xs)
       go ih true = s
       go ih false = ih
 
   pub all-after : P 0 → (a : ℕ) {xs : List ℕ} → All P xs → P (after a xs)
   all-after z a s = all-first z (all-behind a s)
 
-  all-from : (seen : List ℕ) {xs : List ℕ} → All P xs → All P (firstsFrom seen xs)
+  all-from : (seen : List ℕ) {xs : List ℕ} → All P xs → All P (dedupFrom seen xs)
   all-from seen done = done
-  all-from seen (more {x = x} {xs = xs} p s) = go (all-from seen s) (all-from (x ∷ seen) s) (has x seen)
+  all-from seen (more {x = x} {xs = xs} p s) = go (all-from seen s) (all-from (x ∷ seen) s) (member x seen)
     where
-      go : All P (firstsFrom seen xs) → All P (firstsFrom (x ∷ seen) xs) → (t : Bool) → All P (t ⇒ firstsFrom seen xs else (x ∷ firstsFrom (x ∷ seen) xs))
+      go : All P (dedupFrom seen xs) → All P (dedupFrom (x ∷ seen) xs) → (t : Bool) → All P (t ⇒ dedupFrom seen xs else (x ∷ dedupFrom (x ∷ seen) xs))
       go i j true = i
       go i j false = more p j
 
-  pub all-firsts : {xs : List ℕ} → All P xs → All P (firsts xs)
+  pub all-firsts : {xs : List ℕ} → All P xs → All P (dedup xs)
   all-firsts s = all-from [] s
 
   -- f of every element
@@ -62,7 +62,7 @@ module _ {P : ℕ → Type 0} where
 
 -- the first and the one after a are in the list, or 0 where there is none
 abbrev pub NoneOrIn : List ℕ → ℕ → Type 0
-NoneOrIn xs n = (n ≡ 0) ⊎ (has n xs ≡ true)
+NoneOrIn xs n = (n ≡ 0) ⊎ (member n xs ≡ true)
 
 all-in : (xs : List ℕ) → All (NoneOrIn xs) xs
 all-in xs = all-counted xs (λ n c. inr (count-has n xs c))
@@ -70,13 +70,10 @@ all-in xs = all-counted xs (λ n c. inr (count-has n xs c))
 pub first-there : (xs : List ℕ) → NoneOrIn xs (first xs)
 first-there xs = all-first (inl refl) (all-in xs)
 
-pub after-there : (a : ℕ) (xs : List ℕ) → NoneOrIn xs (after a xs)
-after-there a xs = all-after (inl refl) a (all-in xs)
-
-pub keep-length : {A : Type 0} (p : A → Bool) (xs : List A) → length (keep p xs) ≤ length xs
+pub keep-length : {A : Type 0} (p : A → Bool) (xs : List A) → length (filter p xs) ≤ length xs
 keep-length p [] = omega arith
 keep-length p (x ∷ xs) = go (keep-length p xs) (p x)
   where
-    go : length (keep p xs) ≤ length xs → (t : Bool) → length (t ⇒ (x ∷ keep p xs) else keep p xs) ≤ suc (length xs)
+    go : length (filter p xs) ≤ length xs → (t : Bool) → length (t ⇒ (x ∷ filter p xs) else filter p xs) ≤ suc (length xs)
     go ih true = omega arith
     go ih false = omega arith

@@ -14,16 +14,16 @@ abbrev pub _==_ : ℕ → ℕ → Bool
 m == n = eqb m n
 
 -- `pick m n a b` is a where m and n are the same number, else b
-unfoldable pub pick {ℓ} : {A : Type ℓ} → ℕ → ℕ → A → A → A
-pick m n a b = (m == n) ⇒ a else b
+unfoldable pub ifEqual {ℓ} : {A : Type ℓ} → ℕ → ℕ → A → A → A
+ifEqual m n a b = (m == n) ⇒ a else b
 
 -- 1 where m and n are the same number, else 0
-abbrev pub is : ℕ → ℕ → ℕ
-is m n = pick m n 1 0
+abbrev pub indicator : ℕ → ℕ → ℕ
+indicator m n = ifEqual m n 1 0
 
-abbrev pub bit : Bool → ℕ
-bit true = 1
-bit false = 0
+abbrev pub toBit : Bool → ℕ
+toBit true = 1
+toBit false = 0
 
 abbrev pub within : ℕ → ℕ → ℕ → Bool
 within lo hi n = leb lo n && leb n hi

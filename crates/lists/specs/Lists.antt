@@ -3,14 +3,14 @@ use Prim.Native.Nat.{ℕ, zero, suc, _+_}
 use mathlib.Core.Bool.{Bool, true, false, not, _&&_, _||_}
 use mathlib.Core.List.{List, [], _∷_, _++_}
 use lib.ListN.{length, drop}
-use Rattle.lists.specs.Choice.{_⇒_else_, _==_, bit}
+use Rattle.lists.specs.Choice.{_⇒_else_, _==_, toBit}
 
 infix 40 _is_
 module _ {A : Type 0} where
   -- the elements that pass
-  abbrev pub keep : (A → Bool) → List A → List A
-  keep p [] = []
-  keep p (x ∷ xs) = p x ⇒ (x ∷ keep p xs) else keep p xs
+  abbrev pub filter : (A → Bool) → List A → List A
+  filter p [] = []
+  filter p (x ∷ xs) = p x ⇒ (x ∷ filter p xs) else filter p xs
 
   abbrev pub any : (A → Bool) → List A → Bool
   any p [] = false
@@ -31,59 +31,59 @@ module _ {A : Type 0} where
     more : {x : A} {xs : List A} → P x → All P xs → All P (x ∷ xs)
 
   -- f of each element, one after another
-  abbrev pub each : (A → List ℕ) → List A → List ℕ
-  each f [] = []
-  each f (x ∷ xs) = f x ++ each f xs
+  abbrev pub concatMap : (A → List ℕ) → List A → List ℕ
+  concatMap f [] = []
+  concatMap f (x ∷ xs) = f x ++ concatMap f xs
 
-abbrev pub has : ℕ → List ℕ → Bool
-has n xs = any (λ x. x == n) xs
+abbrev pub member : ℕ → List ℕ → Bool
+member n xs = any (λ x. x == n) xs
 
 abbrev pub _is_ : ℕ → List ℕ → Bool
-n is xs = has n xs
+n is xs = member n xs
 
 abbrev pub distinct : List ℕ → Bool
 distinct [] = true
-distinct (x ∷ xs) = not (has x xs) && distinct xs
+distinct (x ∷ xs) = not (member x xs) && distinct xs
 
 -- each number that is not among those seen, once, where it stands first
-abbrev pub firstsFrom : List ℕ → List ℕ → List ℕ
-firstsFrom seen [] = []
-firstsFrom seen (x ∷ xs) = has x seen ⇒ firstsFrom seen xs else (x ∷ firstsFrom (x ∷ seen) xs)
+abbrev pub dedupFrom : List ℕ → List ℕ → List ℕ
+dedupFrom seen [] = []
+dedupFrom seen (x ∷ xs) = member x seen ⇒ dedupFrom seen xs else (x ∷ dedupFrom (x ∷ seen) xs)
 
-abbrev pub firsts : List ℕ → List ℕ
-firsts xs = firstsFrom [] xs
+abbrev pub dedup : List ℕ → List ℕ
+dedup xs = dedupFrom [] xs
 
-abbrev pub same : List ℕ → List ℕ → Bool
-same [] [] = true
-same [] (y ∷ ys) = false
-same (x ∷ xs) [] = false
-same (x ∷ xs) (y ∷ ys) = (x == y) && same xs ys
+abbrev pub equalLists : List ℕ → List ℕ → Bool
+equalLists [] [] = true
+equalLists [] (y ∷ ys) = false
+equalLists (x ∷ xs) [] = false
+equalLists (x ∷ xs) (y ∷ ys) = (x == y) && equalLists xs ys
 
 -- how often n stands in the list
 abbrev pub count : ℕ → List ℕ → ℕ
-count n xs = sumOf (λ x. bit (x == n)) xs
+count n xs = sumOf (λ x. toBit (x == n)) xs
 
 -- the first of a list, and the one after a; 0 where there is none
 abbrev pub first : List ℕ → ℕ
 first [] = 0
 first (x ∷ xs) = x
 
-abbrev pub behind : ℕ → List ℕ → List ℕ
-behind a [] = []
-behind a (x ∷ xs) = (x == a) ⇒ xs else behind a xs
+abbrev pub dropThrough : ℕ → List ℕ → List ℕ
+dropThrough a [] = []
+dropThrough a (x ∷ xs) = (x == a) ⇒ xs else dropThrough a xs
 
 abbrev pub after : ℕ → List ℕ → ℕ
-after a xs = first (behind a xs)
+after a xs = first (dropThrough a xs)
 
 -- is b behind a
 abbrev pub before : ℕ → ℕ → List ℕ → Bool
-before a b xs = has b (behind a xs)
+before a b xs = member b (dropThrough a xs)
 
 -- 0, 1, .. n - 1
-abbrev pub upto : ℕ → List ℕ
-upto zero = []
-upto (suc n) = upto n ++ (n ∷ [])
+abbrev pub range : ℕ → List ℕ
+range zero = []
+range (suc n) = range n ++ (n ∷ [])
 
 -- what stands in a slice after words were written to its front
-abbrev pub over : List ℕ → List ℕ → List ℕ
-over ws slice = ws ++ drop (length ws) slice
+abbrev pub overwritten : List ℕ → List ℕ → List ℕ
+overwritten ws slice = ws ++ drop (length ws) slice

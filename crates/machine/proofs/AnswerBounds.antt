@@ -1,20 +1,20 @@
 -- Every answer word is below 2^32.
 use Prim.Native.Nat.{ℕ, _^_, _≤_, _<_}
 use mathlib.Core.Path.{_≡_, refl}
-use mathlib.Core.Bool.{Bool, true, false, not}
+use mathlib.Core.Bool.{Bool, true, false}
 use mathlib.Core.List.{List, [], _∷_}
 use native.Mathlib.Omega.{arith}
 use lib.Dec.{leb}
 use borrow.Author.Tests.{leb-true}
-use Rattle.lists.specs.Choice.{_⇒_else_, _==_, bit}
+use Rattle.lists.specs.Choice.{_⇒_else_, _==_, toBit}
 use Rattle.lists.specs.Lists.{before, All, done, more}
 use Rattle.lists.proofs.Sums.{all-imp, all-bool, bit-le}
 use Rattle.lists.proofs.Members.{all-first, all-after}
-use Rattle.types.specs.Types.{below}
+use Rattle.type_rows.specs.Types.{below}
 use Rattle.graph.specs.Graph.{vertexNumbers, edgeNumbers, this, listOf}
 use Rattle.graph.proofs.Facts.{to-facts}
 use Rattle.graph.specs.WellFormed.{Within}
-use Rattle.pricing.proofs.Ranges.{two-way-range, grade-range}
+use Rattle.prices.proofs.Ranges.{two-way-range, grade-range}
 use Rattle.image.specs.Image.{load}
 use Rattle.image.proofs.WordSize.{Word}
 use Rattle.history.specs.Machine.{Machine, present}
@@ -42,10 +42,9 @@ use Rattle.commands.specs.declared.Question.the-variants.{
   WordOrder,
   Below,
 }
-use Rattle.commands.specs.declared.PriceCall.{PriceCall}
 use Rattle.commands.specs.declared.PriceCall.the-variants.{Range, Grade}
 use Rattle.commands.specs.declared.Command.{Command}
-use Rattle.commands.specs.declared.Command.the-variants.{Alter, Recall, Ask, Quote, Unknown}
+use Rattle.commands.specs.declared.Command.the-variants.{Alter, History, Ask, Quote, Unknown}
 use Rattle.commands.specs.Tables.{Row, lowest}
 use Rattle.commands.specs.Commands.{commandOf, callOf}
 use Rattle.commands.specs.Fits.{Words}
@@ -56,7 +55,7 @@ use Rattle.machine.specs.Rules.{steps, nothing, deed}
 use Rattle.commands.specs.Calls.{Call, callsOf}
 use Rattle.machine.specs.Calls.{Parameters, boundsIn}
 use Rattle.machine.specs.Codes.{free, codeTable, refusal}
-use Rattle.machine.specs.Machine.{questionNumber, priceNumber, deedOf, answerTo, answers, step}
+use Rattle.machine.specs.Machine.{questionNumber, deedOf, answerTo, answers, step}
 use Rattle.machine.specs.Run.{Lent, parametersOf, Limits, listRefusal, answerWords}
 use Rattle.machine.specs.Demand.{begins}
 use Rattle.machine.proofs.Graphs.{Formed, present-formed}
@@ -86,7 +85,7 @@ module _ (w : Parameters) (m : Machine) (k : Limits w) (i : Invariant w m) where
   here : Formed w (present m)
   here = present-formed w m (i .formed)
 
-  bits-small : (t : Bool) → bit t < 2 ^ 32
+  bits-small : (t : Bool) → toBit t < 2 ^ 32
   bits-small t = omega (arith, bit-le t)
 
   vertices-small : All Word (vertexNumbers (present m))
@@ -130,15 +129,15 @@ module _ (w : Parameters) (m : Machine) (k : Limits w) (i : Invariant w m) where
       go : (t : Bool) → (t ⇒ deed (cost c (present m)) (steps (stepOf c (present m))) else deed 0 nothing) .number < 2 ^ 32
       go true = omega (arith, cost-le (boundsIn w) (present m) here c, k .few-edges)
       go false = omega arith
-  number-fits (Recall (SetMark n)) = omega arith
-  number-fits (Recall (DropMark n)) = omega arith
-  number-fits (Recall Undo) = omega arith
-  number-fits (Recall Redo) = omega arith
-  number-fits (Recall (GoTo n)) = omega (arith, moved-le w m i n, k .few-changes)
-  number-fits (Recall Commit) = omega (arith, place-le w m i, k .few-changes)
-  number-fits (Recall (Between a b)) = omega (arith, between-le w m i a b, k .few-changes)
-  number-fits (Recall Standing) = omega (arith, standing-le (m .marks))
-  number-fits (Recall Free) = omega (arith, free-le w m, k .few-changes)
+  number-fits (History (SetMark n)) = omega arith
+  number-fits (History (DropMark n)) = omega arith
+  number-fits (History Undo) = omega arith
+  number-fits (History Redo) = omega arith
+  number-fits (History (GoTo n)) = omega (arith, moved-le w m i n, k .few-changes)
+  number-fits (History Commit) = omega (arith, place-le w m i, k .few-changes)
+  number-fits (History (Between a b)) = omega (arith, between-le w m i a b, k .few-changes)
+  number-fits (History Standing) = omega (arith, standing-le (m .marks))
+  number-fits (History Free) = omega (arith, free-le w m, k .few-changes)
   number-fits (Ask q) = question-fits q
   number-fits (Quote (Range a b)) = omega (arith, two-way-range (boundsIn w) (present m) ranges a b)
   number-fits (Quote (Grade a b c)) = omega (arith, grade-range (boundsIn w) (present m) ranges a b c)

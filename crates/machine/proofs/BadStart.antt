@@ -9,7 +9,7 @@ use borrow.Author.Tests.{ne-eqb, not-false}
 use Rattle.lists.specs.Choice.{_⇒_else_, _==_, within}
 use Rattle.lists.specs.Lists.{all}
 use Rattle.lists.proofs.Bools.{and-true, within-range}
-use Rattle.types.specs.Rows.{rowFits, goodRows}
+use Rattle.type_rows.specs.Rows.{rowFits, goodRows}
 use Rattle.image.specs.Image.{vertexSize, vertexOffset, incidenceOffset, imageLength, vertexCount, edgeCount, recordSize}
 use Rattle.image.specs.Checks.{codeOf, loadCode, verdict}
 use Rattle.image.specs.FirstBad.{isDegree, FirstBad, FirstDegree}

@@ -5,8 +5,8 @@ use mathlib.Core.Bool.{true}
 use mathlib.Core.List.{List, [], _∷_}
 use Prim.Native.Nat.{ℕ}
 use lib.ListN.{replicate}
-use Rattle.lists.specs.Choice.{pick}
-use Rattle.lists.specs.Lists.{all, All, same}
+use Rattle.lists.specs.Choice.{ifEqual}
+use Rattle.lists.specs.Lists.{all, All, equalLists}
 use Rattle.lists.proofs.Sums.{all-bool}
 use Rattle.graph.specs.Graph.{Graph, empty}
 use Rattle.graph.specs.WellFormed.{wellFormed}
@@ -23,29 +23,29 @@ use Rattle.machine.specs.Machine.{stepTo, last}
 use Rattle.machine.specs.Run.{Lent, listRefusal}
 use Rattle.machine.specs.Seven.{parameters, seven, making, then, delete, undo, Case, twelve}
 
-computed : all (λ (c : Case). same (c .found) (c .said)) twelve ≡ true
-unfolding twelve pick
+computed : all (λ (c : Case). equalLists (c .found) (c .said)) twelve ≡ true
+unfolding twelve ifEqual
 computed = refl
 
 pub cases-hold : All (λ (c : Case). c .found ≡ c .said) twelve
-cases-hold = all-bool (λ (c : Case). same (c .found) (c .said)) (λ c e. same-eq (c .found) (c .said) e) twelve computed
+cases-hold = all-bool (λ (c : Case). equalLists (c .found) (c .said)) (λ c e. same-eq (c .found) (c .said) e) twelve computed
 
 formed : wellFormed (boundsIn parameters) seven ≡ true
-unfolding wellFormed pick
+unfolding wellFormed ifEqual
 formed = refl
 
 -- graphs that save as the same words are the same
-same-graph : (g : Graph) → wellFormed (boundsIn parameters) g ≡ true → same (save g) (save seven) ≡ true → g ≡ seven
+same-graph : (g : Graph) → wellFormed (boundsIn parameters) g ≡ true → equalLists (save g) (save seven) ≡ true → g ≡ seven
 same-graph g f e = one-graph (boundsIn parameters) (boundsIn parameters) g seven f formed (inl (same-eq (save g) (save seven) e)) (inl refl)
 
 -- the calls that make Seven
 pub made : present (last parameters (fresh empty) making) ≡ seven
-unfolding last stepTo commandOf alters refusal stepOf save wellFormed pick
+unfolding last stepTo commandOf alters refusal stepOf save wellFormed ifEqual
 made = same-graph _ refl refl
 
 -- case G compares the words of the two graphs, so the graphs are the same
 pub case-g : present (then (delete 1 ∷ undo ∷ [])) ≡ seven
-unfolding then save wellFormed pick
+unfolding then save wellFormed ifEqual
 case-g = same-graph _ refl refl
 
 -- a list of no calls, from a start chart, at capacities 10, 10, 20
@@ -63,13 +63,13 @@ idle start room = record {
 
 -- lists are accepted: Seven by its new and its old words; the end image asks for 126 words
 pub accepted-one : listRefusal (idle (save seven) 126) ≡ 0
-unfolding listRefusal save wellFormed pick
+unfolding listRefusal save wellFormed ifEqual
 accepted-one = refl
 
 pub accepted-old : listRefusal (idle (saveOld seven) 126) ≡ 0
-unfolding listRefusal saveOld wellFormed pick
+unfolding listRefusal saveOld wellFormed ifEqual
 accepted-old = refl
 
 pub no-room : listRefusal (idle (save seven) 125) ≡ 106
-unfolding listRefusal save wellFormed pick
+unfolding listRefusal save wellFormed ifEqual
 no-room = refl

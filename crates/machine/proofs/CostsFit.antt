@@ -1,6 +1,6 @@
 -- The steps remembered never cost more than the capacity, so free changes plus the costs of steps 1 to p is the capacity.
 use Prim.Native.Nat.{_+_, _≤_}
-use mathlib.Core.Path.{_≡_, refl, sym, subst, _∙_}
+use mathlib.Core.Path.{_≡_, refl, sym, _∙_}
 use mathlib.Core.Bool.{Bool, true, false, _&&_}
 use mathlib.Core.List.{List, [], _∷_}
 use native.Mathlib.Omega.{arith}
@@ -9,12 +9,12 @@ use borrow.Author.Tests.{ltb-false}
 use Rattle.lists.specs.Choice.{_==_}
 use Rattle.graph.specs.Graph.{Graph}
 use Rattle.graph.specs.Changes.{cost}
-use Rattle.history.specs.Machine.{Step, Machine, costs, fresh, present}
+use Rattle.history.specs.Machine.{Machine, costs, fresh, present}
 use Rattle.history.proofs.Timelines.{costs-cut, costs-take}
 use Rattle.history.specs.Machine.{stepOf}
 use Rattle.machine.specs.Rules.{Effect, steps, marks, unmarks, goes, clears, nothing, effected}
 use Rattle.commands.specs.declared.Command.{Command}
-use Rattle.commands.specs.declared.Command.the-variants.{Alter, Recall, Ask, Quote, Unknown}
+use Rattle.commands.specs.declared.Command.the-variants.{Alter, History, Ask, Quote, Unknown}
 use Rattle.commands.specs.Calls.{Call}
 use Rattle.commands.specs.Commands.{commandOf}
 use Rattle.machine.proofs.Accepts.{accepted-step, refused-step}
@@ -34,7 +34,7 @@ no-left false b e f = refl
 makes-room : (w : Parameters) (m : Machine) (c : Command) → (refusal w m c == 0) ≡ true → Makes (λ s. s .cost ≤ free w m) (deedOf w c m .effect)
 unfolding stepOf free
 makes-room w m (Alter c) e = change-effect (Makes (λ s. s .cost ≤ free w m)) c m (λ a. ltb-false (free w m) (cost c (present m)) (no-left _ _ (change-passed w m c e .1) a)) tt
-makes-room w m (Recall h) e = history-makes (λ s. s .cost ≤ free w m) (w .changes) h m
+makes-room w m (History h) e = history-makes (λ s. s .cost ≤ free w m) (w .changes) h m
 makes-room w m (Ask q) e = tt
 makes-room w m (Quote p) e = tt
 makes-room w m Unknown e = tt

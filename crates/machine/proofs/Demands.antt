@@ -7,20 +7,21 @@ use native.Mathlib.Omega.{arith}
 use borrow.Author.Tests.{eq-eqb, ne-eqb}
 use Rattle.lists.specs.Choice.{_==_}
 use Rattle.image.proofs.Loads.{loads-back, saved-same, saved-loads, loads}
-use Rattle.history.specs.Machine.{Machine, present}
+use Rattle.history.specs.Machine.{Machine}
 use Rattle.commands.specs.declared.Command.{Command}
 use Rattle.commands.specs.Calls.{Call, callsOf}
 use Rattle.commands.specs.Commands.{commandOf}
 use Rattle.commands.specs.Tables.{NoneApplies}
 use Rattle.machine.specs.Calls.{Parameters, boundsIn}
 use Rattle.machine.specs.Codes.{codeTable, refusal}
-use Rattle.machine.specs.Machine.{Answer, deedOf, answerTo, answer, answers, step, last}
+use Rattle.commands.specs.declared.Answer.{Answer}
+use Rattle.machine.specs.Machine.{deedOf, answerTo, answer, answers, step}
 use Rattle.machine.specs.Run.{Lent, parametersOf, listTable, listRefusal, listNumber, refused, run}
-use Rattle.machine.specs.Demand.{begins, after}
+use Rattle.machine.specs.Demand.{begins}
 use Rattle.machine.specs.Demands.{Each, ByTable, Demand1, OfTheGraph, Demand2}
 use Rattle.machine.proofs.Accepts.{refused-step}
 use Rattle.machine.proofs.Graphs.{end-formed}
-use Rattle.machine.proofs.ListRows.{passed, start-formed}
+use Rattle.machine.proofs.ListRows.{start-formed}
 use Rattle.machine.proofs.Lowest.{turn-to, turn-from, none-to, none-from, coded, list-code-given}
 use Rattle.machine.proofs.OnWords.{on-words}
 use Rattle.machine.proofs.Whole.{demand-3}

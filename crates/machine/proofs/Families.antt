@@ -23,7 +23,7 @@ use Rattle.commands.specs.declared.Question.{Question}
 use Rattle.commands.specs.declared.Question.the-variants.{FirstVertex, NextVertex, FirstEdge, NextEdge, FirstWord, NextWord, Alpha, Omega, This, That, VertexType, EdgeType, Value, ReadingKind, Decimetres, Degree, VertexOrder, EdgeOrder, WordOrder, Below}
 use Rattle.commands.specs.declared.PriceCall.{PriceCall}
 use Rattle.commands.specs.declared.PriceCall.the-variants.{Range, Grade}
-use Rattle.commands.specs.declared.Command.the-variants.{Alter, Recall, Ask, Quote}
+use Rattle.commands.specs.declared.Command.the-variants.{Alter, History, Ask, Quote}
 use Rattle.commands.specs.Tables.{Row, lowest}
 use Rattle.commands.specs.Commands.{changeOf, changeCall}
 use Rattle.machine.specs.Calls.{Parameters, boundsIn}
@@ -89,7 +89,7 @@ module _ (w : Parameters) (m : Machine) where
 
   -- ---- the other families
 
-  pub history-refusal : (h : HistoryCall) → refusal w m (Recall h) ≡ historyRule (w .changes) h .code m
+  pub history-refusal : (h : HistoryCall) → refusal w m (History h) ≡ historyRule (w .changes) h .code m
   unfolding refusal
   history-refusal (SetMark k) = refl
   history-refusal (DropMark k) = refl

@@ -15,7 +15,7 @@ use Rattle.lists.proofs.KeyedLaws.{find-none}
 use Rattle.lists.proofs.Firsts.{distinct-firsts}
 use Rattle.lists.proofs.Members.{all-counted, counted-all, all-firsts, all-keys, keep-length}
 use Rattle.graph.specs.declared.Change.{Change}
-use Rattle.graph.specs.Graph.{Vertex, Edge, Graph, vn, en, noVertex, noEdge, edgeIn, vertex, edge, vertexNumbers, edgeNumbers, outWord, inWord, edgeOf, this, that, thisIn, listOf, readingKind, decimetres}
+use Rattle.graph.specs.Graph.{Vertex, Edge, Graph, vertexNumber, edgeNumber, noVertex, noEdge, edgeIn, vertex, edge, vertexNumbers, edgeNumbers, outWord, inWord, edgeOf, this, that, thisIn, listOf, readingKind, decimetres}
 use Rattle.graph.specs.WellFormed.{Bounds, wellFormed, WellFormed, VertexIn, EdgeIn, Within}
 use Rattle.graph.specs.Changes.{edgesAt, cost}
 use Rattle.graph.specs.Questions.{onSide, degree}
@@ -44,28 +44,28 @@ module _ (b : Bounds) (g : Graph) (h : wellFormed b g ≡ true) where
   -- ---- numbers
 
   pub vertex-numbers-le : All (λ n. n ≤ b .vertices) (vertexNumbers g)
-  vertex-numbers-le = all-keys vn (all-imp (λ (v : Vertex) f. f .number) (fits .vertices))
+  vertex-numbers-le = all-keys vertexNumber (all-imp (λ (v : Vertex) f. f .number) (fits .vertices))
 
   pub edge-numbers-le : All (λ n. n ≤ b .edges) (edgeNumbers g)
-  edge-numbers-le = all-keys en (all-imp (λ (e : Edge) f. f .number) (fits .edges))
+  edge-numbers-le = all-keys edgeNumber (all-imp (λ (e : Edge) f. f .number) (fits .edges))
 
-  vertex-le : (n : ℕ) → 1 ≤ countBy vn n (g .vseq) → n ≤ b .vertices
-  vertex-le n c = omega (arith, key-find vn noVertex n (g .vseq) c, all-find vn (VertexIn b) noVertex n c (fits .vertices) .number)
+  vertex-le : (n : ℕ) → 1 ≤ countBy vertexNumber n (g .vseq) → n ≤ b .vertices
+  vertex-le n c = omega (arith, key-find vertexNumber noVertex n (g .vseq) c, all-find vertexNumber (VertexIn b) noVertex n c (fits .vertices) .number)
 
-  edge-le : (n : ℕ) → 1 ≤ countBy en n (g .eseq) → n ≤ b .edges
-  edge-le n c = omega (arith, key-find en noEdge n (g .eseq) c, all-find en (EdgeIn b) noEdge n c (fits .edges) .number)
+  edge-le : (n : ℕ) → 1 ≤ countBy edgeNumber n (g .eseq) → n ≤ b .edges
+  edge-le n c = omega (arith, key-find edgeNumber noEdge n (g .eseq) c, all-find edgeNumber (EdgeIn b) noEdge n c (fits .edges) .number)
 
   -- ---- the ends of an edge; 0 where it is missing
 
   end-le : (k : ℕ) → thisIn (g .eseq) k ≤ b .vertices
-  end-le k = elim (same? (countBy en (edgeOf k) (g .eseq)) 0) [
+  end-le k = elim (same? (countBy edgeNumber (edgeOf k) (g .eseq)) 0) [
     | same e f ↦ omega (arith, none k e)
     | differ e f ↦ vertex-le (thisIn (g .eseq) k) (omega (arith, well .ends k (omega (arith, well .eorder (edgeOf k)))))
   ]
     where
-      none : (k : ℕ) → countBy en (edgeOf k) (g .eseq) ≡ 0 → thisIn (g .eseq) k ≡ 0
+      none : (k : ℕ) → countBy edgeNumber (edgeOf k) (g .eseq) ≡ 0 → thisIn (g .eseq) k ≡ 0
       none k e =
-          let d : edgeIn (g .eseq) (edgeOf k) ≡ noEdge = find-none en noEdge (edgeOf k) (g .eseq) e in
+          let d : edgeIn (g .eseq) (edgeOf k) ≡ noEdge = find-none edgeNumber noEdge (edgeOf k) (g .eseq) e in
           elim (same? (k % 2) 0) [
             | same i j ↦ pick-yes (k % 2) 0 _ _ i ∙ ap (λ (x : Edge). x .alpha) d
             | differ i j ↦ pick-no (k % 2) 0 _ _ i ∙ ap (λ (x : Edge). x .omega) d
@@ -89,17 +89,17 @@ module _ (b : Bounds) (g : Graph) (h : wellFormed b g ≡ true) where
   -- ---- what a vertex and an edge carry; types are below their number, or 0
 
   pub vertex-type-le : (n : ℕ) → vertex g n .type ≤ b .types
-  vertex-type-le n = all-found vn (λ (v : Vertex). v .type ≤ b .types) noVertex n (omega arith) (all-imp (λ (v : Vertex) f. omega (arith, f .type)) (fits .vertices))
+  vertex-type-le n = all-found vertexNumber (λ (v : Vertex). v .type ≤ b .types) noVertex n (omega arith) (all-imp (λ (v : Vertex) f. omega (arith, f .type)) (fits .vertices))
 
   pub edge-type-le : (n : ℕ) → edge g n .type ≤ b .types
-  edge-type-le n = all-found en (λ (e : Edge). e .type ≤ b .types) noEdge n (omega arith) (all-imp (λ (e : Edge) f. omega (arith, f .type)) (fits .edges))
+  edge-type-le n = all-found edgeNumber (λ (e : Edge). e .type ≤ b .types) noEdge n (omega arith) (all-imp (λ (e : Edge) f. omega (arith, f .type)) (fits .edges))
 
   pub value-lt : (n : ℕ) → vertex g n .value < 2 ^ 32
-  value-lt n = all-found vn (λ (v : Vertex). v .value < 2 ^ 32) noVertex n (omega arith) (all-imp (λ (v : Vertex) f. f .value) (fits .vertices))
+  value-lt n = all-found vertexNumber (λ (v : Vertex). v .value < 2 ^ 32) noVertex n (omega arith) (all-imp (λ (v : Vertex) f. f .value) (fits .vertices))
 
   reading-le : (n : ℕ) → (readingKind (edge g n .reading) ≤ 2) × (decimetres (edge g n .reading) ≤ 9999)
   reading-le n =
-      all-found en (λ (e : Edge). (readingKind (e .reading) ≤ 2) × (decimetres (e .reading) ≤ 9999)) noEdge n (omega arith, omega arith)
+      all-found edgeNumber (λ (e : Edge). (readingKind (e .reading) ≤ 2) × (decimetres (e .reading) ≤ 9999)) noEdge n (omega arith, omega arith)
       (all-imp (λ (e : Edge) f. reading-range (e .reading) (f .reading)) (fits .edges))
 
   pub reading-kind-le : (n : ℕ) → readingKind (edge g n .reading) ≤ 2
@@ -112,8 +112,8 @@ module _ (b : Bounds) (g : Graph) (h : wellFormed b g ≡ true) where
 
   pub list-words : (u : ℕ) → All (WordOf (b .edges)) (listOf g u)
   list-words u = all-counted (listOf g u) (λ k c.
-      let d : 1 ≤ countBy en (edgeOf k) (g .eseq) =
-      omega (arith, count-same k (listOf g u), well .lists u k, pick-le (thisIn (g .eseq) k) u (countBy en (edgeOf k) (g .eseq))) in
+      let d : 1 ≤ countBy edgeNumber (edgeOf k) (g .eseq) =
+      omega (arith, count-same k (listOf g u), well .lists u k, pick-le (thisIn (g .eseq) k) u (countBy edgeNumber (edgeOf k) (g .eseq))) in
       let n = edge-le (edgeOf k) d in
       let r : 1 ≤ edgeOf k = elim (same? 0 (edgeOf k)) [
         | same e f ↦ absurd (omega (arith, well .eorder (edgeOf k), is-yes 0 (edgeOf k) e))

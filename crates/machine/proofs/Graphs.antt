@@ -1,6 +1,6 @@
 -- Every graph that the machine ever holds is well formed, so every end image loads again.
 use Prim.Native.Nat.{ℕ, zero, suc}
-use mathlib.Core.Path.{_≡_, refl, subst}
+use mathlib.Core.Path.{_≡_, refl}
 use mathlib.Core.Bool.{Bool, true, false}
 use mathlib.Core.List.{List, [], _∷_, _++_}
 use lib.ListN.{take}
@@ -8,7 +8,6 @@ use Rattle.lists.specs.Choice.{_==_}
 use Rattle.lists.specs.Lists.{All, done, more}
 use Rattle.graph.specs.Graph.{Graph}
 use Rattle.graph.specs.WellFormed.{wellFormed}
-use Rattle.graph.specs.Changes.{changed}
 use Rattle.graph.proofs.Facts.{to-facts}
 use Rattle.graph.proofs.ChangeLaws.{change-keeps}
 use Rattle.image.specs.Image.{save, loadable}
@@ -17,7 +16,7 @@ use Rattle.history.specs.Machine.{Step, Machine, graphAt, fresh, present}
 use Rattle.history.specs.Machine.{stepOf}
 use Rattle.machine.specs.Rules.{Effect, steps, marks, unmarks, goes, clears, nothing, effected}
 use Rattle.commands.specs.declared.Command.{Command}
-use Rattle.commands.specs.declared.Command.the-variants.{Alter, Recall, Ask, Quote, Unknown}
+use Rattle.commands.specs.declared.Command.the-variants.{Alter, History, Ask, Quote, Unknown}
 use Rattle.commands.specs.Calls.{Call}
 use Rattle.commands.specs.Commands.{commandOf}
 use Rattle.commands.specs.Fits.{Words, CommandFits}
@@ -65,7 +64,7 @@ unfolding stepOf
 makes-formed w m (Alter c) f a e =
     let p = present-formed w m a in
     change-effect (Makes (λ s. Formed w (s .graph))) c m (λ _. change-keeps (boundsIn w) (present m) c p (allows (boundsIn w) (present m) (to-facts (boundsIn w) (present m) p .0) c f (change-passed w m c e .0))) tt
-makes-formed w m (Recall h) f a e = history-makes (λ s. Formed w (s .graph)) (w .changes) h m
+makes-formed w m (History h) f a e = history-makes (λ s. Formed w (s .graph)) (w .changes) h m
 makes-formed w m (Ask q) f a e = tt
 makes-formed w m (Quote p) f a e = tt
 makes-formed w m Unknown f a e = tt

@@ -6,14 +6,14 @@ use mathlib.Core.List.{List, [], _∷_, _++_}
 use native.Mathlib.Omega.{arith}
 use lib.ListN.{length, take}
 use Rattle.lists.specs.Choice.{_==_}
-use Rattle.lists.specs.Lists.{All, done, more, upto}
+use Rattle.lists.specs.Lists.{All, done, more, range}
 use Rattle.lists.proofs.Members.{keep-length}
 use Rattle.graph.specs.Graph.{Graph}
-use Rattle.history.specs.Machine.{Step, Machine, Standing, gone, at, stands, placeOr, costs, distance, standing, fresh, present}
+use Rattle.history.specs.Machine.{Step, Machine, MarkPlace, gone, at, stands, placeOr, costs, distance, countStanding, fresh, present}
 use Rattle.history.specs.Machine.{stepOf}
 use Rattle.machine.specs.Rules.{Effect, steps, marks, unmarks, goes, clears, nothing, effected}
 use Rattle.commands.specs.declared.Command.{Command}
-use Rattle.commands.specs.declared.Command.the-variants.{Alter, Recall, Ask, Quote, Unknown}
+use Rattle.commands.specs.declared.Command.the-variants.{Alter, History, Ask, Quote, Unknown}
 use Rattle.commands.specs.Calls.{Call}
 use Rattle.commands.specs.Commands.{commandOf}
 use Rattle.commands.specs.Fits.{Words}
@@ -40,7 +40,7 @@ costed-cut (suc p) s (more q a) h = more q (costed-cut p s a h)
 makes-costed : (w : Parameters) (m : Machine) (c : Command) → Makes (λ s. 1 ≤ s .cost) (deedOf w c m .effect)
 unfolding stepOf
 makes-costed w m (Alter c) = change-effect (Makes (λ s. 1 ≤ s .cost)) c m (λ _. cost-real c (present m)) tt
-makes-costed w m (Recall h) = history-makes (λ s. 1 ≤ s .cost) (w .changes) h m
+makes-costed w m (History h) = history-makes (λ s. 1 ≤ s .cost) (w .changes) h m
 makes-costed w m (Ask q) = tt
 makes-costed w m (Quote p) = tt
 makes-costed w m Unknown = tt
@@ -111,7 +111,7 @@ module _ (w : Parameters) (m : Machine) (i : Invariant w m) where
   pub mark-place-le : (other k : ℕ) → other ≤ w .changes → placeOr other (m .marks k) ≤ w .changes
   mark-place-le other k h = go (m .marks k) refl
     where
-      go : (s : Standing) → m .marks k ≡ s → placeOr other s ≤ w .changes
+      go : (s : MarkPlace) → m .marks k ≡ s → placeOr other s ≤ w .changes
       go gone e = h
       go (at q) e = mark-le k q e
 
@@ -129,6 +129,6 @@ unfolding free
 free-le w m = omega arith
 
 -- kind 50
-pub standing-le : (ms : ℕ → Standing) → standing ms ≤ 64
-unfolding standing
-standing-le ms = keep-length (λ n. stands (ms (suc n))) (upto 64)
+pub standing-le : (ms : ℕ → MarkPlace) → countStanding ms ≤ 64
+unfolding countStanding
+standing-le ms = keep-length (λ n. stands (ms (suc n))) (range 64)

@@ -7,12 +7,13 @@ use native.Mathlib.Omega.{arith}
 use lib.ListN.{length}
 use borrow.Author.Tests.{eqb-true, eq-eqb, ne-eqb}
 use Rattle.lists.specs.Choice.{_⇒_else_, _==_}
-use Rattle.history.specs.Machine.{Machine, moves, fresh, present}
+use Rattle.history.specs.Machine.{Machine, movedTo, fresh, present}
 use Rattle.commands.specs.declared.HistoryCall.the-variants.{Undo, Redo, Commit}
-use Rattle.commands.specs.declared.Command.the-variants.{Recall}
+use Rattle.commands.specs.declared.Command.the-variants.{History}
 use Rattle.machine.specs.Calls.{Parameters}
 use Rattle.machine.specs.Codes.{free, refusal}
-use Rattle.machine.specs.Machine.{Answer, answerTo, stepTo}
+use Rattle.commands.specs.declared.Answer.{Answer}
+use Rattle.machine.specs.Machine.{answerTo, stepTo}
 
 abbrev accepts : ℕ → Answer
 accepts n = record { code = 0; number = n }
@@ -20,7 +21,7 @@ accepts n = record { code = 0; number = n }
 module _ (w : Parameters) (m : Machine) where
   -- ---- undo: refused exactly where p is 0, else it answers 1 and gives the graph before
 
-  pub undo-refused : (m .line .place ≡ 0) ↔ (refusal w m (Recall Undo) ≡ 14)
+  pub undo-refused : (m .line .place ≡ 0) ↔ (refusal w m (History Undo) ≡ 14)
   unfolding refusal
   undo-refused = (λ e. rw (eq-eqb (m .line .place) 0 e), λ e. go (m .line .place == 0) refl e)
     where
@@ -28,7 +29,7 @@ module _ (w : Parameters) (m : Machine) where
       go true f e = eqb-true (m .line .place) 0 f
       go false f e = absurd (omega arith)
 
-  pub undo-made : (p : ℕ) → m .line .place ≡ suc p → (answerTo w m (Recall Undo) ≡ accepts 1) × (stepTo w m (Recall Undo) ≡ moves p m)
+  pub undo-made : (p : ℕ) → m .line .place ≡ suc p → (answerTo w m (History Undo) ≡ accepts 1) × (stepTo w m (History Undo) ≡ movedTo p m)
   unfolding answerTo stepTo refusal
   undo-made p e =
       let f : (m .line .place == 0) ≡ false = ne-eqb (m .line .place) 0 (omega arith) in
@@ -37,7 +38,7 @@ module _ (w : Parameters) (m : Machine) where
 
   -- ---- redo: refused exactly where p is m, else it answers 1 and gives the graph after
 
-  pub redo-refused : (m .line .place ≡ length (m .line .steps)) ↔ (refusal w m (Recall Redo) ≡ 14)
+  pub redo-refused : (m .line .place ≡ length (m .line .steps)) ↔ (refusal w m (History Redo) ≡ 14)
   unfolding refusal
   redo-refused =
       (λ e. rw (eq-eqb (m .line .place) (length (m .line .steps)) e), λ e. go (m .line .place == length (m .line .steps)) refl e)
@@ -46,7 +47,7 @@ module _ (w : Parameters) (m : Machine) where
       go true f e = eqb-true (m .line .place) (length (m .line .steps)) f
       go false f e = absurd (omega arith)
 
-  pub redo-made : (m .line .place ≡ length (m .line .steps) → ⊥) → (answerTo w m (Recall Redo) ≡ accepts 1) × (stepTo w m (Recall Redo) ≡ moves (suc (m .line .place)) m)
+  pub redo-made : (m .line .place ≡ length (m .line .steps) → ⊥) → (answerTo w m (History Redo) ≡ accepts 1) × (stepTo w m (History Redo) ≡ movedTo (suc (m .line .place)) m)
   unfolding answerTo stepTo refusal
   redo-made e =
       let f : (m .line .place == length (m .line .steps)) ≡ false = ne-eqb (m .line .place) (length (m .line .steps)) e in
@@ -54,6 +55,6 @@ module _ (w : Parameters) (m : Machine) where
 
   -- ---- commit: always accepted; it answers p, keeps the graph and gives back everything
 
-  pub commit-made : (answerTo w m (Recall Commit) ≡ accepts (m .line .place)) × (stepTo w m (Recall Commit) ≡ fresh (present m)) × (free w (stepTo w m (Recall Commit)) ≡ w .changes)
+  pub commit-made : (answerTo w m (History Commit) ≡ accepts (m .line .place)) × (stepTo w m (History Commit) ≡ fresh (present m)) × (free w (stepTo w m (History Commit)) ≡ w .changes)
   unfolding answerTo stepTo refusal free
   commit-made = (refl, refl, omega arith)

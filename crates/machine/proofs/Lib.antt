@@ -17,6 +17,5 @@ pub mod AnswerBounds
 pub mod Ends
 pub mod Lowest
 pub mod OnWords
-pub mod RuleLaws
 pub mod StepsAlter
 pub mod Demands

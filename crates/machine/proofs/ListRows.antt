@@ -9,7 +9,7 @@ use borrow.Author.Tests.{eqb-true, eq-eqb, not-false, ltb-false}
 use Rattle.lists.specs.Choice.{_⇒_else_, _==_, within}
 use Rattle.lists.specs.Lists.{all}
 use Rattle.lists.proofs.Bools.{and-true, within-range}
-use Rattle.types.specs.Rows.{rowFits, goodRows}
+use Rattle.type_rows.specs.Rows.{rowFits, goodRows}
 use Rattle.image.specs.Image.{load, loadable, imageLength}
 use Rattle.image.specs.Checks.{codeOf, verdict}
 use Rattle.image.specs.declared.Verdict.{Verdict}

@@ -1,14 +1,14 @@
 -- The code given is that of the first row that applies, of a call the lowest; 10 is given for want of room.
-use Prim.Native.Nat.{ℕ, suc, _≤_, _<_}
+use Prim.Native.Nat.{ℕ, suc, _<_}
 use mathlib.Core.Path.{_≡_, refl}
 use mathlib.Core.Logic.{_↔_}
-use mathlib.Core.Bool.{Bool, true, false, _&&_}
+use mathlib.Core.Bool.{Bool, true, false}
 use mathlib.Core.List.{List, [], _∷_, map}
 use native.Mathlib.Omega.{arith}
-use lib.Dec.{leb, ltb}
+use lib.Dec.{leb}
 use borrow.Author.Tests.{leb-true, ltb-true, lt-ltb}
 use Rattle.lists.specs.Choice.{_⇒_else_}
-use Rattle.lists.specs.Lists.{All, done, more, upto}
+use Rattle.lists.specs.Lists.{done, more, range}
 use Rattle.lists.proofs.Bools.{and-true}
 use Rattle.lists.proofs.Sums.{all-bool}
 use Rattle.graph.specs.Changes.{cost}
@@ -26,7 +26,7 @@ use Rattle.machine.proofs.Families.{Coded}
 use Rattle.machine.specs.Run.{Lent, listTable, listRefusal}
 
 -- the codes of the tables, in their order
-pub codes : (w : Parameters) (m : Machine) (x : Call) → map (λ (r : Row). r .code) (codeTable w m x) ≡ map suc (upto 17)
+pub codes : (w : Parameters) (m : Machine) (x : Call) → map (λ (r : Row). r .code) (codeTable w m x) ≡ map suc (range 17)
 unfolding codeTable
 codes w m x = refl
 

@@ -1,6 +1,6 @@
 -- When marks stand and what going to one gives: REFERENCE 4.11 and 4.12.
-use Prim.Native.Nat.{ℕ, _≤_, _<_}
-use mathlib.Core.Path.{_≡_, refl, sym, ap, _∙_, subst}
+use Prim.Native.Nat.{ℕ, _≤_}
+use mathlib.Core.Path.{_≡_, refl, sym, ap, _∙_}
 use mathlib.Core.Logic.{_⊎_, inl, inr}
 use mathlib.Core.Bool.{Bool, true, false}
 use mathlib.Core.List.{List, [], _∷_}
@@ -12,15 +12,14 @@ use Rattle.lists.specs.Choice.{_==_, within}
 use Rattle.lists.specs.Lists.{any}
 use Rattle.lists.proofs.Bools.{tf, ft, and-true, or-none}
 use Rattle.graph.specs.Graph.{Graph}
-use Rattle.history.specs.Machine.{Machine, Standing, gone, at, placeOr, graphAt, distance, fresh, present}
+use Rattle.history.specs.Machine.{Machine, MarkPlace, gone, at, placeOr, graphAt, distance, fresh, present}
 use Rattle.history.proofs.Timelines.{length-cut, graph-kept}
 use Rattle.machine.specs.Rules.{Effect, steps, marks, unmarks, goes, clears, nothing, effected}
-use Rattle.commands.specs.declared.HistoryCall.{HistoryCall}
 use Rattle.commands.specs.declared.HistoryCall.the-variants.{SetMark, DropMark, Undo, Redo, GoTo, Commit, Between, Standing as StandingMarks, Free}
 use Rattle.commands.specs.declared.Command.{Command}
-use Rattle.commands.specs.declared.Command.the-variants.{Alter, Recall, Ask, Quote, Unknown}
+use Rattle.commands.specs.declared.Command.the-variants.{Alter, History, Ask, Quote, Unknown}
 use Rattle.commands.specs.Calls.{Call}
-use Rattle.commands.specs.Commands.{historyOf, commandOf}
+use Rattle.commands.specs.Commands.{commandOf}
 use Rattle.machine.specs.Calls.{Parameters}
 use Rattle.machine.specs.Codes.{refusal}
 use Rattle.machine.specs.Machine.{deedOf, answerTo, answer, step, last}
@@ -39,7 +38,7 @@ pub fresh-places : (g : Graph) → PlacesInRange (fresh g)
 fresh-places g = record { place-in = omega arith; marks-in = λ k q e. gone-at e }
 
 -- code 14
-redo-room : (w : Parameters) (m : Machine) → (refusal w m (Recall Redo) == 0) ≡ true → (m .line .place == length (m .line .steps)) ≡ false
+redo-room : (w : Parameters) (m : Machine) → (refusal w m (History Redo) == 0) ≡ true → (m .line .place == length (m .line .steps)) ≡ false
 unfolding refusal
 redo-room w m f = go (m .line .place == length (m .line .steps)) refl
   where
@@ -48,7 +47,7 @@ redo-room w m f = go (m .line .place == length (m .line .steps)) refl
     go false e = refl
 
 -- code 11
-set-range : (w : Parameters) (m : Machine) (k : ℕ) → (refusal w m (Recall (SetMark k)) == 0) ≡ true → within 1 64 k ≡ true
+set-range : (w : Parameters) (m : Machine) (k : ℕ) → (refusal w m (History (SetMark k)) == 0) ≡ true → within 1 64 k ≡ true
 unfolding refusal
 set-range w m k f = go (within 1 64 k) refl
   where
@@ -68,19 +67,19 @@ Inside nothing m = Unit {0}
 inside : (w : Parameters) (m : Machine) (c : Command) → PlacesInRange m → (refusal w m c == 0) ≡ true → Inside (deedOf w c m .effect) m
 unfolding Inside
 inside w m (Alter c) h f = change-effect (λ e. Inside e m) c m (λ _. tt) tt
-inside w m (Recall (SetMark k)) h f = tt
-inside w m (Recall (DropMark k)) h f = tt
-inside w m (Recall Undo) h f = omega (arith, h .place-in)
-inside w m (Recall Redo) h f = let n = eqb-false (m .line .place) (length (m .line .steps)) (redo-room w m f) in omega (arith, h .place-in, n)
-inside w m (Recall (GoTo k)) h f = go (m .marks k) refl
+inside w m (History (SetMark k)) h f = tt
+inside w m (History (DropMark k)) h f = tt
+inside w m (History Undo) h f = omega (arith, h .place-in)
+inside w m (History Redo) h f = let n = eqb-false (m .line .place) (length (m .line .steps)) (redo-room w m f) in omega (arith, h .place-in, n)
+inside w m (History (GoTo k)) h f = go (m .marks k) refl
   where
-    go : (s : Standing) → m .marks k ≡ s → placeOr (m .line .place) s ≤ length (m .line .steps)
+    go : (s : MarkPlace) → m .marks k ≡ s → placeOr (m .line .place) s ≤ length (m .line .steps)
     go gone e = h .place-in
     go (at q) e = h .marks-in k q e
-inside w m (Recall Commit) h f = tt
-inside w m (Recall (Between j k)) h f = tt
-inside w m (Recall StandingMarks) h f = tt
-inside w m (Recall Free) h f = tt
+inside w m (History Commit) h f = tt
+inside w m (History (Between j k)) h f = tt
+inside w m (History StandingMarks) h f = tt
+inside w m (History Free) h f = tt
 inside w m (Ask q) h f = tt
 inside w m (Quote p) h f = tt
 inside w m Unknown h f = tt
@@ -115,11 +114,6 @@ places-step w m x h = go (refusal w m (commandOf x) == 0) refl
     go : (t : Bool) → (refusal w m (commandOf x) == 0) ≡ t → PlacesInRange (step w m x)
     go true f = rw (accepted-step w m (commandOf x) f) (places-next (deedOf w (commandOf x) m .effect) m h (inside w m (commandOf x) h f))
     go false f = rw (refused-step w m (commandOf x) f) h
-
-places-last : (w : Parameters) (m : Machine) (xs : List Call) → PlacesInRange m → PlacesInRange (last w m xs)
-unfolding last
-places-last w m [] h = h
-places-last w m (x ∷ xs) h = places-last w (step w m x) xs (places-step w m x h)
 
 -- an effect at place p takes Gq away: a change before q, or a commit
 loses : Effect → ℕ → ℕ → Bool
@@ -197,15 +191,15 @@ kept-graph w m (x ∷ xs) k q g h (set-here s p c nz) =
 kept-graph w m (x ∷ xs) k q g h (set-later r) = kept-graph w (step w m x) xs k q g (places-step w m x h) r
 
 sets-range : (w : Parameters) (m : Machine) (c : Command) (k : ℕ) → (refusal w m c == 0) ≡ true → setsBy (deedOf w c m .effect) k ≡ true → within 1 64 k ≡ true
-sets-range w m (Recall (SetMark n)) k f e = ap (within 1 64) (eqb-true k n e) ∙ set-range w m n f
-sets-range w m (Recall (DropMark n)) k f e = ft e
-sets-range w m (Recall Undo) k f e = ft e
-sets-range w m (Recall Redo) k f e = ft e
-sets-range w m (Recall (GoTo n)) k f e = ft e
-sets-range w m (Recall Commit) k f e = ft e
-sets-range w m (Recall (Between i j)) k f e = ft e
-sets-range w m (Recall StandingMarks) k f e = ft e
-sets-range w m (Recall Free) k f e = ft e
+sets-range w m (History (SetMark n)) k f e = ap (within 1 64) (eqb-true k n e) ∙ set-range w m n f
+sets-range w m (History (DropMark n)) k f e = ft e
+sets-range w m (History Undo) k f e = ft e
+sets-range w m (History Redo) k f e = ft e
+sets-range w m (History (GoTo n)) k f e = ft e
+sets-range w m (History Commit) k f e = ft e
+sets-range w m (History (Between i j)) k f e = ft e
+sets-range w m (History StandingMarks) k f e = ft e
+sets-range w m (History Free) k f e = ft e
 sets-range w m (Alter c) k f e = change-effect (λ i. setsBy i k ≡ true → within 1 64 k ≡ true) c m (λ _ j. ft j) (λ j. ft j) e
 sets-range w m (Ask q) k f e = ft e
 sets-range w m (Quote p) k f e = ft e
@@ -220,16 +214,16 @@ kept-range w m (x ∷ xs) k q g (set-later r) = kept-range w (step w m x) xs k q
 
 -- ---- going to a standing mark
 
-go-command : (k b c d : ℕ) → commandOf (goTo k b c d) ≡ Recall (GoTo k)
+go-command : (k b c d : ℕ) → commandOf (goTo k b c d) ≡ History (GoTo k)
 unfolding commandOf
 go-command k b c d = refl
 
-go-accepted : (w : Parameters) (m : Machine) (k q : ℕ) → within 1 64 k ≡ true → m .marks k ≡ at q → refusal w m (Recall (GoTo k)) ≡ 0
+go-accepted : (w : Parameters) (m : Machine) (k q : ℕ) → within 1 64 k ≡ true → m .marks k ≡ at q → refusal w m (History (GoTo k)) ≡ 0
 unfolding refusal
 go-accepted w m k q r e = rw (r, e)
 
 module _ (w : Parameters) (m : Machine) (k q b c d : ℕ) (r : within 1 64 k ≡ true) (e : m .marks k ≡ at q) where
-  zero-test : (refusal w m (Recall (GoTo k)) == 0) ≡ true
+  zero-test : (refusal w m (History (GoTo k)) == 0) ≡ true
   zero-test = rw (go-accepted w m k q r e)
 
   go-code : answer w m (goTo k b c d) .code ≡ 0
@@ -242,7 +236,7 @@ module _ (w : Parameters) (m : Machine) (k q b c d : ℕ) (r : within 1 64 k ≡
 
   go-graph : (g : Graph) → Holds m q g → present (step w m (goTo k b c d)) ≡ g
   unfolding Holds
-  go-graph g h = rw (go-command k b c d, accepted-step w m (Recall (GoTo k)) zero-test, e) (h .1)
+  go-graph g h = rw (go-command k b c d, accepted-step w m (History (GoTo k)) zero-test, e) (h .1)
 
 pub mark-sentence : (w : Parameters) (g : Graph) (xs : List Call) → MarkSentence w g xs
 unfolding KeptOrStanding

@@ -6,14 +6,13 @@ use mathlib.Core.Bool.{Bool, true, false, _&&_}
 use native.Mathlib.Omega.{arith}
 use lib.Dec.{leb}
 use borrow.Author.Tests.{eqb-true, eqb-false, leb-false, lt-leb, le-leb, ne-eqb}
-use Rattle.lists.specs.Choice.{_⇒_else_, _==_, within}
+use Rattle.lists.specs.Choice.{_==_, within}
 use Rattle.lists.proofs.Bools.{or-true, within-range, or-none}
 use Rattle.history.specs.Machine.{Machine}
-use Rattle.commands.specs.declared.Command.{Command}
 use Rattle.commands.specs.declared.Command.the-variants.{Unknown}
 use Rattle.commands.specs.Calls.{Call, five}
 use Rattle.commands.specs.Tables.{lowest}
-use Rattle.commands.specs.Commands.{changeOf, historyOf, questionOf, commandOf}
+use Rattle.commands.specs.Commands.{commandOf}
 use Rattle.machine.specs.Calls.{Parameters, known}
 use Rattle.machine.specs.Codes.{codeTable, refusal}
 

@@ -17,9 +17,10 @@ use Rattle.commands.specs.declared.Command.the-variants.{Quote}
 use Rattle.commands.specs.Calls.{Call, five}
 use Rattle.commands.specs.Commands.{commandOf}
 use Rattle.machine.specs.Calls.{Parameters}
-use Rattle.pricing.specs.Prices.{nothingHeard}
+use Rattle.prices.specs.Prices.{nothingHeard}
 use Rattle.machine.specs.Codes.{lacksVertex, priceCode}
-use Rattle.machine.specs.Machine.{Answer, priceNumber, answerTo, answer, step, last}
+use Rattle.commands.specs.declared.Answer.{Answer}
+use Rattle.machine.specs.Machine.{priceNumber, answerTo, answer, step, last}
 use Rattle.machine.specs.Marks.{events, Kept, goTo}
 use Rattle.machine.proofs.Families.{price-refusal}
 use Rattle.machine.proofs.MarkLaws.{mark-sentence}

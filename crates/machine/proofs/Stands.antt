@@ -10,7 +10,7 @@ use Rattle.lists.specs.Choice.{_⇒_else_, _==_}
 use Rattle.lists.specs.Lists.{any}
 use Rattle.lists.proofs.Bools.{tf, ft, or-none}
 use Rattle.graph.specs.Graph.{Graph}
-use Rattle.history.specs.Machine.{Machine, Standing, gone, at, cut, present}
+use Rattle.history.specs.Machine.{Machine, MarkPlace, gone, at, cut, present}
 use Rattle.machine.specs.Rules.{Effect, steps, marks, unmarks, goes, clears, nothing, effected}
 use Rattle.commands.specs.Calls.{Call}
 use Rattle.commands.specs.Commands.{commandOf}
@@ -30,7 +30,7 @@ gone-at e = absurd (let z : _≡_ {A = ℕ} 0 1 = cc in omega arith)
 pub at-at : {p q : ℕ} → at p ≡ at q → p ≡ q
 at-at e = cc
 
-pub cut-at : (p q : ℕ) (s : Standing) → cut p s ≡ at q → (s ≡ at q) × (ltb p q ≡ false)
+pub cut-at : (p q : ℕ) (s : MarkPlace) → cut p s ≡ at q → (s ≡ at q) × (ltb p q ≡ false)
 cut-at p q gone e = gone-at e
 cut-at p q (at r) e = go (ltb p r) refl e
   where
@@ -38,20 +38,20 @@ cut-at p q (at r) e = go (ltb p r) refl e
     go true f h = gone-at h
     go false f h = (h, ap (λ (n : ℕ). ltb p n) (sym (at-at h)) ∙ f)
 
-at-cut : (p q : ℕ) (s : Standing) → s ≡ at q → ltb p q ≡ false → cut p s ≡ at q
+at-cut : (p q : ℕ) (s : MarkPlace) → s ≡ at q → ltb p q ≡ false → cut p s ≡ at q
 at-cut p q s e f = ap (cut p) e ∙ ap (λ (t : Bool). t ⇒ gone else at q) f
 
-pub set-to : (t : Bool) (p q : ℕ) (s : Standing) → (t ⇒ at p else s) ≡ at q → ((t ≡ true) × (p ≡ q)) ⊎ ((s ≡ at q) × (t ≡ false))
+pub set-to : (t : Bool) (p q : ℕ) (s : MarkPlace) → (t ⇒ at p else s) ≡ at q → ((t ≡ true) × (p ≡ q)) ⊎ ((s ≡ at q) × (t ≡ false))
 set-to true p q s e = inl (refl, at-at e)
 set-to false p q s e = inr (e, refl)
 
-set-from : (t : Bool) (p q : ℕ) (s : Standing) → ((t ≡ true) × (p ≡ q)) ⊎ ((s ≡ at q) × (t ≡ false)) → (t ⇒ at p else s) ≡ at q
+set-from : (t : Bool) (p q : ℕ) (s : MarkPlace) → ((t ≡ true) × (p ≡ q)) ⊎ ((s ≡ at q) × (t ≡ false)) → (t ⇒ at p else s) ≡ at q
 set-from true p q s (inl h) = ap at (h .1)
 set-from true p q s (inr h) = tf (h .1)
 set-from false p q s (inl h) = ft (h .0)
 set-from false p q s (inr h) = h .0
 
-pub drop-to : (t : Bool) (q : ℕ) (s : Standing) → (t ⇒ gone else s) ≡ at q → (s ≡ at q) × (t ≡ false)
+pub drop-to : (t : Bool) (q : ℕ) (s : MarkPlace) → (t ⇒ gone else s) ≡ at q → (s ≡ at q) × (t ≡ false)
 drop-to true q s e = gone-at e
 drop-to false q s e = (e, refl)
 

@@ -4,7 +4,6 @@ use mathlib.Core.Path.{_≡_, refl, sym, _∙_}
 use mathlib.Core.Bool.{Bool, true, false, not}
 use mathlib.Core.List.{List, [], _∷_, _++_}
 use native.Mathlib.Omega.{arith}
-use borrow.Author.Tests.{eqb-true}
 use lib.ListN.{length, take}
 use Rattle.lists.specs.Choice.{_==_}
 use Rattle.lists.specs.Lists.{All, done, more}
@@ -16,7 +15,7 @@ use Rattle.graph.specs.Same.{sameGraph, differs, alters}
 use Rattle.graph.proofs.Facts.{to-facts}
 use Rattle.graph.proofs.Alters.{same-from, alters-exactly}
 use Rattle.commands.specs.declared.Command.{Command}
-use Rattle.commands.specs.declared.Command.the-variants.{Alter, Recall, Ask, Quote, Unknown}
+use Rattle.commands.specs.declared.Command.the-variants.{Alter, History, Ask, Quote, Unknown}
 use Rattle.commands.specs.Calls.{Call}
 use Rattle.commands.specs.Commands.{commandOf}
 use Rattle.commands.specs.Fits.{Words, CommandFits}
@@ -25,7 +24,7 @@ use Rattle.history.specs.Machine.{Step, stepOf, Machine, graphAt, fresh, presen
 use Rattle.machine.specs.Rules.{Effect, steps, marks, unmarks, goes, clears, nothing, effected}
 use Rattle.machine.specs.Calls.{Parameters, boundsIn}
 use Rattle.machine.specs.Codes.{refusal}
-use Rattle.machine.specs.Machine.{Answer, deedOf, answerTo, stepTo, step, last}
+use Rattle.machine.specs.Machine.{deedOf, answerTo, stepTo, step, last}
 use Rattle.machine.proofs.Accepts.{accepted-step, refused-step}
 use Rattle.machine.proofs.Allows.{allows}
 use Rattle.machine.proofs.Families.{Makes, change-effect, history-makes, change-passed}
@@ -57,7 +56,7 @@ makes-another w m (Alter c) f i e =
     no : (t : Bool) → t ≡ true → not t ≡ true → ⊥
     no true p r = ft r
     no false p r = ft p
-makes-another w m (Recall h) f i e = history-makes (Another m) (w .changes) h m
+makes-another w m (History h) f i e = history-makes (Another m) (w .changes) h m
 makes-another w m (Ask q) f i e = tt
 makes-another w m (Quote p) f i e = tt
 makes-another w m Unknown f i e = tt

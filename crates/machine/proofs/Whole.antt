@@ -4,15 +4,16 @@ use mathlib.Core.Path.{_≡_, refl, ap, _∙_}
 use mathlib.Core.List.{List, [], _∷_, _++_, map}
 use native.Mathlib.Omega.{arith}
 use lib.ListN.{length, length-append, length-drop}
-use Rattle.lists.specs.Lists.{All, over}
+use Rattle.lists.specs.Lists.{All, overwritten}
 use Rattle.history.specs.Machine.{Machine, present}
 use Rattle.image.specs.Image.{save, load}
 use Rattle.image.proofs.WordSize.{Word}
 use Rattle.commands.specs.Calls.{Call, callsOf}
 use Rattle.machine.specs.Calls.{Parameters}
-use Rattle.machine.specs.Machine.{Answer, answer, answers, step, last}
+use Rattle.commands.specs.declared.Answer.{Answer}
+use Rattle.machine.specs.Machine.{answer, answers, step, last}
 use Rattle.machine.specs.Marks.{Event, events}
-use Rattle.machine.specs.Run.{Lent, RunResult, parametersOf, listRefusal, answerWords, accepted, run}
+use Rattle.machine.specs.Run.{Lent, AfterRun, parametersOf, listRefusal, answerWords, accepted, run}
 use Rattle.machine.specs.Demand.{begins, after, Demand3}
 use Rattle.machine.proofs.MarkLaws.{mark-sentence}
 use Rattle.machine.proofs.ListRows.{passed}
@@ -39,11 +40,11 @@ runs l e = rw e
 pub demand-3 : (l : Lent) → listRefusal l ≡ 0 → Demand3 l (run l)
 unfolding accepted
 demand-3 l e = record {
-  code = ap (λ (r : RunResult). r .code) (runs l e);
-  done = ap (λ (r : RunResult). r .done) (runs l e);
-  answered = ap (λ (r : RunResult). r .answers) (runs l e);
-  saved = ap (λ (r : RunResult). r .end) (runs l e);
-  words = ap (λ (r : RunResult). r .words) (runs l e);
+  code = ap (λ (r : AfterRun). r .code) (runs l e);
+  done = ap (λ (r : AfterRun). r .done) (runs l e);
+  answered = ap (λ (r : AfterRun). r .answers) (runs l e);
+  saved = ap (λ (r : AfterRun). r .end) (runs l e);
+  words = ap (λ (r : AfterRun). r .words) (runs l e);
   each-call = λ xs ys x c. rw (← c) (answered (parametersOf l) (begins l) xs ys x);
   event-codes = λ xs. codes-answered (parametersOf l) (begins l) xs;
   every-point = λ xs ys c. mark-sentence (parametersOf l) (load (l .start)) xs;
@@ -51,7 +52,7 @@ demand-3 l e = record {
 
 -- ---- the slices keep their lengths
 
-over-length : (ws slice : List ℕ) → length ws ≤ length slice → length (over ws slice) ≡ length slice
+over-length : (ws slice : List ℕ) → length ws ≤ length slice → length (overwritten ws slice) ≡ length slice
 over-length ws slice h = rw (length-append, length-drop) (omega arith)
 
 pub calls-length : (n : ℕ) (ws : List ℕ) → 5 * n ≤ length ws → length ws < 5 * n + 5 → length (callsOf ws) ≡ n

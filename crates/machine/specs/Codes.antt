@@ -2,7 +2,6 @@
 use Prim.Native.Nat.{ℕ}
 use mathlib.Core.Bool.{Bool, false, not, _&&_}
 use mathlib.Core.List.{List, [], _∷_, _++_}
-use lib.ListN.{length}
 use lib.Dec.{leb, ltb}
 use Rattle.lists.specs.Choice.{_⇒_else_, _==_, within}
 use Rattle.lists.specs.Lists.{_is_}
@@ -12,7 +11,7 @@ use Rattle.graph.specs.WellFormed.{Bounds}
 use Rattle.graph.specs.Same.{alters}
 use Rattle.history.specs.Machine.{Machine, freeOf, present}
 use Rattle.machine.specs.HistoryCodes.{historyTable}
-use Rattle.pricing.specs.Prices.{nothingHeard}
+use Rattle.prices.specs.Prices.{nothingHeard}
 use Rattle.commands.specs.declared.Question.{Question}
 use Rattle.commands.specs.declared.PriceCall.{PriceCall}
 use Rattle.commands.specs.declared.Command.{Command}

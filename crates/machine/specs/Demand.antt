@@ -2,13 +2,14 @@
 use mathlib.Core.Path.{_≡_}
 use mathlib.Core.List.{List, _∷_, _++_, map}
 use lib.ListN.{length}
-use Rattle.lists.specs.Lists.{over}
+use Rattle.lists.specs.Lists.{overwritten}
 use Rattle.image.specs.Image.{save, load}
 use Rattle.history.specs.Machine.{Machine, fresh, present}
 use Rattle.commands.specs.Calls.{Call, callsOf}
-use Rattle.machine.specs.Machine.{Answer, answer, answers, step, last}
+use Rattle.commands.specs.declared.Answer.{Answer}
+use Rattle.machine.specs.Machine.{answer, answers, step, last}
 use Rattle.machine.specs.Marks.{Event, events, MarkSentence}
-use Rattle.machine.specs.Run.{Lent, RunResult, parametersOf, answerWords}
+use Rattle.machine.specs.Run.{Lent, AfterRun, parametersOf, answerWords}
 
 -- the plain machine as the list begins
 abbrev pub begins : Lent → Machine
@@ -19,14 +20,15 @@ abbrev pub after : Lent → List Call → Machine
 after l xs = last (parametersOf l) (begins l) xs
 
 -- what the result r of the list l has to be
-pub record Demand3 (l : Lent) (r : RunResult) : Type 0 where
+pub record Demand3 (l : Lent) (r : AfterRun) : Type 0 where
   -- REFERENCE 9.5
   pub code : r .code ≡ 0
   pub done : r .done ≡ length (callsOf (l .calls))
   -- the answers are the plain machine's, and the words behind them stay
-  pub answered : r .answers ≡ over (answerWords (answers (parametersOf l) (begins l) (callsOf (l .calls)))) (l .answers)
+  pub answered : r .answers ≡ overwritten (answerWords (answers (parametersOf l) (begins l) (callsOf (l .calls))))
+      (l .answers)
   -- the end image is that of the last graph, and its length is told
-  pub saved : r .end ≡ over (save (present (after l (callsOf (l .calls))))) (l .end)
+  pub saved : r .end ≡ overwritten (save (present (after l (callsOf (l .calls))))) (l .end)
   pub words : r .words ≡ length (save (present (after l (callsOf (l .calls)))))
   -- REFERENCE 2.3
   pub each-call : (xs ys : List Call) (x : Call) → xs ++ (x ∷ ys) ≡ callsOf (l .calls) →

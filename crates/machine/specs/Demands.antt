@@ -7,7 +7,7 @@ use mathlib.Core.Logic.{_↔_}
 use mathlib.Core.Bool.{true}
 use mathlib.Core.List.{List, [], _∷_}
 use lib.ListN.{length}
-use Rattle.lists.specs.Lists.{All, over}
+use Rattle.lists.specs.Lists.{All, overwritten}
 use Rattle.graph.specs.Graph.{Graph}
 use Rattle.graph.specs.WellFormed.{wellFormed}
 use Rattle.image.specs.Image.{save, SavesAs, load, loadable}
@@ -21,8 +21,9 @@ use Rattle.commands.specs.Fits.{Words}
 use Rattle.commands.specs.Tables.{First, NoneApplies}
 use Rattle.machine.specs.Calls.{Parameters, boundsIn}
 use Rattle.machine.specs.Codes.{codeTable}
-use Rattle.machine.specs.Machine.{Answer, questionNumber, priceNumber, step}
-use Rattle.machine.specs.Run.{Lent, RunResult, parametersOf, listTable, listNumber, refused, answerWords}
+use Rattle.commands.specs.declared.Answer.{Answer}
+use Rattle.machine.specs.Machine.{questionNumber, priceNumber, step}
+use Rattle.machine.specs.Run.{Lent, AfterRun, parametersOf, listTable, listNumber, refused, answerWords}
 use Rattle.machine.specs.Demand.{begins, after}
 
 -- one claim a call and its answer, each on the machine that the calls before it left; as many answers as calls
@@ -40,13 +41,13 @@ pub record ByTable (w : Parameters) (m : Machine) (x : Call) (a : Answer) : Type
   pub number : (a .code ≡ 0 → ⊥) → a .number ≡ 0
   pub leaves : (a .code ≡ 0 → ⊥) → step w m x ≡ m
 
-pub record Demand1 (l : Lent) (r : RunResult) (tables-stay : Type 0) : Type 0 where
+pub record Demand1 (l : Lent) (r : AfterRun) (tables-stay : Type 0) : Type 0 where
   -- a list has the first code of its table that applies, with the number beside it; nothing is done and nothing written
   pub refusal : (k : ℕ) → First (suc k) (listTable l) → (r ≡ refused (suc k) (listNumber l) l) × tables-stay
   -- else each call has its answer
   pub answered : NoneApplies (listTable l) →
       (r .code ≡ 0) × (r .done ≡ length (callsOf (l .calls)))
-      × ((bs : List Answer) × (r .answers ≡ over (answerWords bs) (l .answers))
+      × ((bs : List Answer) × (r .answers ≡ overwritten (answerWords bs) (l .answers))
       × Each (ByTable (parametersOf l)) (parametersOf l) (begins l) (callsOf (l .calls)) bs)
 
 -- the number of an accepted question or price is that of the graph held then
@@ -54,9 +55,9 @@ pub record OfTheGraph (w : Parameters) (m : Machine) (x : Call) (a : Answer) : T
   pub question : (q : Question) → commandOf x ≡ Ask q → a .code ≡ 0 → a .number ≡ questionNumber (w .rows) (present m) q
   pub price : (p : PriceCall) → commandOf x ≡ Quote p → a .code ≡ 0 → a .number ≡ priceNumber (present m) p
 
-pub record Demand2 (l : Lent) (r : RunResult) : Type 0 where
+pub record Demand2 (l : Lent) (r : AfterRun) : Type 0 where
   pub answered : NoneApplies (listTable l) →
-      ((bs : List Answer) × (r .answers ≡ over (answerWords bs) (l .answers))
+      ((bs : List Answer) × (r .answers ≡ overwritten (answerWords bs) (l .answers))
       × Each (OfTheGraph (parametersOf l)) (parametersOf l) (begins l) (callsOf (l .calls)) bs)
   -- words load exactly where some graph within the capacities saves as them, new or old, and then they are that graph
   pub loads : (ws : List ℕ)
@@ -65,6 +66,6 @@ pub record Demand2 (l : Lent) (r : RunResult) : Type 0 where
   pub same : (g : Graph) → wellFormed (boundsIn (parametersOf l)) g ≡ true → (ws : List ℕ) → SavesAs g ws → load ws ≡ g
   -- and so is the end image of this list
   pub ends : NoneApplies (listTable l) → All Words (callsOf (l .calls)) →
-      (r .end ≡ over (save (present (after l (callsOf (l .calls))))) (l .end))
+      (r .end ≡ overwritten (save (present (after l (callsOf (l .calls))))) (l .end))
       × (loadable (boundsIn (parametersOf l)) (save (present (after l (callsOf (l .calls))))) ≡ true)
       × (load (save (present (after l (callsOf (l .calls))))) ≡ present (after l (callsOf (l .calls))))

@@ -1,9 +1,9 @@
 -- The plain machine: the answer to a call, the state after it, and a list of calls.
 use Prim.Native.Nat.{ℕ}
 use mathlib.Core.List.{List, [], _∷_}
-use Rattle.lists.specs.Choice.{bit}
+use Rattle.lists.specs.Choice.{toBit}
 use Rattle.lists.specs.Lists.{first, after, before}
-use Rattle.types.specs.Types.{below}
+use Rattle.type_rows.specs.Types.{below}
 use Rattle.graph.specs.Graph.{
   Graph,
   vertex,
@@ -18,8 +18,8 @@ use Rattle.graph.specs.Graph.{
 }
 use Rattle.graph.specs.Questions.{degree}
 use Rattle.history.specs.Machine.{Machine, present}
-use Rattle.machine.specs.Rules.{Effect, nothing, Deed, deed, changeDeed, historyDeed, Rule, answered, followed}
-use Rattle.pricing.specs.Prices.{twoWay, grade}
+use Rattle.machine.specs.Rules.{nothing, Deed, deed, changeDeed, historyDeed, Rule, answered, followed}
+use Rattle.prices.specs.Prices.{twoWay, grade}
 use Rattle.commands.specs.declared.Question.{Question}
 use Rattle.commands.specs.declared.Question.the-variants.{
   FirstVertex,
@@ -46,7 +46,8 @@ use Rattle.commands.specs.declared.Question.the-variants.{
 use Rattle.commands.specs.declared.PriceCall.{PriceCall}
 use Rattle.commands.specs.declared.PriceCall.the-variants.{Range, Grade}
 use Rattle.commands.specs.declared.Command.{Command}
-use Rattle.commands.specs.declared.Command.the-variants.{Alter, Recall, Ask, Quote, Unknown}
+use Rattle.commands.specs.declared.Command.the-variants.{Alter, History, Ask, Quote, Unknown}
+use Rattle.commands.specs.declared.Answer.{Answer}
 use Rattle.commands.specs.Calls.{Call}
 use Rattle.commands.specs.Commands.{commandOf}
 use Rattle.machine.specs.Calls.{Parameters}
@@ -72,10 +73,10 @@ questionNumber rows g (Value a) = vertex g a .value
 questionNumber rows g (ReadingKind a) = readingKind (edge g a .reading)
 questionNumber rows g (Decimetres a) = decimetres (edge g a .reading)
 questionNumber rows g (Degree a t c) = degree (λ s. below rows s t) c g a
-questionNumber rows g (VertexOrder a b) = bit (before a b (vertexNumbers g))
-questionNumber rows g (EdgeOrder a b) = bit (before a b (edgeNumbers g))
-questionNumber rows g (WordOrder a b) = bit (before a b (listOf g (this g a)))
-questionNumber rows g (Below s t) = bit (below rows s t)
+questionNumber rows g (VertexOrder a b) = toBit (before a b (vertexNumbers g))
+questionNumber rows g (EdgeOrder a b) = toBit (before a b (edgeNumbers g))
+questionNumber rows g (WordOrder a b) = toBit (before a b (listOf g (this g a)))
+questionNumber rows g (Below s t) = toBit (below rows s t)
 
 -- kind 53: the two-way range of a and b; kind 54: the grade of that range by list c (REFERENCE 6.2, 6.3)
 abbrev pub priceNumber : Graph → PriceCall → ℕ
@@ -86,7 +87,7 @@ priceNumber g (Grade a b c) = grade c g a b
 
 abbrev pub deedOf : Parameters → Command → Machine → Deed
 deedOf w (Alter c) m = changeDeed c m
-deedOf w (Recall h) m = historyDeed (w .changes) h m
+deedOf w (History h) m = historyDeed (w .changes) h m
 deedOf w (Ask q) m = deed (questionNumber (w .rows) (present m) q) nothing
 deedOf w (Quote p) m = deed (priceNumber (present m) p) nothing
 deedOf w Unknown m = deed 0 nothing
@@ -94,13 +95,8 @@ deedOf w Unknown m = deed 0 nothing
 abbrev pub ruleOf : Parameters → Command → Rule
 ruleOf w c = record { code = λ m. refusal w m c; deed = deedOf w c }
 
-pub record Answer : Type 0 where
-  pub code : ℕ
-  pub number : ℕ
-
--- REFERENCE 2.2
 unfoldable pub answerTo : Parameters → Machine → Command → Answer
-answerTo w m c = record { code = refusal w m c; number = answered (ruleOf w c) m }
+answerTo w m c = answered (ruleOf w c) m
 
 -- a refused call changes nothing
 unfoldable pub stepTo : Parameters → Machine → Command → Machine

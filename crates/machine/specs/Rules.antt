@@ -1,7 +1,6 @@
 -- What an accepted change and an accepted history call do, and the rule of each: its code, its number and the state
 -- after it.
 use Prim.Native.Nat.{ℕ, suc, _-_}
-use mathlib.Core.Path.{_≡_}
 use Rattle.lists.specs.Choice.{_⇒_else_, _==_}
 use Rattle.graph.specs.declared.Change.{Change}
 use Rattle.graph.specs.Changes.{cost}
@@ -18,6 +17,8 @@ use Rattle.commands.specs.declared.HistoryCall.the-variants.{
   Standing,
   Free,
 }
+use Rattle.commands.specs.declared.Answer.{Answer}
+use Rattle.commands.specs.Answers.{answerOf}
 use Rattle.commands.specs.Tables.{lowest}
 use Rattle.commands.specs.Commands.{historyCall}
 use Rattle.history.specs.Machine.{
@@ -27,13 +28,13 @@ use Rattle.history.specs.Machine.{
   freeOf,
   distance,
   placeOr,
-  standing,
+  countStanding,
   present,
-  changes,
-  moves,
-  sets,
-  drops,
-  commits,
+  afterChange,
+  movedTo,
+  withMarkSet,
+  withMarkDropped,
+  afterCommit,
 }
 use Rattle.machine.specs.HistoryCodes.{tooDear, historyTable}
 
@@ -44,11 +45,11 @@ pub data Effect : Type 0 where
   clears nothing : Effect
 
 abbrev pub effected : Effect → Machine → Machine
-effected (steps s) m = changes s m
-effected (marks n) m = sets n m
-effected (unmarks n) m = drops n m
-effected (goes p) m = moves p m
-effected clears m = commits m
+effected (steps s) m = afterChange s m
+effected (marks n) m = withMarkSet n m
+effected (unmarks n) m = withMarkDropped n m
+effected (goes p) m = movedTo p m
+effected clears m = afterCommit m
 effected nothing m = m
 
 -- the number that an accepted call answers, and what it does
@@ -74,7 +75,7 @@ historyDeed capacity (GoTo k) m =
     (goes (placeOr (m .line .place) (m .marks k)))
 historyDeed capacity Commit m = deed (m .line .place) clears
 historyDeed capacity (Between j k) m = deed (distance (placeOr 0 (m .marks j)) (placeOr 0 (m .marks k))) nothing
-historyDeed capacity Standing m = deed (standing (m .marks)) nothing
+historyDeed capacity Standing m = deed (countStanding (m .marks)) nothing
 historyDeed capacity Free m = deed (freeOf capacity (m .line)) nothing
 
 -- ---- rules
@@ -85,17 +86,12 @@ pub record Rule : Type 0 where
   pub deed : Machine → Deed
 
 -- REFERENCE 2.2
-abbrev pub answered : Rule → Machine → ℕ
-answered r m = (r .code m == 0) ⇒ r .deed m .number else 0
+abbrev pub answered : Rule → Machine → Answer
+answered r m = answerOf (r .code m) (r .deed m .number)
 
 -- a refused call changes nothing
 abbrev pub followed : Rule → Machine → Machine
 followed r m = (r .code m == 0) ⇒ effected (r .deed m .effect) m else m
-
--- code and number are the machine's
-pub record Obeys (r : Rule) (m : Machine) (code number : ℕ) : Type 0 where
-  pub coded : code ≡ r .code m
-  pub numbered : number ≡ answered r m
 
 -- a change whose codes 2 to 9 do not apply: 10
 abbrev pub changeRule : ℕ → Change → Rule

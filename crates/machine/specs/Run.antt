@@ -5,15 +5,16 @@ use mathlib.Core.List.{List, [], _∷_}
 use lib.ListN.{length}
 use lib.Dec.{ltb}
 use Rattle.lists.specs.Choice.{_⇒_else_, _==_, within}
-use Rattle.lists.specs.Lists.{over}
-use Rattle.types.specs.Rows.{goodRows}
+use Rattle.lists.specs.Lists.{overwritten}
+use Rattle.type_rows.specs.Rows.{goodRows}
 use Rattle.image.specs.Image.{imageLength, save, load}
 use Rattle.image.specs.Checks.{verdict, loadCode, loadOffset}
 use Rattle.history.specs.Machine.{fresh, present}
 use Rattle.commands.specs.Calls.{callsOf}
 use Rattle.commands.specs.Tables.{Row, row, inTurn}
 use Rattle.machine.specs.Calls.{Parameters, boundsIn}
-use Rattle.machine.specs.Machine.{Answer, answers, last}
+use Rattle.commands.specs.declared.Answer.{Answer}
+use Rattle.machine.specs.Machine.{answers, last}
 
 -- REFERENCE 9.1. Of the tables only the lengths matter
 pub record Lent : Type 0 where
@@ -28,7 +29,7 @@ pub record Lent : Type 0 where
 
 -- the result, a code, a number (the calls done) and the words of the end chart, and the two lent slices that a run
 -- writes, as it ends
-pub record RunResult : Type 0 where
+pub record AfterRun : Type 0 where
   pub code : ℕ
   pub done : ℕ
   pub words : ℕ
@@ -95,7 +96,7 @@ answerWords [] = []
 answerWords (x ∷ xs) = x .code ∷ x .number ∷ answerWords xs
 
 -- REFERENCE 9.5 to 9.7
-unfoldable pub accepted : Lent → RunResult
+unfoldable pub accepted : Lent → AfterRun
 unfolding load save answers last
 accepted l =
     let m = fresh (load (l .start)) in
@@ -105,14 +106,14 @@ accepted l =
       code = 0;
       done = length calls;
       words = length image;
-      answers = over (answerWords (answers (parametersOf l) m calls)) (l .answers);
-      end = over image (l .end);
+      answers = overwritten (answerWords (answers (parametersOf l) m calls)) (l .answers);
+      end = overwritten image (l .end);
     }
 
 -- a refused list returns its code, the number beside it and 0, and writes nowhere
-unfoldable pub refused : ℕ → ℕ → Lent → RunResult
+unfoldable pub refused : ℕ → ℕ → Lent → AfterRun
 refused code number l = record { code = code; done = number; words = 0; answers = l .answers; end = l .end }
 
-unfoldable pub run : Lent → RunResult
+unfoldable pub run : Lent → AfterRun
 unfolding listRefusal listNumber accepted refused
 run l = let r = listRefusal l in (r == 0) ⇒ accepted l else refused r (listNumber l) l

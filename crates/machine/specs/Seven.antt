@@ -1,10 +1,10 @@
 -- Seven (REFERENCE 15.1) and its twelve cases.
 use Prim.Native.Nat.{ℕ}
 use mathlib.Core.List.{List, [], _∷_}
-use Rattle.lists.specs.Choice.{bit}
+use Rattle.lists.specs.Choice.{toBit}
 use Rattle.graph.specs.declared.Reading.the-variants.{Untested}
 use Rattle.graph.specs.Graph.{Vertex, Edge, Graph, empty, listOf}
-use Rattle.types.specs.Types.{below}
+use Rattle.type_rows.specs.Types.{below}
 use Rattle.graph.specs.Changes.{changed}
 use Rattle.graph.specs.Questions as questions
 use Rattle.image.specs.Image.{save}
@@ -60,7 +60,8 @@ unfolding last stepTo commandOf changeOf historyOf questionOf alters refusal ste
 then xs = last parameters (fresh seven) xs
 
 unfoldable pub answersAfter : List Call → List ℕ
-unfolding answers answerTo stepTo commandOf changeOf historyOf questionOf alters refusal stepOf changed below questions.degree
+unfolding answers answerTo stepTo commandOf changeOf historyOf questionOf alters refusal stepOf changed below
+    questions.degree
 answersAfter xs = answerWords (answers parameters (fresh seven) xs)
 
 abbrev pub listAfter : List Call → ℕ → List ℕ
@@ -70,8 +71,8 @@ listAfter xs v = listOf (present (then xs)) v
 abbrev pub delete : ℕ → Call
 delete v = call 2 v 0 0 0
 
-abbrev pub degree : ℕ → ℕ → Call
-degree v c = call 45 v 0 c 0
+abbrev pub askDegree : ℕ → ℕ → Call
+askDegree v c = call 45 v 0 c 0
 
 abbrev pub mark : ℕ → Call
 mark k = call 17 k 0 0 0
@@ -87,7 +88,7 @@ redo = call 20 0 0 0 0
 
 -- whether mark k stands, as a word
 abbrev pub standsAfter : List Call → ℕ → List ℕ
-standsAfter xs k = bit (stands (then xs .marks k)) ∷ []
+standsAfter xs k = toBit (stands (then xs .marks k)) ∷ []
 
 pub data Letter : Type 0 where
   A B C D E F G H I J K L : Letter
@@ -98,27 +99,28 @@ pub record Case : Type 0 where
   pub found : List ℕ
   pub said : List ℕ
 
-abbrev pub row : Letter → List ℕ → List ℕ → Case
-row l f s = record { letter = l; found = f; said = s }
+abbrev pub caseRow : Letter → List ℕ → List ℕ → Case
+caseRow l f s = record { letter = l; found = f; said = s }
 
 -- REFERENCE 15.2; an answer is a code and a number
 unfoldable pub twelve : List Case
 unfolding builtList then answersAfter save
 twelve =
-    row A (builtList 1) (2 ∷ 3 ∷ 4 ∷ 6 ∷ 9 ∷ 11 ∷ []) ∷
-    row B (builtList 2) (5 ∷ 7 ∷ 8 ∷ 13 ∷ []) ∷
-    row C (builtList 4) (10 ∷ 12 ∷ 14 ∷ 15 ∷ []) ∷
-    row D (answersAfter (degree 3 0 ∷ [])) (0 ∷ 0 ∷ []) ∷
-    row E (answersAfter (degree 1 0 ∷ degree 1 1 ∷ degree 1 2 ∷ [])) (0 ∷ 6 ∷ 0 ∷ 3 ∷ 0 ∷ 3 ∷ []) ∷
-    row F (answersAfter (delete 1 ∷ [])) (0 ∷ 6 ∷ []) ∷
-    row F (listAfter (delete 1 ∷ []) 4) (12 ∷ 14 ∷ 15 ∷ []) ∷
-    row G (listAfter (delete 1 ∷ undo ∷ []) 4) (10 ∷ 12 ∷ 14 ∷ 15 ∷ []) ∷
-    row G (save (present (then (delete 1 ∷ undo ∷ [])))) (save seven) ∷
-    row H (listAfter (call 15 3 2 0 0 ∷ []) 1) (3 ∷ 2 ∷ 4 ∷ 6 ∷ 9 ∷ 11 ∷ []) ∷
-    row I (listAfter (call 10 2 2 0 0 ∷ []) 2) (7 ∷ 8 ∷ 13 ∷ 5 ∷ []) ∷
-    row J (answersAfter (mark 5 ∷ undo ∷ [])) (0 ∷ 0 ∷ 14 ∷ 0 ∷ []) ∷
-    row J (standsAfter (mark 5 ∷ undo ∷ []) 5) (1 ∷ []) ∷
-    row K (answersAfter (delete 3 ∷ mark 5 ∷ undo ∷ delete 4 ∷ [])) (0 ∷ 1 ∷ 0 ∷ 0 ∷ 0 ∷ 1 ∷ 0 ∷ 4 ∷ []) ∷
-    row K (standsAfter (delete 3 ∷ mark 5 ∷ undo ∷ delete 4 ∷ []) 5) (0 ∷ []) ∷
-    row L (answersAfter (mark 5 ∷ delete 3 ∷ undo ∷ redo ∷ goto 5 ∷ [])) (0 ∷ 0 ∷ 0 ∷ 1 ∷ 0 ∷ 1 ∷ 0 ∷ 1 ∷ 0 ∷ 1 ∷ []) ∷
+    caseRow A (builtList 1) (2 ∷ 3 ∷ 4 ∷ 6 ∷ 9 ∷ 11 ∷ []) ∷
+    caseRow B (builtList 2) (5 ∷ 7 ∷ 8 ∷ 13 ∷ []) ∷
+    caseRow C (builtList 4) (10 ∷ 12 ∷ 14 ∷ 15 ∷ []) ∷
+    caseRow D (answersAfter (askDegree 3 0 ∷ [])) (0 ∷ 0 ∷ []) ∷
+    caseRow E (answersAfter (askDegree 1 0 ∷ askDegree 1 1 ∷ askDegree 1 2 ∷ [])) (0 ∷ 6 ∷ 0 ∷ 3 ∷ 0 ∷ 3 ∷ []) ∷
+    caseRow F (answersAfter (delete 1 ∷ [])) (0 ∷ 6 ∷ []) ∷
+    caseRow F (listAfter (delete 1 ∷ []) 4) (12 ∷ 14 ∷ 15 ∷ []) ∷
+    caseRow G (listAfter (delete 1 ∷ undo ∷ []) 4) (10 ∷ 12 ∷ 14 ∷ 15 ∷ []) ∷
+    caseRow G (save (present (then (delete 1 ∷ undo ∷ [])))) (save seven) ∷
+    caseRow H (listAfter (call 15 3 2 0 0 ∷ []) 1) (3 ∷ 2 ∷ 4 ∷ 6 ∷ 9 ∷ 11 ∷ []) ∷
+    caseRow I (listAfter (call 10 2 2 0 0 ∷ []) 2) (7 ∷ 8 ∷ 13 ∷ 5 ∷ []) ∷
+    caseRow J (answersAfter (mark 5 ∷ undo ∷ [])) (0 ∷ 0 ∷ 14 ∷ 0 ∷ []) ∷
+    caseRow J (standsAfter (mark 5 ∷ undo ∷ []) 5) (1 ∷ []) ∷
+    caseRow K (answersAfter (delete 3 ∷ mark 5 ∷ undo ∷ delete 4 ∷ [])) (0 ∷ 1 ∷ 0 ∷ 0 ∷ 0 ∷ 1 ∷ 0 ∷ 4 ∷ []) ∷
+    caseRow K (standsAfter (delete 3 ∷ mark 5 ∷ undo ∷ delete 4 ∷ []) 5) (0 ∷ []) ∷
+    caseRow L (answersAfter (mark 5 ∷ delete 3 ∷ undo ∷ redo ∷ goto 5 ∷ []))
+    (0 ∷ 0 ∷ 0 ∷ 1 ∷ 0 ∷ 1 ∷ 0 ∷ 1 ∷ 0 ∷ 1 ∷ []) ∷
     []

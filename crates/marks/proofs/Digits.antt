@@ -11,24 +11,24 @@ use lib.Pow.{pow-lt, pow-add, shr-shr}
 use lib.Bits.{bitAnd, bitOr, bitXor, and-high, or-add-and, xor-add-and}
 use lib.Count.{ones, ones-step}
 use lib.ListN.{length}
-use Rattle.lists.specs.Choice.{_==_, _⇒_else_, bit}
-use Rattle.lists.specs.Lists.{keep, upto}
-use Rattle.lists.proofs.Picks.{Same, same, differ, same?}
+use Rattle.lists.specs.Choice.{_==_, _⇒_else_, toBit}
+use Rattle.lists.specs.Lists.{filter, range}
+use Rattle.lists.proofs.Picks.{same, differ, same?}
 use Rattle.lists.proofs.Sums.{bit-le}
-use Rattle.marks.specs.Marked.{digits}
+use Rattle.marks.specs.Marked.{binary}
 
 module _ (n k : ℕ) (b : ℕ → Bool) where
-  half : (bit (b k) + 2 * digits n (suc k) b) / 2 ≡ digits n (suc k) b
+  half : (toBit (b k) + 2 * binary n (suc k) b) / 2 ≡ binary n (suc k) b
   half = omega (arith, bit-le (b k))
 
-  odd : (bit (b k) + 2 * digits n (suc k) b) % 2 ≡ bit (b k)
+  odd : (toBit (b k) + 2 * binary n (suc k) b) % 2 ≡ toBit (b k)
   odd = omega (arith, bit-le (b k))
 
-bit-odd : (x : ℕ) → bit (x % 2 == 1) ≡ x % 2
+bit-odd : (x : ℕ) → toBit (x % 2 == 1) ≡ x % 2
 bit-odd x = elim (same? (x % 2) 1) [ same e f ↦ rw (eq-eqb _ _ e) (sym e) | differ e f ↦ rw (ne-eqb _ _ e) (omega arith) ]
 
-pub digits-at : (n k i : ℕ) (b : ℕ → Bool) → i < n → digits n k b / 2 ^ i % 2 ≡ bit (b (k + i))
-unfolding digits
+pub digits-at : (n k i : ℕ) (b : ℕ → Bool) → i < n → binary n k b / 2 ^ i % 2 ≡ toBit (b (k + i))
+unfolding binary
 digits-at zero k i b h = absurd (omega arith)
 digits-at (suc n) k zero b h =
     let e : k + 0 ≡ k = omega arith in
@@ -36,16 +36,16 @@ digits-at (suc n) k zero b h =
 digits-at (suc n) k (suc i) b h =
     let c : 2 ^ suc i ≡ 2 * 2 ^ i = pow-suc 2 i ∙ mul-comm (2 ^ i) 2 in
     let e : k + suc i ≡ suc k + i = omega arith in
-    rw (e, c, ← div-div-eq-div-mul (bit (b k) + 2 * digits n (suc k) b) 2 (2 ^ i), half n k b) (digits-at n (suc k) i b (omega arith))
+    rw (e, c, ← div-div-eq-div-mul (toBit (b k) + 2 * binary n (suc k) b) 2 (2 ^ i), half n k b) (digits-at n (suc k) i b (omega arith))
 
-pub digits-agree : (n k : ℕ) (b c : ℕ → Bool) → ((j : ℕ) → k ≤ j → j < k + n → c j ≡ b j) → digits n k c ≡ digits n k b
-unfolding digits
+pub digits-agree : (n k : ℕ) (b c : ℕ → Bool) → ((j : ℕ) → k ≤ j → j < k + n → c j ≡ b j) → binary n k c ≡ binary n k b
+unfolding binary
 digits-agree zero k b c h = refl
 digits-agree (suc n) k b c h = rw (h k (omega arith) (omega arith), digits-agree n (suc k) b c (λ j l u. h j (omega arith) (omega arith)))
 
 -- digit i is 0 in one and 1 in the other, and the others agree
-pub digits-more : (n k i : ℕ) (b c : ℕ → Bool) → i < n → ((j : ℕ) → j ≢ k + i → c j ≡ b j) → b (k + i) ≡ false → c (k + i) ≡ true → digits n k c ≡ digits n k b + 2 ^ i
-unfolding digits
+pub digits-more : (n k i : ℕ) (b c : ℕ → Bool) → i < n → ((j : ℕ) → j ≢ k + i → c j ≡ b j) → b (k + i) ≡ false → c (k + i) ≡ true → binary n k c ≡ binary n k b + 2 ^ i
+unfolding binary
 digits-more zero k i b c h f x y = absurd (omega arith)
 digits-more (suc n) k zero b c h f x y =
     let e : k + 0 ≡ k = omega arith in
@@ -58,8 +58,8 @@ digits-more (suc n) k (suc i) b c h f x y =
     (omega (arith, digits-more n (suc k) i b c (omega arith) (λ j z. f j (λ w. z (w ∙ e))) (ap b (sym e) ∙ x) (ap c (sym e) ∙ y), pow-suc 2 i))
 
 -- a number's digits from digit m on, where it has none at m + n or above
-pub digits-of : (n m s : ℕ) → s < 2 ^ (m + n) → s / 2 ^ m ≡ digits n (suc m) (λ j. s / 2 ^ (j - 1) % 2 == 1)
-unfolding digits
+pub digits-of : (n m s : ℕ) → s < 2 ^ (m + n) → s / 2 ^ m ≡ binary n (suc m) (λ j. s / 2 ^ (j - 1) % 2 == 1)
+unfolding binary
 digits-of zero m s h =
     let e : m + 0 ≡ m = omega arith in
     div-eq-of-lt (subst (λ (x : ℕ). s < 2 ^ x) e h)
@@ -79,14 +79,14 @@ digit-past s a i e h =
 
 tally : ℕ → ℕ → (ℕ → Bool) → ℕ
 tally zero k b = 0
-tally (suc n) k b = bit (b k) + tally n (suc k) b
+tally (suc n) k b = toBit (b k) + tally n (suc k) b
 
-ones-tally : (n k : ℕ) (b : ℕ → Bool) → ones (digits n k b) ≡ tally n k b
-unfolding digits tally ones
+ones-tally : (n k : ℕ) (b : ℕ → Bool) → ones (binary n k b) ≡ tally n k b
+unfolding binary tally ones
 ones-tally zero k b = refl
-ones-tally (suc n) k b = rw (ones-step (bit (b k) + 2 * digits n (suc k) b), half n k b, odd n k b, ones-tally n (suc k) b)
+ones-tally (suc n) k b = rw (ones-step (toBit (b k) + 2 * binary n (suc k) b), half n k b, odd n k b, ones-tally n (suc k) b)
 
-tally-last : (n k : ℕ) (b : ℕ → Bool) → tally (suc n) k b ≡ tally n k b + bit (b (k + n))
+tally-last : (n k : ℕ) (b : ℕ → Bool) → tally (suc n) k b ≡ tally n k b + toBit (b (k + n))
 unfolding tally
 tally-last zero k b =
     let e : k + 0 ≡ k = omega arith in
@@ -95,28 +95,28 @@ tally-last (suc n) k b =
     let e : k + suc n ≡ suc k + n = omega arith in
     rw e (omega (arith, tally-last n (suc k) b))
 
-keep-last : (p : ℕ → Bool) (xs : List ℕ) (x : ℕ) → length (keep p (xs ++ (x ∷ []))) ≡ length (keep p xs) + bit (p x)
+keep-last : (p : ℕ → Bool) (xs : List ℕ) (x : ℕ) → length (filter p (xs ++ (x ∷ []))) ≡ length (filter p xs) + toBit (p x)
 keep-last p [] x = go (p x)
   where
-    go : (t : Bool) → length (t ⇒ (x ∷ []) else []) ≡ 0 + bit t
+    go : (t : Bool) → length (t ⇒ (x ∷ []) else []) ≡ 0 + toBit t
     go true = refl
     go false = refl
 keep-last p (y ∷ xs) x = go (keep-last p xs x) (p y)
   where
-    go : length (keep p (xs ++ (x ∷ []))) ≡ length (keep p xs) + bit (p x) → (t : Bool) →
-        length (t ⇒ (y ∷ keep p (xs ++ (x ∷ []))) else keep p (xs ++ (x ∷ []))) ≡ length (t ⇒ (y ∷ keep p xs) else keep p xs) + bit (p x)
+    go : length (filter p (xs ++ (x ∷ []))) ≡ length (filter p xs) + toBit (p x) → (t : Bool) →
+        length (t ⇒ (y ∷ filter p (xs ++ (x ∷ []))) else filter p (xs ++ (x ∷ []))) ≡ length (t ⇒ (y ∷ filter p xs) else filter p xs) + toBit (p x)
     go h true = omega (arith, h)
     go h false = h
 
-keep-tally : (n : ℕ) (b : ℕ → Bool) → length (keep (λ i. b (suc i)) (upto n)) ≡ tally n 1 b
+keep-tally : (n : ℕ) (b : ℕ → Bool) → length (filter (λ i. b (suc i)) (range n)) ≡ tally n 1 b
 unfolding tally
 keep-tally zero b = refl
 keep-tally (suc n) b =
     let e : 1 + n ≡ suc n = omega arith in
-    keep-last (λ i. b (suc i)) (upto n) n ∙ ap (λ (x : ℕ). x + bit (b (suc n))) (keep-tally n b) ∙ ap (λ (x : ℕ). tally n 1 b + bit (b x)) (sym e) ∙ sym (tally-last n 1 b)
+    keep-last (λ i. b (suc i)) (range n) n ∙ ap (λ (x : ℕ). x + toBit (b (suc n))) (keep-tally n b) ∙ ap (λ (x : ℕ). tally n 1 b + toBit (b x)) (sym e) ∙ sym (tally-last n 1 b)
 
 -- the count of ones of digits 1 to n is how many of the first n hold
-pub ones-count : (n : ℕ) (b : ℕ → Bool) → ones (digits n 1 b) ≡ length (keep (λ i. b (suc i)) (upto n))
+pub ones-count : (n : ℕ) (b : ℕ → Bool) → ones (binary n 1 b) ≡ length (filter (λ i. b (suc i)) (range n))
 ones-count n b = ones-tally n 1 b ∙ sym (keep-tally n b)
 
 -- ---- one bit put in, taken out

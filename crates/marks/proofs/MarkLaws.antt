@@ -1,7 +1,7 @@
 -- The set and the places as marks are set, dropped and cut.
 use Prim.Native.Nat.{ℕ, zero, suc, _+_, _-_, _*_, _/_, _%_, _^_, _≤_, _<_}
 use mathlib.Core.Bool.{Bool, true, false, not, _&&_}
-use mathlib.Core.Path.{_≡_, refl, sym, ap, subst, _∙_}
+use mathlib.Core.Path.{_≡_, refl, sym, ap, _∙_}
 use mathlib.Core.Logic.{_≢_}
 use mathlib.Core.List.{List}
 use native.Mathlib.Nat.{div-eq-of-lt, div-one, pow-zero, lt-of-lt-of-le}
@@ -13,30 +13,23 @@ use lib.Dec.{leb, ltb}
 use lib.Pow.{pow-mono, shr-shr}
 use lib.ListN.{length, getD, set, length-set}
 use lib.Seq.{getD-set-same, getD-set-other}
-use Rattle.lists.specs.Choice.{_==_, _⇒_else_, bit, within}
+use Rattle.lists.specs.Choice.{_==_, _⇒_else_, toBit, within}
 use Rattle.lists.proofs.Bools.{ft, and-true, within-range}
 use Rattle.lists.proofs.Picks.{Same, same, differ, same?}
-use Rattle.history.specs.Machine.{Standing, gone, at, noMarks, stands, placeOr, marked, cut, cutMarks, standing}
-use Rattle.marks.specs.Marked.{digits, inSet, placeIn, withMark, withoutMark, cutSet, Marked}
+use Rattle.history.specs.Machine.{MarkPlace, gone, at, noMarks, stands, placeOr, marked, cut, cutMarks, countStanding}
+use Rattle.marks.specs.Marked.{binary, inSet, placeIn, withMark, withoutMark, cutSet, Marked}
 use Rattle.marks.proofs.Digits.{digits-at, digits-agree, digits-more, digits-of, digit-past, ones-count, one-shl, or-bit, or-same, xor-bit}
 
 -- ---- one mark is another
 
-pub marked-same : (n : ℕ) (s : Standing) (ms : ℕ → Standing) → marked n s ms n ≡ s
+pub marked-same : (n : ℕ) (s : MarkPlace) (ms : ℕ → MarkPlace) → marked n s ms n ≡ s
 marked-same n s ms = rw (eq-eqb n n refl)
 
-pub marked-other : (n k : ℕ) (s : Standing) (ms : ℕ → Standing) → k ≢ n → marked n s ms k ≡ ms k
+pub marked-other : (n k : ℕ) (s : MarkPlace) (ms : ℕ → MarkPlace) → k ≢ n → marked n s ms k ≡ ms k
 marked-other n k s ms h = rw (ne-eqb k n h)
 
-pub marked-kept : (n : ℕ) (s : Standing) (ms : ℕ → Standing) → s ≡ ms n → marked n s ms ≡ ms
-marked-kept n s ms e i k = go (same? k n) i
-  where
-    go : Same k n → marked n s ms k ≡ ms k
-    go (same x y) = ap (λ (j : ℕ). marked n s ms j) x ∙ marked-same n s ms ∙ e ∙ ap ms y
-    go (differ x y) = marked-other n k s ms x
-
 -- a mark that stands has a place
-gone-not : (s : Standing) (q : ℕ) → s ≡ gone → s ≡ at q → ⊥
+gone-not : (s : MarkPlace) (q : ℕ) → s ≡ gone → s ≡ at q → ⊥
 gone-not s q e f = let z : _≡_ {A = ℕ} 0 1 = cc in omega arith
 
 -- ---- marks are 1 to 64
@@ -71,16 +64,16 @@ with-is s a r h e =
 
 -- ---- the set says which marks stand
 
-module _ (ms : ℕ → Standing) (s : ℕ) (places : List ℕ) (h : Marked ms s places) (a : ℕ) (low : 1 ≤ a) (high : a ≤ 64) where
-  pub digit-is : s / 2 ^ (a - 1) % 2 ≡ bit (stands (ms a))
+module _ (ms : ℕ → MarkPlace) (s : ℕ) (places : List ℕ) (h : Marked ms s places) (a : ℕ) (low : 1 ≤ a) (high : a ≤ 64) where
+  pub digit-is : s / 2 ^ (a - 1) % 2 ≡ toBit (stands (ms a))
   digit-is =
       let e : 1 + (a - 1) ≡ a = omega arith in
-      ap (λ (x : ℕ). x / 2 ^ (a - 1) % 2) (h .bits) ∙ digits-at 64 1 (a - 1) (λ k. stands (ms k)) (omega arith) ∙ ap (λ (k : ℕ). bit (stands (ms k))) e
+      ap (λ (x : ℕ). x / 2 ^ (a - 1) % 2) (h .bits) ∙ digits-at 64 1 (a - 1) (λ k. stands (ms k)) (omega arith) ∙ ap (λ (k : ℕ). toBit (stands (ms k))) e
 
   pub in-set : inSet s a ≡ stands (ms a)
   in-set = rw (in-marks a low high, digit-is) (go (stands (ms a)))
     where
-      go : (t : Bool) → (bit t == 1) ≡ t
+      go : (t : Bool) → (toBit t == 1) ≡ t
       go true = refl
       go false = refl
 
@@ -88,14 +81,14 @@ module _ (ms : ℕ → Standing) (s : ℕ) (places : List ℕ) (h : Marked ms s 
   pub place-is : (other : ℕ) → stands (ms a) ≡ true → placeIn places a ≡ placeOr other (ms a)
   place-is other t = rw (in-marks a low high) (go (ms a) refl t)
     where
-      go : (x : Standing) → ms a ≡ x → stands x ≡ true → getD places (a - 1) 0 ≡ placeOr other (ms a)
+      go : (x : MarkPlace) → ms a ≡ x → stands x ≡ true → getD places (a - 1) 0 ≡ placeOr other (ms a)
       go gone e f = ft f
       go (at q) e f = h .known a q e .2 ∙ sym (ap (placeOr other) e)
 
-  others : (x : Standing) (j : ℕ) → j ≢ 1 + (a - 1) → stands (marked a x ms j) ≡ stands (ms j)
+  others : (x : MarkPlace) (j : ℕ) → j ≢ 1 + (a - 1) → stands (marked a x ms j) ≡ stands (ms j)
   others x j n = ap stands (marked-other a j x ms (λ e. n (omega arith)))
 
-  here : (x : Standing) → stands (marked a x ms (1 + (a - 1))) ≡ stands x
+  here : (x : MarkPlace) → stands (marked a x ms (1 + (a - 1))) ≡ stands x
   here x =
       let e : 1 + (a - 1) ≡ a = omega arith in
       ap (λ (j : ℕ). stands (marked a x ms j)) e ∙ ap stands (marked-same a x ms)
@@ -109,7 +102,7 @@ module _ (ms : ℕ → Standing) (s : ℕ) (places : List ℕ) (h : Marked ms s 
   mark-put p r t q = record {
     room = length-set places (a - 1) p ∙ h .room;
     bits =
-        let z : s / 2 ^ (a - 1) % 2 ≡ 0 = digit-is ∙ ap bit t in
+        let z : s / 2 ^ (a - 1) % 2 ≡ 0 = digit-is ∙ ap toBit t in
         q ∙ rw (one-shl (a - 1) (omega arith), or-bit s (a - 1) z)
         (ap (λ (x : ℕ). x + 2 ^ (a - 1)) (h .bits) ∙ sym (digits-more 64 1 (a - 1) (λ k. stands (ms k)) (λ k. stands (marked a (at p) ms k)) (omega arith) (others (at p)) (was ∙ t) (here (at p))));
     known = λ k x e. go k x e (same? k a);
@@ -129,7 +122,7 @@ module _ (ms : ℕ → Standing) (s : ℕ) (places : List ℕ) (h : Marked ms s 
   mark-gone r t q = record {
     room = h .room;
     bits =
-        let o : s / 2 ^ (a - 1) % 2 ≡ 1 = digit-is ∙ ap bit t in
+        let o : s / 2 ^ (a - 1) % 2 ≡ 1 = digit-is ∙ ap toBit t in
         q ∙ rw (one-shl (a - 1) (omega arith))
         (omega (
           arith,
@@ -146,14 +139,14 @@ module _ (ms : ℕ → Standing) (s : ℕ) (places : List ℕ) (h : Marked ms s 
 
 -- ---- the marks whose place is above p go
 
-pub cut-marked : (ms : ℕ → Standing) (s p : ℕ) (places : List ℕ) → Marked ms s places → Marked (cutMarks p ms) (cutSet p places s) places
+pub cut-marked : (ms : ℕ → MarkPlace) (s p : ℕ) (places : List ℕ) → Marked ms s places → Marked (cutMarks p ms) (cutSet p places s) places
 cut-marked ms s p places h = record {
   room = h .room;
   bits = digits-agree 64 1 (λ k. stands (cut p (ms k))) (λ a. inSet s a && leb (placeIn places a) p) (λ a l u. agrees a l (omega arith));
   known = λ k q e. h .known k q (was-at (ms k) q e);
 }
   where
-    was-at : (x : Standing) (q : ℕ) → cut p x ≡ at q → x ≡ at q
+    was-at : (x : MarkPlace) (q : ℕ) → cut p x ≡ at q → x ≡ at q
     was-at gone q e = e
     was-at (at y) q e = go (ltb p y) e
       where
@@ -164,7 +157,7 @@ cut-marked ms s p places h = record {
     agrees : (a : ℕ) → 1 ≤ a → a ≤ 64 → (inSet s a && leb (placeIn places a) p) ≡ stands (cut p (ms a))
     agrees a low high = rw (in-set ms s places h a low high) (go (ms a) refl)
       where
-        go : (x : Standing) → ms a ≡ x → (stands (ms a) && leb (placeIn places a) p) ≡ stands (cut p (ms a))
+        go : (x : MarkPlace) → ms a ≡ x → (stands (ms a) && leb (placeIn places a) p) ≡ stands (cut p (ms a))
         go gone e = rw e
         go (at q) e = rw (e, in-marks a low high, h .known a q e .2) (below (ltb p q) refl)
           where
@@ -176,7 +169,7 @@ cut-marked ms s p places h = record {
 abbrev pub cutTo : ℕ → ℕ → List ℕ → ℕ → ℕ → Bool
 cutTo n p places s j = inSet s j && (leb j n ⇒ leb (placeIn places j) p else true)
 
-pub cut-start : (s p a : ℕ) (places : List ℕ) → s < 2 ^ 64 → a ≡ 0 → s ≡ digits 64 1 (cutTo a p places s)
+pub cut-start : (s p a : ℕ) (places : List ℕ) → s < 2 ^ 64 → a ≡ 0 → s ≡ binary 64 1 (cutTo a p places s)
 cut-start s p a places h e =
     sym (ap (λ (x : ℕ). s / x) (pow-zero 2) ∙ div-one s) ∙ digits-of 64 0 s h ∙ digits-agree 64 1 (cutTo a p places s) (λ j. s / 2 ^ (j - 1) % 2 == 1) (λ j l u. go j l (omega arith))
   where
@@ -194,7 +187,7 @@ pub left-half : (s left a n : ℕ) → left ≡ s / 2 ^ a → n ≡ a + 1 → le
 left-half s left a n e f = ap (λ (x : ℕ). x / 2) e ∙ shr-shr s a 1 ∙ ap (λ (x : ℕ). s / 2 ^ x) (sym f)
 
 -- one more is looked at
-module _ (s left a n p t t′ : ℕ) (places : List ℕ) (e : left ≡ s / 2 ^ a) (f : n ≡ a + 1) (high : n ≤ 64) (g : t ≡ digits 64 1 (cutTo a p places s)) where
+module _ (s left a n p t t′ : ℕ) (places : List ℕ) (e : left ≡ s / 2 ^ a) (f : n ≡ a + 1) (high : n ≤ 64) (g : t ≡ binary 64 1 (cutTo a p places s)) where
   apart : (j : ℕ) → j ≢ n → leb j a ≡ leb j n
   apart j h = elim (same? (j - n) 0) [
     | same u v ↦ le-leb j a (omega arith) ∙ sym (le-leb j n (omega arith))
@@ -215,34 +208,34 @@ module _ (s left a n p t t′ : ℕ) (places : List ℕ) (e : left ≡ s / 2 ^ a
   new : cutTo n p places s n ≡ (left % 2 == 1 && leb (placeIn places n) p)
   new = rw (first, le-leb n n (omega arith))
 
-  stays : cutTo n p places s n ≡ cutTo a p places s n → t ≡ digits 64 1 (cutTo n p places s)
+  stays : cutTo n p places s n ≡ cutTo a p places s n → t ≡ binary 64 1 (cutTo n p places s)
   stays h = g ∙ digits-agree 64 1 (cutTo n p places s) (cutTo a p places s) (λ j l u. go j (same? j n))
     where
       go : (j : ℕ) → Same j n → cutTo a p places s j ≡ cutTo n p places s j
       go j (same x y) = ap (cutTo a p places s) x ∙ sym h ∙ ap (cutTo n p places s) y
       go j (differ x y) = unlike j x
 
-  goes : left % 2 ≡ 1 → p < placeIn places n → withoutMark n t ≡ digits 64 1 (cutTo n p places s)
+  goes : left % 2 ≡ 1 → p < placeIn places n → withoutMark n t ≡ binary 64 1 (cutTo n p places s)
   goes h l =
       let z : n - 1 ≡ a = omega arith in
       let y : 1 + a ≡ n = omega arith in
       let o : cutTo a p places s (1 + a) ≡ true = ap (cutTo a p places s) y ∙ old ∙ eq-eqb _ _ h in
       let w : cutTo n p places s (1 + a) ≡ false = ap (cutTo n p places s) y ∙ (rw (new, eq-eqb _ _ h, lt-leb _ p l)) in
-      let d : t / 2 ^ a % 2 ≡ 1 = ap (λ (x : ℕ). x / 2 ^ a % 2) g ∙ digits-at 64 1 a (cutTo a p places s) (omega arith) ∙ ap bit o in
+      let d : t / 2 ^ a % 2 ≡ 1 = ap (λ (x : ℕ). x / 2 ^ a % 2) g ∙ digits-at 64 1 a (cutTo a p places s) (omega arith) ∙ ap toBit o in
       let i : inSet t n ≡ true = rw (in-marks n (omega arith) high, z, d) in
       let m = digits-more 64 1 a (cutTo n p places s) (cutTo a p places s) (omega arith) (λ j q. unlike j (λ r. q (r ∙ sym y))) w o in
       rw (i, z) (omega (arith, g, m))
 
-  pub cut-turn : t′ ≡ (left % 2 == 1 && ltb p (placeIn places n) ⇒ withoutMark n t else t) → t′ ≡ digits 64 1 (cutTo n p places s)
+  pub cut-turn : t′ ≡ (left % 2 == 1 && ltb p (placeIn places n) ⇒ withoutMark n t else t) → t′ ≡ binary 64 1 (cutTo n p places s)
   cut-turn h = h ∙ go (same? (left % 2) 1) (ltb p (placeIn places n)) refl
     where
-      go : Same (left % 2) 1 → (u : Bool) → ltb p (placeIn places n) ≡ u → (left % 2 == 1 && ltb p (placeIn places n) ⇒ withoutMark n t else t) ≡ digits 64 1 (cutTo n p places s)
+      go : Same (left % 2) 1 → (u : Bool) → ltb p (placeIn places n) ≡ u → (left % 2 == 1 && ltb p (placeIn places n) ⇒ withoutMark n t else t) ≡ binary 64 1 (cutTo n p places s)
       go (same x y) true v = rw (eq-eqb _ _ x, v) (goes x (ltb-true _ _ v))
       go (same x y) false v = rw (eq-eqb _ _ x, v) (stays (rw (new, old, eq-eqb _ _ x, le-leb _ p (ltb-false _ _ v))))
       go (differ x y) u v = rw (ne-eqb _ _ x) (stays (rw (new, old, ne-eqb _ _ x)))
 
 -- none is left
-pub cut-end : (s left a p t : ℕ) (places : List ℕ) → left ≡ s / 2 ^ a → left ≡ 0 → t ≡ digits 64 1 (cutTo a p places s) → t ≡ cutSet p places s
+pub cut-end : (s left a p t : ℕ) (places : List ℕ) → left ≡ s / 2 ^ a → left ≡ 0 → t ≡ binary 64 1 (cutTo a p places s) → t ≡ cutSet p places s
 cut-end s left a p t places e z g = g ∙ digits-agree 64 1 (λ j. inSet s j && leb (placeIn places j) p) (cutTo a p places s) (λ j l u. go j l (omega arith) (leb j a) refl)
   where
     go : (j : ℕ) → 1 ≤ j → j ≤ 64 → (t : Bool) → leb j a ≡ t → cutTo a p places s j ≡ (inSet s j && leb (placeIn places j) p)
@@ -254,13 +247,13 @@ cut-end s left a p t places e z g = g ∙ digits-agree 64 1 (λ j. inSet s j && 
 -- ---- none, and how many
 
 pub none-marked : (places : List ℕ) → length places ≡ 64 → Marked noMarks 0 places
-unfolding digits
+unfolding binary
 none-marked places e = record { room = e; bits = none 64 1; known = λ k q f. absurd (gone-not gone q refl f) }
   where
-    none : (n k : ℕ) → 0 ≡ digits n k (λ j. false)
+    none : (n k : ℕ) → 0 ≡ binary n k (λ j. false)
     none zero k = refl
     none (suc n) k = omega (arith, none n (suc k))
 
-pub count-is : (ms : ℕ → Standing) (s : ℕ) (places : List ℕ) → Marked ms s places → ones s ≡ standing ms
-unfolding standing
+pub count-is : (ms : ℕ → MarkPlace) (s : ℕ) (places : List ℕ) → Marked ms s places → ones s ≡ countStanding ms
+unfolding countStanding
 count-is ms s places h = ap ones (h .bits) ∙ ones-count 64 (λ k. stands (ms k))

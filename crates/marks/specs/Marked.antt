@@ -5,13 +5,13 @@ use mathlib.Core.Bool.{Bool, not, _&&_}
 use mathlib.Core.List.{List}
 use lib.Dec.{leb}
 use lib.ListN.{length, getD}
-use Rattle.lists.specs.Choice.{_==_, _⇒_else_, bit, within}
-use Rattle.history.specs.Machine.{Standing, at, stands}
+use Rattle.lists.specs.Choice.{_==_, _⇒_else_, toBit, within}
+use Rattle.history.specs.Machine.{MarkPlace, at, stands}
 
 -- the number of n binary digits that are b k, b (k + 1), .., the lowest first
-unfoldable pub digits : ℕ → ℕ → (ℕ → Bool) → ℕ
-digits zero k b = 0
-digits (suc n) k b = bit (b k) + 2 * digits n (suc k) b
+unfoldable pub binary : ℕ → ℕ → (ℕ → Bool) → ℕ
+binary zero k b = 0
+binary (suc n) k b = toBit (b k) + 2 * binary n (suc k) b
 
 -- mark a is in the set: digit a − 1, counted from 0, is 1. Only 1 to 64 are marks.
 abbrev pub inSet : ℕ → ℕ → Bool
@@ -30,10 +30,10 @@ withoutMark a set = inSet set a ⇒ set - 2 ^ (a - 1) else set
 
 -- the marks of the set whose place is not above p
 abbrev pub cutSet : ℕ → List ℕ → ℕ → ℕ
-cutSet p places set = digits 64 1 (λ a. inSet set a && leb (placeIn places a) p)
+cutSet p places set = binary 64 1 (λ a. inSet set a && leb (placeIn places a) p)
 
 -- the standing marks as a set of 64 bits: digit k says whether mark k + 1 stands, and each that stands has its place
-pub record Marked (ms : ℕ → Standing) (set : ℕ) (places : List ℕ) : Type 0 where
+pub record Marked (ms : ℕ → MarkPlace) (set : ℕ) (places : List ℕ) : Type 0 where
   pub room : length places ≡ 64
-  pub bits : set ≡ digits 64 1 (λ k. stands (ms k))
+  pub bits : set ≡ binary 64 1 (λ k. stands (ms k))
   pub known : (k q : ℕ) → ms k ≡ at q → (1 ≤ k) × (k ≤ 64) × (getD places (k - 1) 0 ≡ q)

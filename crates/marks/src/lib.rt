@@ -2,12 +2,12 @@
 ghost use mathlib.Core.Path.{_≡_};
 ghost use mathlib.Core.Bool.{true, false, _&&_};
 ghost use mathlib.Core.List.{List};
-ghost use Prim.Native.Nat.{ℕ, _-_, _%_, _≤_};
+ghost use Prim.Native.Nat.{ℕ, _-_, _%_};
 ghost use lib.Count.{ones};
 ghost use lib.Dec.{ltb};
 ghost use lib.ListN.{length, set as setAt};
 ghost use Rattle.lists.specs.Choice.{_==_, _⇒_else_, within};
-ghost use Rattle.history.specs.Machine.{Standing, gone, at, noMarks, marked, cutMarks, standing, distance};
+ghost use Rattle.history.specs.Machine.{MarkPlace, gone, at, noMarks, marked, cutMarks, countStanding, distance};
 ghost use Rattle.marks.specs.Marked.{inSet, placeIn, withMark, withoutMark, cutSet, Marked};
 
 // Is it one of the marks 1 to 64?
@@ -47,7 +47,7 @@ pub fn set_mark(set: u64, places: &mut [u32; 64], a: u32, p: u32) -> u64
     ensures { λ r. ⌜ r ≡ withMark a set ⌝ }
     ensures { λ r. ⌜ now (places .exit)
         ≡ (within 1 64 a ⇒ setAt (now (places .entry)) (a - 1) p else now (places .entry)) ⌝ }
-    ensures { λ r. ⌜ ((ms : ℕ → Standing) → within 1 64 a ≡ true → inSet set a ≡ false
+    ensures { λ r. ⌜ ((ms : ℕ → MarkPlace) → within 1 64 a ≡ true → inSet set a ≡ false
         → Marked ms set (now (places .entry)) → Marked (marked a (at p) ms) r (now (places .exit))) ⌝ }
 {
     if !is_mark(a) {
@@ -61,7 +61,7 @@ pub fn set_mark(set: u64, places: &mut [u32; 64], a: u32, p: u32) -> u64
 // Kind 18: mark a goes. Where it does not stand, nothing changes.
 pub fn drop_mark(set: u64, a: u32) -> u64
     ensures { λ r. ⌜ r ≡ withoutMark a set ⌝ }
-    ensures { λ r. ⌜ ((places : List ℕ) → (ms : ℕ → Standing) → inSet set a ≡ true → Marked ms set places
+    ensures { λ r. ⌜ ((places : List ℕ) → (ms : ℕ → MarkPlace) → inSet set a ≡ true → Marked ms set places
         → Marked (marked a gone ms) r places) ⌝ }
 {
     if !stands(set, a) {
@@ -89,7 +89,7 @@ fn cut_mark(set: u64, left: u64, places: &[u32; 64], a: u32, p: u32) -> u64
 // `left`; only the places of standing marks are read.
 pub fn cut_marks(set: u64, places: &[u32; 64], p: u32) -> u64
     ensures { λ r. ⌜ r ≡ cutSet p (now (places .entry)) set ⌝ }
-    ensures { λ r. ⌜ ((ms : ℕ → Standing) → Marked ms set (now (places .entry))
+    ensures { λ r. ⌜ ((ms : ℕ → MarkPlace) → Marked ms set (now (places .entry))
         → Marked (cutMarks p ms) r (now (places .entry))) ⌝ }
 {
     let mut s = set;
@@ -106,7 +106,7 @@ pub fn cut_marks(set: u64, places: &[u32; 64], p: u32) -> u64
 // Kind 50: how many marks stand, the count of ones of the set.
 pub fn count_marks(set: u64) -> u32
     ensures { λ r. ⌜ r ≡ ones set ⌝ }
-    ensures { λ r. ⌜ ((places : List ℕ) → (ms : ℕ → Standing) → Marked ms set places → r ≡ standing ms) ⌝ }
+    ensures { λ r. ⌜ ((places : List ℕ) → (ms : ℕ → MarkPlace) → Marked ms set places → r ≡ countStanding ms) ⌝ }
 {
     u64::count_ones(set)
 }

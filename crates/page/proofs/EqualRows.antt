@@ -1,5 +1,4 @@
 -- A page is read back as the edges that it shows, so equal rows are of equal edges, in the same order.
-use Prim.Native.Nat.{ℕ, _*_, _^_, _<_}
 use mathlib.Core.Path.{_≡_, sym, ap, ap₂, _∙_}
 use mathlib.Core.Bool.{true}
 use native.Mathlib.Omega.{arith}

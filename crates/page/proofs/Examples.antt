@@ -3,7 +3,7 @@ use Prim.Native.Nat.{ℕ}
 use mathlib.Core.Path.{_≡_, refl}
 use mathlib.Core.List.{List, [], _∷_, _++_}
 use lib.ListN.{replicate}
-use Rattle.lists.specs.Choice.{pick}
+use Rattle.lists.specs.Choice.{ifEqual}
 use Rattle.decimal.specs.Decimal.{digits}
 use Rattle.graph.specs.Graph.{Edge}
 use Rattle.graph.specs.declared.Reading.{Reading}
@@ -11,7 +11,7 @@ use Rattle.graph.specs.declared.Reading.the-variants.{Untested, Silent, Heard}
 use Rattle.image.specs.Image.{load}
 use Rattle.image.specs.Checks.{verdict}
 use Rattle.page.specs.Rows.{rightAligned, column, cell, silentWord, readingText, readingColumn, rowOf, rowsOf}
-use Rattle.page.specs.Page.{PageResult, pageOf}
+use Rattle.page.specs.Page.{pageOf}
 
 abbrev edgeWith : ℕ → ℕ → ℕ → ℕ → Reading → Edge
 edgeWith n a o t r = record { number = n; alpha = a; omega = o; type = t; reading = r }
@@ -63,18 +63,18 @@ unfolding pageOf verdict
 bad-type = refl
 
 word-twice : pageOf (1 ∷ 1 ∷ 6 ∷ 9 ∷ 15 ∷ 17 ∷ 1 ∷ 0 ∷ 5 ∷ 3 ∷ 1 ∷ 1 ∷ 2 ∷ 1 ∷ 0 ∷ 7 ∷ 7 ∷ []) [] ≡ record { code = 109; bytes = 16; page = [] }
-unfolding pageOf verdict pick
+unfolding pageOf verdict ifEqual
 word-twice = refl
 
 -- the same in new words, and with the degree of a loop counted once: the degree is told, before the incidence
 word-twice-new : pageOf (1 ∷ 1 ∷ 6 ∷ 10 ∷ 16 ∷ 18 ∷ 1 ∷ 0 ∷ 5 ∷ 2 ∷ 3 ∷ 1 ∷ 1 ∷ 2 ∷ 1 ∷ 0 ∷ 7 ∷ 7 ∷ []) []
     ≡ record { code = 109; bytes = 17; page = [] }
-unfolding pageOf verdict pick
+unfolding pageOf verdict ifEqual
 word-twice-new = refl
 
 loop-once : pageOf (1 ∷ 1 ∷ 6 ∷ 10 ∷ 16 ∷ 18 ∷ 1 ∷ 0 ∷ 5 ∷ 1 ∷ 3 ∷ 1 ∷ 1 ∷ 2 ∷ 1 ∷ 0 ∷ 7 ∷ 7 ∷ []) []
     ≡ record { code = 108; bytes = 9; page = [] }
-unfolding pageOf verdict pick
+unfolding pageOf verdict ifEqual
 loop-once = refl
 
 -- offsets of old records with a total of new ones
@@ -87,10 +87,10 @@ loop-words : List ℕ
 loop-words = 1 ∷ 1 ∷ 6 ∷ 9 ∷ 15 ∷ 17 ∷ 1 ∷ 0 ∷ 5 ∷ 3 ∷ 1 ∷ 1 ∷ 2 ∷ 1 ∷ 0 ∷ 6 ∷ 7 ∷ []
 
 loop-short : pageOf loop-words (replicate 24 7) ≡ record { code = 107; bytes = 0; page = replicate 24 7 }
-unfolding loop-words pageOf verdict load pick
+unfolding loop-words pageOf verdict load ifEqual
 loop-short = refl
 
 loop-page : pageOf loop-words (replicate 26 7)
     ≡ record { code = 0; bytes = 25; page = gap 3 (51 ∷ gap 4 (49 ∷ gap 4 (49 ∷ gap 2 (50 ∷ 32 ∷ silentWord ++ 10 ∷ 7 ∷ [])))) }
-unfolding loop-words pageOf verdict load pick rowsOf rowOf cell column rightAligned readingColumn readingText digits
+unfolding loop-words pageOf verdict load ifEqual rowsOf rowOf cell column rightAligned readingColumn readingText digits
 loop-page = refl

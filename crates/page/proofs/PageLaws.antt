@@ -1,13 +1,12 @@
 -- The three answers: the code of words that do not load, 107, or the rows.
-use Prim.Native.Nat.{ℕ, _+_, _*_, _/_, _≤_, _<_}
+use Prim.Native.Nat.{ℕ, _*_, _/_, _≤_, _<_}
 use mathlib.Core.Path.{_≡_, refl, sym, ap, _∙_}
 use mathlib.Core.Bool.{true}
 use mathlib.Core.List.{List}
 use native.Mathlib.Omega.{arith}
 use lib.ListN.{length}
 use borrow.Author.Tests.{lt-ltb, le-ltb, ne-eqb}
-use Rattle.lists.specs.Choice.{_⇒_else_, _==_}
-use Rattle.lists.specs.Lists.{each, over}
+use Rattle.lists.specs.Lists.{overwritten}
 use Rattle.decimal.specs.Stored.{Stored}
 use Rattle.decimal.proofs.Stores.{stored-over}
 use Rattle.graph.specs.Graph.{Graph}
@@ -20,7 +19,7 @@ use Rattle.image.proofs.Loads.{loads-back, saves-loads, loaded}
 use Rattle.image.proofs.SavedSound.{loads-sound}
 use Rattle.image.proofs.SoundLoads.{long-edges}
 use Rattle.image.proofs.Room.{few-edges}
-use Rattle.page.specs.Rows.{rowOf, rowsOf, rowsFrom}
+use Rattle.page.specs.Rows.{rowsOf, rowsFrom}
 use Rattle.page.specs.Page.{PageResult, pageBounds, pageBytes, pageCode, pageOf}
 use Rattle.page.proofs.RowLaws.{rows-length}
 use Rattle.page.proofs.Turns.{from-length}
@@ -41,7 +40,7 @@ page-under ws page z k =
     rw (zero-sound (verdict pageBounds ws) z, lt-ltb (length page) (pageBytes ws) k)
 
 pub page-full : (ws page : List ℕ) → loadCode pageBounds ws ≡ 0 → pageBytes ws ≤ length page →
-    answer 0 (length (rowsOf (load ws))) (over (rowsOf (load ws)) page) ≡ pageOf ws page
+    answer 0 (length (rowsOf (load ws))) (overwritten (rowsOf (load ws)) page) ≡ pageOf ws page
 unfolding pageOf pageCode
 page-full ws page z k =
     rw (zero-sound (verdict pageBounds ws) z, le-ltb (length page) (pageBytes ws) k)
@@ -103,9 +102,9 @@ module _ (ws rs : List ℕ) (z : loadCode pageBounds ws ≡ 0) (e : rs ≡ part 
       rows-same =
           ap (λ (n : ℕ). rowsFrom n rs) counted ∙ ap (rowsFrom (edgeCount ws)) records ∙ sym (load-rows ws)
 
-      finish : (r ≡ length (rowsFrom (length rs / 6) rs)) × (last ≡ over (rowsFrom (length rs / 6) rs) page) →
+      finish : (r ≡ length (rowsFrom (length rs / 6) rs)) × (last ≡ overwritten (rowsFrom (length rs / 6) rs) page) →
           answer 0 r last ≡ pageOf ws page
       finish t =
           ap (λ (n : ℕ). answer 0 n last) (t .0 ∙ ap length rows-same)
-          ∙ ap (answer 0 (length (rowsOf (load ws)))) (t .1 ∙ ap (λ (l : List ℕ). over l page) rows-same)
+          ∙ ap (answer 0 (length (rowsOf (load ws)))) (t .1 ∙ ap (λ (l : List ℕ). overwritten l page) rows-same)
           ∙ page-full ws page z (omega (arith, needed))

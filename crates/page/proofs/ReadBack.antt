@@ -4,15 +4,14 @@ use mathlib.Core.Path.{_≡_, refl, sym, ap, ap₂, _∙_}
 use mathlib.Core.Bool.{Bool, true, false}
 use mathlib.Core.List.{List, [], _∷_, _++_, append-assoc}
 use native.Mathlib.Omega.{arith}
-use lib.ListN.{length, getD, take, drop, replicate, length-append, length-replicate}
+use lib.ListN.{length, getD, take, drop, length-append}
 use lib.Seq.{take-at, drop-at, getD-at}
 use lib.Dec.{ltb}
 use borrow.Author.Tests.{ltb-true, ltb-false, ne-eqb}
 use Rattle.lists.specs.Choice.{_⇒_else_, _==_}
-use Rattle.lists.specs.Lists.{each, All, done, more}
-use Rattle.decimal.specs.Decimal.{digits, valueOf}
-use Rattle.decimal.proofs.Digits.{digits-most, digits-back, spaces-value}
-use Rattle.graph.specs.Graph.{Edge, Graph, decimetres}
+use Rattle.lists.specs.Lists.{concatMap, All, done, more}
+use Rattle.decimal.specs.Decimal.{valueOf}
+use Rattle.graph.specs.Graph.{Edge, decimetres}
 use Rattle.graph.specs.declared.Reading.{Reading}
 use Rattle.graph.specs.declared.Reading.the-variants.{Untested, Silent, Heard}
 use Rattle.page.specs.Rows.{rightAligned, column, cell, readingText, readingColumn, rowOf}
@@ -154,9 +153,9 @@ module _ (e : Edge) (h : Shown e) (rest : List ℕ) where
 
 -- ---- rows
 
-pub rows-back : (es : List Edge) → All Shown es → readRows (length es) (each rowOf es) ≡ es
+pub rows-back : (es : List Edge) → All Shown es → readRows (length es) (concatMap rowOf es) ≡ es
 unfolding readRows
 rows-back [] done = refl
 rows-back (e ∷ es) (more h a) =
-    ap₂ _∷_ (row-back e h (each rowOf es))
-    (ap (readRows (length es)) (drop-at (rowOf e) (each rowOf es) 25 (row-length e)) ∙ rows-back es a)
+    ap₂ _∷_ (row-back e h (concatMap rowOf es))
+    (ap (readRows (length es)) (drop-at (rowOf e) (concatMap rowOf es) 25 (row-length e)) ∙ rows-back es a)

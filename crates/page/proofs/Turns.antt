@@ -1,11 +1,10 @@
 -- The loop over the records: one turn, and the end.
-use Prim.Native.Nat.{ℕ, zero, suc, _+_, _-_, _*_, _≤_, _<_}
+use Prim.Native.Nat.{ℕ, zero, suc, _+_, _-_, _≤_, _<_}
 use mathlib.Core.Path.{_≡_, refl, sym, ap, _∙_}
-use mathlib.Core.List.{List, [], _∷_, _++_}
+use mathlib.Core.List.{List, [], _++_}
 use native.Mathlib.Omega.{arith}
 use lib.ListN.{length, take, drop}
 use lib.Seq.{sets, drop-drop}
-use Rattle.lists.specs.Lists.{each}
 use Rattle.decimal.proofs.Stores.{rest-all}
 use Rattle.image.specs.Image.{edgesFrom}
 use Rattle.page.specs.Rows.{rowOf, edgeRead, rowsFrom}

@@ -4,7 +4,7 @@ use mathlib.Core.List.{List}
 use lib.ListN.{length}
 use lib.Dec.{ltb}
 use Rattle.lists.specs.Choice.{_⇒_else_, _==_}
-use Rattle.lists.specs.Lists.{over}
+use Rattle.lists.specs.Lists.{overwritten}
 use Rattle.graph.specs.WellFormed.{Bounds}
 use Rattle.image.specs.Image.{load}
 use Rattle.image.specs.Checks.{bounds, loadCode, loadOffset}
@@ -34,7 +34,7 @@ unfoldable pub pageOf : List ℕ → List ℕ → PageResult
 unfolding pageCode
 pageOf ws page =
     (pageCode ws (length page) == 0)
-    ⇒ record { code = 0; bytes = length (rowsOf (load ws)); page = over (rowsOf (load ws)) page }
+    ⇒ record { code = 0; bytes = length (rowsOf (load ws)); page = overwritten (rowsOf (load ws)) page }
     else record { code = pageCode ws (length page); bytes = loadOffset pageBounds ws; page = page }
 
 -- what the code gives, with the page that it leaves

@@ -2,7 +2,7 @@
 use Prim.Native.Nat.{ℕ, _-_}
 use mathlib.Core.List.{List, [], _∷_, _++_}
 use lib.ListN.{length, getD, replicate}
-use Rattle.lists.specs.Lists.{each}
+use Rattle.lists.specs.Lists.{concatMap}
 use Rattle.decimal.specs.Decimal.{digits}
 use Rattle.graph.specs.Graph.{Edge, Graph, readingOf}
 use Rattle.graph.specs.declared.Reading.{Reading}
@@ -46,7 +46,7 @@ rowBytes = 25
 -- one row an edge, in Eseq order
 unfoldable pub rowsOf : Graph → List ℕ
 unfolding rowOf
-rowsOf g = each rowOf (g .eseq)
+rowsOf g = concatMap rowOf (g .eseq)
 
 -- ---- for the code
 
@@ -62,4 +62,4 @@ edgeRead ws = record {
 
 -- the rows of so many records
 abbrev pub rowsFrom : ℕ → List ℕ → List ℕ
-rowsFrom count ws = each rowOf (edgesFrom count ws)
+rowsFrom count ws = concatMap rowOf (edgesFrom count ws)

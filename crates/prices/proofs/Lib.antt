@@ -1,5 +1,4 @@
-pub mod Counted
-pub mod Passes
-pub mod Heard
-pub mod BothWays
-pub mod PricedLaws
+pub mod GradeLaws
+pub mod Ranges
+pub mod Symmetry
+pub mod Last

@@ -1,2 +1,2 @@
-pub mod Ways
-pub mod Priced
+pub mod Grades
+pub mod Prices

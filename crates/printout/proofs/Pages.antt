@@ -2,13 +2,13 @@
 use Prim.Native.Nat.{ℕ, _≤_}
 use mathlib.Core.Path.{_≡_, refl, sym, ap, _∙_}
 use mathlib.Core.Bool.{Bool, true, false}
-use mathlib.Core.List.{List, [], _∷_}
+use mathlib.Core.List.{List}
 use native.Mathlib.Omega.{arith}
 use lib.ListN.{length, take}
-use borrow.Author.Tests.{eqb-true, eqb-false, eq-eqb, ne-eqb}
-use Rattle.lists.specs.Choice.{_⇒_else_, _==_}
-use Rattle.lists.specs.Lists.{over}
-use Rattle.decimal.specs.Stored.{Written}
+use borrow.Author.Tests.{eqb-true, eqb-false}
+use Rattle.lists.specs.Choice.{_==_}
+use Rattle.lists.specs.Lists.{overwritten}
+use Rattle.decimal.specs.Stored.{WrittenAt}
 use Rattle.decimal.proofs.Stores.{over-front, over-fits}
 use Rattle.image.specs.Image.{load}
 use Rattle.image.specs.Checks.{loadCode, loadOffset}
@@ -20,18 +20,18 @@ use Rattle.page.specs.Rows.{rowsOf}
 use Rattle.page.specs.Page.{PageResult, pageBounds, pageOf, printed as printedPage}
 use Rattle.page.proofs.PageLaws.{page-refused, page-full}
 use Rattle.page.proofs.BadWords.{offset-inside}
-use Rattle.text.specs.Writing.{refusedWord, lineOf}
-use Rattle.text.specs.ImageLine.{ImageLine, image, other, readImage, lineWords, answered}
+use Rattle.text.specs.Writing.{refusedLine}
+use Rattle.text.specs.ImageLine.{other, readImage, lineWords, lineVerdict}
 use Rattle.text.specs.declared.image_line.LineVerdict.{LineVerdict}
 use Rattle.text.specs.declared.image_line.LineVerdict.the-variants.{Words, Unreadable}
-use Rattle.text.proofs.ImageLines.{told-words, told-other}
-use Rattle.printout.specs.Printout.{refusedLine, rowsOrCode, printed, printout}
+use Rattle.text.proofs.ImageLines.{image-few, told-words, told-other}
+use Rattle.printout.specs.Printout.{rowsOrCode, printedLine, printout}
 
 -- ---- the page call with room for every page
 
 module _ (ws out out′ : List ℕ) (r : Printed) (room : 100000 ≤ length out) (e : printedPage r out′ ≡ pageOf ws out) where
   loads : loadCode pageBounds ws ≡ 0 →
-      (r .code ≡ 0) × ((r .bytes ≡ length (rowsOf (load ws))) × (out′ ≡ over (rowsOf (load ws)) out))
+      (r .code ≡ 0) × ((r .bytes ≡ length (rowsOf (load ws))) × (out′ ≡ overwritten (rowsOf (load ws)) out))
   loads z =
       let k = few-edges pageBounds (load ws) (loaded pageBounds ws (code-loads pageBounds ws .0 z) .formed) in
       let p = e ∙ sym (page-full ws out z (omega (arith, k))) in
@@ -43,11 +43,11 @@ module _ (ws out out′ : List ℕ) (r : Printed) (room : 100000 ≤ length out)
       let p = e ∙ sym (page-refused ws out _ _ refl refl n) in
       (ap (λ (x : PageResult). x .code) p, ap (λ (x : PageResult). x .bytes) p, ap (λ (x : PageResult). x .page) p)
 
-  pub rows-written : r .code ≡ 0 → Written (rowsOrCode ws) (r .bytes) out out′
+  pub rows-written : r .code ≡ 0 → WrittenAt (rowsOrCode ws) (r .bytes) out out′
   unfolding rowsOrCode
   rows-written z = go (loadCode pageBounds ws == 0) refl
     where
-      go : (t : Bool) → (loadCode pageBounds ws == 0) ≡ t → Written (rowsOrCode ws) (r .bytes) out out′
+      go : (t : Bool) → (loadCode pageBounds ws == 0) ≡ t → WrittenAt (rowsOrCode ws) (r .bytes) out out′
       go true t = rw t (loads (eqb-true _ _ t) .1)
       go false t = absurd (eqb-false _ _ t (sym (unloadable (eqb-false _ _ t) .0) ∙ z))
 
@@ -63,32 +63,26 @@ module _ (ws out out′ : List ℕ) (r : Printed) (room : 100000 ≤ length out)
           let u = unloadable (eqb-false _ _ t) in
           (u .2, omega (arith, offset-inside ws, u .1), rw (t, u .0, u .1))
 
-pub refused-alone : (code offset : ℕ) → code ≡ 105 → lineOf refusedWord (code ∷ []) ≡ refusedLine code offset
-unfolding refusedLine
-refused-alone code offset e = rw (eq-eqb code 105 e)
-
-pub refused-offset : (code offset : ℕ) → (code ≡ 105 → ⊥) → lineOf refusedWord (code ∷ offset ∷ []) ≡ refusedLine code offset
-unfolding refusedLine
-refused-offset code offset n = rw (ne-eqb code 105 n)
-
 -- ---- the words read
 
 pub record WordsRead (input words : List ℕ) (n : ℕ) : Type 0 where
   pub fit : n ≤ length words
+  pub few : length (take n words) ≤ 200000
   pub text : rowsOrCode (take n words) ≡ printout input
 
-module _ (input : List ℕ) (v : LineVerdict) (read : v ≡ answered (readImage input)) where
-  pub words-read : (n : ℕ) (slice slice′ : List ℕ) → v ≡ Words n → slice′ ≡ over (lineWords (readImage input)) slice →
+module _ (input : List ℕ) (v : LineVerdict) (read : v ≡ lineVerdict (readImage input)) where
+  pub words-read : (n : ℕ) (slice slice′ : List ℕ) → v ≡ Words n → slice′ ≡ overwritten (lineWords (readImage input)) slice →
       WordsRead input slice′ n
-  unfolding printout printed
+  unfolding printout printedLine
   words-read n slice slice′ e f =
       let t = told-words (readImage input) n (sym e ∙ read) in
       let ws = lineWords (readImage input) in
       record {
         fit = over-fits ws slice slice′ n (length slice′) (t .1) f refl;
-        text = ap rowsOrCode (over-front ws slice slice′ n (t .1) f) ∙ sym (ap printed (t .0));
+        few = rw (over-front ws slice slice′ n (t .1) f) (image-few input);
+        text = ap rowsOrCode (over-front ws slice slice′ n (t .1) f) ∙ sym (ap printedLine (t .0));
       }
 
-  pub other-read : v ≡ Unreadable → printed other ≡ printout input
+  pub other-read : v ≡ Unreadable → printedLine other ≡ printout input
   unfolding printout
-  other-read e = sym (ap printed (told-other (readImage input) (sym e ∙ read)))
+  other-read e = sym (ap printedLine (told-other (readImage input) (sym e ∙ read)))

@@ -1,18 +1,13 @@
 -- The program chartpage, from the bytes that it reads to the bytes that it writes.
 use Prim.Native.Nat.{ℕ}
-use mathlib.Core.List.{List, [], _∷_}
+use mathlib.Core.List.{List, []}
 use Rattle.lists.specs.Choice.{_⇒_else_, _==_}
 use Rattle.image.specs.Image.{load}
 use Rattle.image.specs.Checks.{loadCode, loadOffset}
 use Rattle.page.specs.Rows.{rowsOf}
 use Rattle.page.specs.Page.{pageBounds}
-use Rattle.text.specs.Writing.{refusedWord, unreadableWord, lineOf}
+use Rattle.text.specs.Writing.{unreadableWord, lineOf, refusedLine}
 use Rattle.text.specs.ImageLine.{ImageLine, image, other, readImage}
-
--- 105 alone; any other code with the offset of the first bad word
-unfoldable pub refusedLine : ℕ → ℕ → List ℕ
-unfolding lineOf
-refusedLine code offset = lineOf refusedWord ((code == 105) ⇒ (code ∷ []) else (code ∷ offset ∷ []))
 
 -- the rows of words that load; of others a line with their code
 unfoldable pub rowsOrCode : List ℕ → List ℕ
@@ -22,11 +17,11 @@ rowsOrCode ws =
     else refusedLine (loadCode pageBounds ws) (loadOffset pageBounds ws)
 
 -- any other text than the line of an image: a line of one word
-unfoldable pub printed : ImageLine → List ℕ
+unfoldable pub printedLine : ImageLine → List ℕ
 unfolding rowsOrCode lineOf
-printed (image ws) = rowsOrCode ws
-printed other = lineOf unreadableWord []
+printedLine (image ws) = rowsOrCode ws
+printedLine other = lineOf unreadableWord []
 
 unfoldable pub printout : List ℕ → List ℕ
-unfolding readImage printed
-printout bytes = printed (readImage bytes)
+unfolding readImage printedLine
+printout bytes = printedLine (readImage bytes)

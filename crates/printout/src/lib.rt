@@ -2,28 +2,17 @@
 use decimal::bytes;
 use page::print;
 use text::LineVerdict;
-use text::line;
 use text::read_image;
+use text::write_refused;
 ghost use Prim.Native.Nat.{_≤_};
 ghost use lib.ListN.{length};
-ghost use Rattle.decimal.specs.Stored.{Written};
-ghost use Rattle.printout.specs.Printout.{refusedLine, rowsOrCode, printout};
-
-// The line of words that do not load.
-fn refused(out: &mut [u8], code: u32, offset: u32) -> usize
-    requires { ⌜ 30 ≤ length (now out) ⌝ }
-    ensures { λ r. ⌜ Written (refusedLine code offset) r (now (out .entry)) (now (out .exit)) ⌝ }
-{
-    if code == 105 {
-        return line(out, 0, b"refused", &[code]);
-    }
-    line(out, 0, b"refused", &[code, offset])
-}
+ghost use Rattle.decimal.specs.Stored.{WrittenAt};
+ghost use Rattle.printout.specs.Printout.{rowsOrCode, printout};
 
 // There is room for the rows of 4,000 edges.
-fn print_words(words: &[u32], out: &mut [u8]) -> usize
-    requires { ⌜ (length (now words) ≤ 200000) × (100000 ≤ length (now out)) ⌝ }
-    ensures { λ r. ⌜ Written (rowsOrCode (now (words .entry))) r (now (out .entry)) (now (out .exit)) ⌝ }
+fn print_words(words: &[u32], out: &mut [u8; 100000]) -> usize
+    requires { ⌜ length (now words) ≤ 200000 ⌝ }
+    ensures { λ r. ⌜ WrittenAt (rowsOrCode (now (words .entry))) r (now (out .entry)) (now (out .exit)) ⌝ }
 {
     let r = print(words, out);
     let code = r.code;
@@ -31,13 +20,12 @@ fn print_words(words: &[u32], out: &mut [u8]) -> usize
     if code == 0 {
         return bytes;
     }
-    refused(out, code, bytes as u32)
+    write_refused(code, bytes as u32, out)
 }
 
 // Writes the whole output for the input to the front of out, and answers how many bytes it has.
-pub fn print_image(input: &[u8], out: &mut [u8]) -> usize
-    requires { ⌜ 100000 ≤ length (now out) ⌝ }
-    ensures { λ r. ⌜ Written (printout (now (input .entry))) r (now (out .entry)) (now (out .exit)) ⌝ }
+pub fn print_image(input: &[u8], out: &mut [u8; 100000]) -> usize
+    ensures { λ r. ⌜ WrittenAt (printout (now (input .entry))) r (now (out .entry)) (now (out .exit)) ⌝ }
 {
     let mut words = [0u32; 200000];
     let verdict = read_image(input, &mut words);

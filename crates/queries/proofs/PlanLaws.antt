@@ -4,24 +4,24 @@ use mathlib.Core.Path.{_≡_, refl, sym, ap, _∙_}
 use mathlib.Core.Logic.{_≢_}
 use mathlib.Core.List.{[], _∷_, _++_}
 use native.Mathlib.Omega.{arith}
-use Rattle.lists.specs.Choice.{pick, is}
-use Rattle.lists.specs.Keyed.{countBy, rem, prev, lastBy}
+use Rattle.lists.specs.Choice.{ifEqual, indicator}
+use Rattle.lists.specs.Keyed.{countBy, removeBy, prevBy, lastBy}
 use Rattle.lists.proofs.Picks.{pick-yes, pick-no, same, differ, same?, is-no}
 use Rattle.lists.proofs.Places.{prev-there}
 use Rattle.graph.specs.declared.Edit.the-variants.{InsertVertex, RemoveVertex, InsertEdge, RemoveEdge, SetVertex, SetEdge, MoveVertex, MoveEdge, MoveWord}
 use Rattle.graph.specs.declared.Reading.the-variants.{Untested}
 use Rattle.graph.specs.declared.Change.{Change}
 use Rattle.graph.specs.declared.Change.the-variants.{CreateVertex, DeleteVertex, CreateEdge, DeleteEdge, RetypeVertex, RetypeEdge, SetValue, SetReading, SetAlpha, SetOmega, VertexBefore, VertexAfter, EdgeBefore, EdgeAfter, WordBefore, WordAfter}
-use Rattle.graph.specs.Graph.{Graph, vn, en, wd, edge, edgeOf, outWord, inWord, this, listIn, listOf, readingOf}
+use Rattle.graph.specs.Graph.{Graph, vertexNumber, edgeNumber, itself, edge, edgeOf, outWord, inWord, this, listIn, listOf, readingOf}
 use Rattle.graph.specs.WellFormed.{Bounds}
 use Rattle.graph.specs.Changes.{VertexThere, EdgeThere, Allowed, append, detach, cost}
 use Rattle.graph.specs.Plans.{removal, vertexRemoval, wordMove, listWithout, moveLast, plan, firstEdits}
 use Rattle.graph.proofs.Incidence.{list-upd, out-half, into-half, this-out, this-into}
 use Rattle.graph.proofs.Lists.{ordered-list}
 use Rattle.graph.proofs.ChangeLaws.{Kind, deletion, single, kind?}
-use Rattle.tables.specs.Tables.{State, vlast, wprev}
-use Rattle.tables.specs.Holds.{Holds}
-use Rattle.tables.specs.Capacities.{Sized}
+use Rattle.graph_tables.specs.Tables.{State, vlast, wprev}
+use Rattle.graph_tables.specs.Holds.{Holds}
+use Rattle.graph_tables.specs.Capacities.{Sized}
 use Rattle.queries.specs.Plans.{unless, planRemoveEdge, planWordLast, planS, CanPlan, OneEdit}
 use Rattle.queries.proofs.Removed.{prev-rem, last-rem, last-other, last-append}
 use Rattle.queries.proofs.Answers.{last-vertex, last-edge, vertex-row, vertex-type, vertex-value, last-word, vertex-prev, edge-row, edge-type, reading-at, alpha-is, omega-is, edge-prev, word-row, word-this, word-vertex, word-listed, word-prev}
@@ -37,43 +37,43 @@ module _ (s : State) (g : Graph) (h : Holds s g) where
     real = word-row s g h w c .0
 
     -- w is in no other list
-    elsewhere : (u : ℕ) → this g w ≢ u → countBy wd w (listOf g u) ≡ 0
+    elsewhere : (u : ℕ) → this g w ≢ u → countBy itself w (listOf g u) ≡ 0
     elsewhere u d = h .sound .lists u w ∙ pick-no (this g w) u _ _ d
 
-    list-out : (u : ℕ) → this g w ≡ u → listWithout w u g ≡ rem wd w (listOf g u)
-    list-out u e = list-upd (g .vseq) (this g w) u (rem wd w) (word-vertex s g h w c) ∙ pick-yes (this g w) u _ _ e
+    list-out : (u : ℕ) → this g w ≡ u → listWithout w u g ≡ removeBy itself w (listOf g u)
+    list-out u e = list-upd (g .vseq) (this g w) u (removeBy itself w) (word-vertex s g h w c) ∙ pick-yes (this g w) u _ _ e
 
     list-kept : (u : ℕ) → this g w ≢ u → listWithout w u g ≡ listOf g u
-    list-kept u d = list-upd (g .vseq) (this g w) u (rem wd w) (word-vertex s g h w c) ∙ pick-no (this g w) u _ _ d
+    list-kept u d = list-upd (g .vseq) (this g w) u (removeBy itself w) (word-vertex s g h w c) ∙ pick-no (this g w) u _ _ d
 
-    prev-out : (u b : ℕ) → w ≢ b → 1 ≤ countBy wd b (listOf g u) →
-        unless w (prev wd 0 w (listOf g (this g w))) (prev wd 0 b (listOf g u)) ≡ prev wd 0 b (listWithout w u g)
+    prev-out : (u b : ℕ) → w ≢ b → 1 ≤ countBy itself b (listOf g u) →
+        unless w (prevBy itself 0 w (listOf g (this g w))) (prevBy itself 0 b (listOf g u)) ≡ prevBy itself 0 b (listWithout w u g)
     prev-out u b n i = elim (same? (this g w) u) [
       | same e f ↦
           let l = listOf g u in
-          let j : countBy wd w l ≡ 1 = rw e at (word-listed s g h w c) in
-          unless-by w (ap (λ (v : ℕ). prev wd 0 w (listOf g v)) e) refl
-          ∙ sym (prev-rem wd 0 w b l n (omega arith) i (ordered-list g (h .sound) u))
-          ∙ ap (prev wd 0 b) (sym (list-out u e))
+          let j : countBy itself w l ≡ 1 = rw e at (word-listed s g h w c) in
+          unless-by w (ap (λ (v : ℕ). prevBy itself 0 w (listOf g v)) e) refl
+          ∙ sym (prev-rem itself 0 w b l n (omega arith) i (ordered-list g (h .sound) u))
+          ∙ ap (prevBy itself 0 b) (sym (list-out u e))
       | differ e f ↦
           let l = listOf g u in
-          let o : prev wd 0 b l ≢ w =
-          λ q. omega (arith, prev-there wd 0 b l i, elsewhere u e, ap (λ (k : ℕ). is 0 k + countBy wd k l) q, is-no 0 w (λ r. omega (arith, real))) in
-          pick-no (prev wd 0 b l) w _ _ o ∙ ap (prev wd 0 b) (sym (list-kept u e))
+          let o : prevBy itself 0 b l ≢ w =
+          λ q. omega (arith, prev-there itself 0 b l i, elsewhere u e, ap (λ (k : ℕ). indicator 0 k + countBy itself k l) q, is-no 0 w (λ r. omega (arith, real))) in
+          pick-no (prevBy itself 0 b l) w _ _ o ∙ ap (prevBy itself 0 b) (sym (list-kept u e))
     ]
 
-    last-out : (u : ℕ) → unless w (prev wd 0 w (listOf g (this g w))) (lastBy wd 0 (listOf g u)) ≡ lastBy wd 0 (listWithout w u g)
+    last-out : (u : ℕ) → unless w (prevBy itself 0 w (listOf g (this g w))) (lastBy itself 0 (listOf g u)) ≡ lastBy itself 0 (listWithout w u g)
     last-out u = elim (same? (this g w) u) [
       | same e f ↦
           let l = listOf g u in
-          let j : countBy wd w l ≡ 1 = rw e at (word-listed s g h w c) in
-          unless-by w (ap (λ (v : ℕ). prev wd 0 w (listOf g v)) e) refl
-          ∙ sym (last-rem wd 0 w l (omega arith) (ordered-list g (h .sound) u))
-          ∙ ap (lastBy wd 0) (sym (list-out u e))
+          let j : countBy itself w l ≡ 1 = rw e at (word-listed s g h w c) in
+          unless-by w (ap (λ (v : ℕ). prevBy itself 0 w (listOf g v)) e) refl
+          ∙ sym (last-rem itself 0 w l (omega arith) (ordered-list g (h .sound) u))
+          ∙ ap (lastBy itself 0) (sym (list-out u e))
       | differ e f ↦
           let l = listOf g u in
-          let o : lastBy wd 0 l ≢ w = last-other wd 0 w l (omega (arith, elsewhere u e, is-no 0 w (λ r. omega (arith, real)))) in
-          pick-no (lastBy wd 0 l) w _ _ o ∙ ap (lastBy wd 0) (sym (list-kept u e))
+          let o : lastBy itself 0 l ≢ w = last-other itself 0 w l (omega (arith, elsewhere u e, is-no 0 w (λ r. omega (arith, real)))) in
+          pick-no (lastBy itself 0 l) w _ _ o ∙ ap (lastBy itself 0) (sym (list-kept u e))
     ]
 
     pub last-move : (u : ℕ) → VertexThere g u → planWordLast (s .vt) (s .et) w u ≡ moveLast w u g
@@ -102,21 +102,21 @@ module _ (s : State) (g : Graph) (h : Holds s g) where
       let r = reading-at s g h n c in
       let p = edge-prev s g h n c in
       let i = word-prev s g h (inWord n) ci in
-      let i′ : wprev (s .et) (inWord n) ≡ prev wd 0 (inWord n) (listOf g (edge g n .omega)) = i ∙ ap (λ (v : ℕ). prev wd 0 (inWord n) (listOf g v)) (this-into (g .eseq) n) in
+      let i′ : wprev (s .et) (inWord n) ≡ prevBy itself 0 (inWord n) (listOf g (edge g n .omega)) = i ∙ ap (λ (v : ℕ). prevBy itself 0 (inWord n) (listOf g v)) (this-into (g .eseq) n) in
       let o = word-prev s g h (outWord n) co in
-      let q : unless (inWord n) (wprev (s .et) (inWord n)) (wprev (s .et) (outWord n)) ≡ prev wd 0 (outWord n) (listIn (detach (g .vseq) (edge g n .omega) (inWord n)) (edge g n .alpha)) =
+      let q : unless (inWord n) (wprev (s .et) (inWord n)) (wprev (s .et) (outWord n)) ≡ prevBy itself 0 (outWord n) (listIn (detach (g .vseq) (edge g n .omega) (inWord n)) (edge g n .alpha)) =
       unless-by (inWord n) i o
       ∙ prev-out (inWord n) ci (this g (outWord n)) (outWord n) (omega arith) (omega (arith, word-listed s g h (outWord n) co))
-      ∙ (λ k. prev wd 0 (outWord n) (listIn (detach (g .vseq) (this-into (g .eseq) n k) (inWord n)) (this-out (g .eseq) n k))) in
+      ∙ (λ k. prevBy itself 0 (outWord n) (listIn (detach (g .vseq) (this-into (g .eseq) n k) (inWord n)) (this-out (g .eseq) n k))) in
       λ k. RemoveEdge n (a k) (z k) (t k) (r k) (p k) (q k) (i′ k)
 
   -- the last word of omega's list, once the out word is last in alpha's
-  into-last : (n a o : ℕ) → VertexThere g a → VertexThere g o → pick a o (outWord n) (vlast (s .vt) o) ≡ lastBy wd 0 (listIn (append (g .vseq) a (outWord n)) o)
+  into-last : (n a o : ℕ) → VertexThere g a → VertexThere g o → ifEqual a o (outWord n) (vlast (s .vt) o) ≡ lastBy itself 0 (listIn (append (g .vseq) a (outWord n)) o)
   into-last n a o ca co =
       let l = list-upd (g .vseq) a o (λ ws. ws ++ (outWord n ∷ [])) ca in
       elim (same? a o) [
-        | same e f ↦ pick-yes a o _ _ e ∙ sym (ap (lastBy wd 0) (l ∙ pick-yes a o _ _ e) ∙ last-append wd 0 (listOf g o) (outWord n))
-        | differ e f ↦ pick-no a o _ _ e ∙ last-word s g h o co ∙ sym (ap (lastBy wd 0) (l ∙ pick-no a o _ _ e))
+        | same e f ↦ pick-yes a o _ _ e ∙ sym (ap (lastBy itself 0) (l ∙ pick-yes a o _ _ e) ∙ last-append itself 0 (listOf g o) (outWord n))
+        | differ e f ↦ pick-no a o _ _ e ∙ last-word s g h o co ∙ sym (ap (lastBy itself 0) (l ∙ pick-no a o _ _ e))
       ]
 
   pub plan-is : (b : Bounds) (c : Change) → Allowed b g c → planS c s ≡ plan c g
@@ -133,19 +133,19 @@ module _ (s : State) (g : Graph) (h : Holds s g) where
   plan-is b (SetOmega e v) a = last-move (inWord e) (there-in e (a .0)) v (a .1)
   plan-is b (VertexBefore x y) a =
       let p = vertex-prev s g h x (a .0) in
-      let q = unless-by x p (vertex-prev s g h y (a .1)) ∙ sym (prev-rem vn 0 x y (g .vseq) (a .2) (omega (arith, a .0)) (omega (arith, a .1)) (h .sound .vorder)) in
+      let q = unless-by x p (vertex-prev s g h y (a .1)) ∙ sym (prev-rem vertexNumber 0 x y (g .vseq) (a .2) (omega (arith, a .0)) (omega (arith, a .1)) (h .sound .vorder)) in
       λ i. MoveVertex x (p i) (q i)
   plan-is b (VertexAfter x y) a = λ i. MoveVertex x (vertex-prev s g h x (a .0) i) y
   plan-is b (EdgeBefore x y) a =
       let p = edge-prev s g h x (a .0) in
-      let q = unless-by x p (edge-prev s g h y (a .1)) ∙ sym (prev-rem en 0 x y (g .eseq) (a .2) (omega (arith, a .0)) (omega (arith, a .1)) (h .sound .eorder)) in
+      let q = unless-by x p (edge-prev s g h y (a .1)) ∙ sym (prev-rem edgeNumber 0 x y (g .eseq) (a .2) (omega (arith, a .0)) (omega (arith, a .1)) (h .sound .eorder)) in
       λ i. MoveEdge x (p i) (q i)
   plan-is b (EdgeAfter x y) a = λ i. MoveEdge x (edge-prev s g h x (a .0) i) y
   plan-is b (WordBefore x y) a =
       let v = word-this s g h x (a .0) in
       let p = word-prev s g h x (a .0) in
-      let same-list : countBy wd y (listOf g (this g x)) ≡ 1 = rw (a .2) (word-listed s g h y (a .1)) in
-      let q = unless-by x p (word-prev s g h y (a .1) ∙ ap (λ (k : ℕ). prev wd 0 y (listOf g k)) (sym (a .2)))
+      let same-list : countBy itself y (listOf g (this g x)) ≡ 1 = rw (a .2) (word-listed s g h y (a .1)) in
+      let q = unless-by x p (word-prev s g h y (a .1) ∙ ap (λ (k : ℕ). prevBy itself 0 y (listOf g k)) (sym (a .2)))
       ∙ prev-out x (a .0) (this g x) y (a .3) (omega (arith, same-list)) in
       λ i. MoveWord x (v i) (p i) (v i) (q i)
   plan-is b (WordAfter x y) a = λ i. MoveWord x (word-this s g h x (a .0) i) (word-prev s g h x (a .0) i) (word-this s g h x (a .0) i) y

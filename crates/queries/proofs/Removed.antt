@@ -4,28 +4,28 @@ use mathlib.Core.Path.{_≡_, refl, sym, ap, _∙_}
 use mathlib.Core.Logic.{_≢_}
 use mathlib.Core.List.{List, [], _∷_, _++_}
 use native.Mathlib.Omega.{arith}
-use Rattle.lists.specs.Choice.{pick, is}
-use Rattle.lists.specs.Keyed.{countBy, rem, prev, lastBy}
+use Rattle.lists.specs.Choice.{ifEqual, indicator}
+use Rattle.lists.specs.Keyed.{countBy, removeBy, prevBy, lastBy}
 use Rattle.lists.proofs.Picks.{pick-yes, pick-no, same, differ, same?, is-yes, is-no, is-zero}
 use Rattle.lists.proofs.Places.{prev-there, last-in}
 
 module _ {A : Type 0} (key : A → ℕ) where
-  prev-head : (q y b : ℕ) (l : List A) → 1 ≤ countBy key b l → ((n : ℕ) → is y n + countBy key n l ≤ 1) →
-      prev key q b l ≡ pick (prev key y b l) y q (prev key y b l)
+  prev-head : (q y b : ℕ) (l : List A) → 1 ≤ countBy key b l → ((n : ℕ) → indicator y n + countBy key n l ≤ 1) →
+      prevBy key q b l ≡ ifEqual (prevBy key y b l) y q (prevBy key y b l)
   prev-head q y b [] h d = absurd (omega arith)
   prev-head q y b (c ∷ l) h d = elim (same? (key c) b) [
     | same e f ↦ simp pick-yes
     | differ e f ↦
         let i : 1 ≤ countBy key b l = omega (arith, is-no (key c) b e) in
-        let P = prev key (key c) b l in
+        let P = prevBy key (key c) b l in
         let a : y ≢ P = is-zero y P (omega (arith, prev-there key (key c) b l i, d P)) in
         let a′ : P ≢ y = λ z. a (sym z) in
         simp pick-no
   ]
 
   -- before b stands the one before a, if a stood there
-  pub prev-rem : (q a b : ℕ) (l : List A) → a ≢ b → 1 ≤ countBy key a l → 1 ≤ countBy key b l → ((n : ℕ) → is q n + countBy key n l ≤ 1) →
-      prev key q b (rem key a l) ≡ pick (prev key q b l) a (prev key q a l) (prev key q b l)
+  pub prev-rem : (q a b : ℕ) (l : List A) → a ≢ b → 1 ≤ countBy key a l → 1 ≤ countBy key b l → ((n : ℕ) → indicator q n + countBy key n l ≤ 1) →
+      prevBy key q b (removeBy key a l) ≡ ifEqual (prevBy key q b l) a (prevBy key q a l) (prevBy key q b l)
   prev-rem q a b [] n h i d = absurd (omega arith)
   prev-rem q a b (y ∷ l) n h i d = elim (same? (key y) a) [
     | same e f ↦
@@ -41,18 +41,18 @@ module _ {A : Type 0} (key : A → ℕ) where
   ]
 
   -- the last key is none that is not there
-  pub last-other : (q a : ℕ) (l : List A) → is q a + countBy key a l ≡ 0 → lastBy key q l ≢ a
-  last-other q a l h e = omega (arith, last-in key q l, ap (λ (k : ℕ). is q k + countBy key k l) e)
+  pub last-other : (q a : ℕ) (l : List A) → indicator q a + countBy key a l ≡ 0 → lastBy key q l ≢ a
+  last-other q a l h e = omega (arith, last-in key q l, ap (λ (k : ℕ). indicator q k + countBy key k l) e)
 
-  last-head : (q y a : ℕ) (l : List A) → y ≡ a → countBy key a l ≡ 0 → lastBy key q l ≡ pick (lastBy key y l) a q (lastBy key y l)
+  last-head : (q y a : ℕ) (l : List A) → y ≡ a → countBy key a l ≡ 0 → lastBy key q l ≡ ifEqual (lastBy key y l) a q (lastBy key y l)
   last-head q y a [] e z = simp pick-yes
   last-head q y a (c ∷ l) e z =
       let o : lastBy key (key c) l ≢ a = last-other (key c) a l z in
       simp pick-no
 
   -- the last is the one before a, if a stood there
-  pub last-rem : (q a : ℕ) (l : List A) → 1 ≤ countBy key a l → ((n : ℕ) → is q n + countBy key n l ≤ 1) →
-      lastBy key q (rem key a l) ≡ pick (lastBy key q l) a (prev key q a l) (lastBy key q l)
+  pub last-rem : (q a : ℕ) (l : List A) → 1 ≤ countBy key a l → ((n : ℕ) → indicator q n + countBy key n l ≤ 1) →
+      lastBy key q (removeBy key a l) ≡ ifEqual (lastBy key q l) a (prevBy key q a l) (lastBy key q l)
   last-rem q a [] h d = absurd (omega arith)
   last-rem q a (y ∷ l) h d = elim (same? (key y) a) [
     | same e f ↦ simp pick-yes (last-head q (key y) a l e (omega (arith, d a, is-yes (key y) a e)))

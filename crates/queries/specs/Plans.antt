@@ -1,7 +1,7 @@
 -- The edit of each change, read off the tables: a constant number of words.
 use Prim.Native.Nat.{ℕ, _+_, _*_, _^_, _<_}
 use mathlib.Core.List.{List}
-use Rattle.lists.specs.Choice.{pick}
+use Rattle.lists.specs.Choice.{ifEqual}
 use Rattle.graph.specs.declared.Reading.the-variants.{Untested}
 use Rattle.graph.specs.declared.Edit.{Edit}
 use Rattle.graph.specs.declared.Edit.the-variants.{
@@ -35,12 +35,12 @@ use Rattle.graph.specs.declared.Change.the-variants.{
   WordAfter,
 }
 use Rattle.graph.specs.Graph.{readingOf}
-use Rattle.tables.specs.declared.Head.{Head}
-use Rattle.tables.specs.Tables.{
+use Rattle.graph_tables.specs.declared.Head.{Head}
+use Rattle.graph_tables.specs.Tables.{
   State,
-  VIn,
-  EIn,
-  WIn,
+  VertexRowIn,
+  EdgeRowIn,
+  HalfRowIn,
   vtype,
   vvalue,
   vlast,
@@ -54,7 +54,7 @@ use Rattle.tables.specs.Tables.{
 
 -- x; where x is a itself, which leaves its list first, the place p of a
 abbrev pub unless : ℕ → ℕ → ℕ → ℕ
-unless a p x = pick x a p x
+unless a p x = ifEqual x a p x
 
 -- kinds 1 and 2
 abbrev pub planCreateVertex : Head → ℕ → ℕ → ℕ → Edit
@@ -65,7 +65,7 @@ planRemoveVertex vt a = RemoveVertex a (vtype vt a) (vvalue vt a) (vprev vt a)
 
 -- kind 3: where alpha is omega, the in word goes after the out word
 abbrev pub planCreateEdge : Head → List ℕ → ℕ → ℕ → ℕ → ℕ → Edit
-planCreateEdge h vt n a o t = InsertEdge n a o t Untested (h .elast) (vlast vt a) (pick a o (2 * n) (vlast vt o))
+planCreateEdge h vt n a o t = InsertEdge n a o t Untested (h .elast) (vlast vt a) (ifEqual a o (2 * n) (vlast vt o))
 
 -- kind 4: the in word goes first, so where it stands right before the out word, the out word's place is the in word's
 abbrev pub planRemoveEdge : List ℕ → ℕ → Edit
@@ -135,21 +135,21 @@ Short n = n < 2 ^ 31
 -- the rows that are read are there
 abbrev pub CanPlan : Change → State → Type 0
 CanPlan (CreateVertex n t x) s = Unit {0}
-CanPlan (DeleteVertex a) s = VIn (s .vt) a
-CanPlan (CreateEdge n a o t) s = Short n × VIn (s .vt) a × VIn (s .vt) o
-CanPlan (DeleteEdge a) s = Short a × EIn (s .et) a
-CanPlan (RetypeVertex a t) s = VIn (s .vt) a
-CanPlan (RetypeEdge a t) s = EIn (s .et) a
-CanPlan (SetValue a x) s = VIn (s .vt) a
-CanPlan (SetReading a k d) s = EIn (s .et) a
-CanPlan (SetAlpha e v) s = Short e × EIn (s .et) e × VIn (s .vt) v
-CanPlan (SetOmega e v) s = Short e × EIn (s .et) e × VIn (s .vt) v
-CanPlan (VertexBefore a b) s = VIn (s .vt) a × VIn (s .vt) b
-CanPlan (VertexAfter a b) s = VIn (s .vt) a
-CanPlan (EdgeBefore a b) s = EIn (s .et) a × EIn (s .et) b
-CanPlan (EdgeAfter a b) s = EIn (s .et) a
-CanPlan (WordBefore a b) s = WIn (s .et) a × WIn (s .et) b
-CanPlan (WordAfter a b) s = WIn (s .et) a
+CanPlan (DeleteVertex a) s = VertexRowIn (s .vt) a
+CanPlan (CreateEdge n a o t) s = Short n × VertexRowIn (s .vt) a × VertexRowIn (s .vt) o
+CanPlan (DeleteEdge a) s = Short a × EdgeRowIn (s .et) a
+CanPlan (RetypeVertex a t) s = VertexRowIn (s .vt) a
+CanPlan (RetypeEdge a t) s = EdgeRowIn (s .et) a
+CanPlan (SetValue a x) s = VertexRowIn (s .vt) a
+CanPlan (SetReading a k d) s = EdgeRowIn (s .et) a
+CanPlan (SetAlpha e v) s = Short e × EdgeRowIn (s .et) e × VertexRowIn (s .vt) v
+CanPlan (SetOmega e v) s = Short e × EdgeRowIn (s .et) e × VertexRowIn (s .vt) v
+CanPlan (VertexBefore a b) s = VertexRowIn (s .vt) a × VertexRowIn (s .vt) b
+CanPlan (VertexAfter a b) s = VertexRowIn (s .vt) a
+CanPlan (EdgeBefore a b) s = EdgeRowIn (s .et) a × EdgeRowIn (s .et) b
+CanPlan (EdgeAfter a b) s = EdgeRowIn (s .et) a
+CanPlan (WordBefore a b) s = HalfRowIn (s .et) a × HalfRowIn (s .et) b
+CanPlan (WordAfter a b) s = HalfRowIn (s .et) a
 
 -- a change that is one edit: all but the deletion of a vertex
 abbrev pub OneEdit : Change → Type 0

@@ -1,5 +1,5 @@
 -- Numbers with one space between, byte by byte: whether all are good, their values, and how many there can be.
-use Prim.Native.Nat.{ℕ, suc, _+_, _*_, _≤_}
+use Prim.Native.Nat.{ℕ, _+_, _*_, _≤_}
 use mathlib.Core.Path.{_≡_, refl, sym, ap, _∙_}
 use mathlib.Core.Bool.{Bool, true, false, _&&_}
 use mathlib.Core.List.{List, [], _∷_, _++_, map, append-nil}
@@ -10,7 +10,7 @@ use Rattle.lists.specs.Lists.{all, done, more}
 use Rattle.lists.proofs.Bools.{ft, and-true}
 use Rattle.decimal.specs.Decimal.{valueOf}
 use Rattle.text.specs.Reading.{pieces, goodNumber}
-use Rattle.text.specs.Scan.{run, digitIn, isValue, wordsFrom}
+use Rattle.text.specs.Scan.{scan, digitIn, isValue, wordsFrom}
 use Rattle.text.specs.ImageLine.{fieldIn}
 use Rattle.text.specs.declared.reading.Number.{Number}
 use Rattle.text.specs.declared.reading.Number.the-variants.{Empty, Bad}
@@ -19,7 +19,7 @@ use Rattle.text.proofs.Numbers.{and-true-right, run-append, bad-digit, 
 use Rattle.text.proofs.Scans.{line-words}
 
 -- bytes without a space belong to the number
-free-field : {p : List ℕ} → Free 32 p → (n : Number) → run fieldIn n p ≡ run digitIn n p
+free-field : {p : List ℕ} → Free 32 p → (n : Number) → scan fieldIn n p ≡ scan digitIn n p
 unfolding fieldIn
 free-field done n = refl
 free-field (more {x = x} e f) n = rw e (free-field f (digitIn n x))
@@ -32,30 +32,30 @@ bad-byte x = rw (bad-digit x) (go (x == 32))
     go true = refl
     go false = refl
 
-bad-fields : (xs : List ℕ) → run fieldIn Bad xs ≡ Bad
+bad-fields : (xs : List ℕ) → scan fieldIn Bad xs ≡ Bad
 bad-fields [] = refl
 bad-fields (x ∷ xs) = rw (bad-byte x) (bad-fields xs)
 
 -- a space at the end of a piece
 space-run : {p : List ℕ} → Free 32 p → (xs : List ℕ) →
-    run fieldIn Empty (p ++ 32 ∷ xs) ≡ run fieldIn (goodNumber p ⇒ Empty else Bad) xs
+    scan fieldIn Empty (p ++ 32 ∷ xs) ≡ scan fieldIn (goodNumber p ⇒ Empty else Bad) xs
 unfolding fieldIn
 space-run {p} f xs =
     run-append fieldIn Empty p (32 ∷ xs)
-    ∙ ap (λ (n : Number). run fieldIn n (32 ∷ xs)) (free-field f Empty)
-    ∙ ap (λ (t : Bool). run fieldIn (t ⇒ Empty else Bad) xs) (number-good p)
+    ∙ ap (λ (n : Number). scan fieldIn n (32 ∷ xs)) (free-field f Empty)
+    ∙ ap (λ (t : Bool). scan fieldIn (t ⇒ Empty else Bad) xs) (number-good p)
 
-fields-from : {l : List ℕ} → Parts 32 l → isValue (run fieldIn Empty l) ≡ all goodNumber (pieces 32 l)
+fields-from : {l : List ℕ} → Parts 32 l → isValue (scan fieldIn Empty l) ≡ all goodNumber (pieces 32 l)
 fields-from (rest {p = p} f) =
     rw (free-field f Empty, pieces-rest 32 f) (number-good p ∙ sym (and-true-right (goodNumber p)))
 fields-from (cut {p = p} {xs = xs} f q) = rw (space-run f xs, pieces-cut 32 f xs) (go (fields-from q) (goodNumber p))
   where
-    go : isValue (run fieldIn Empty xs) ≡ all goodNumber (pieces 32 xs) → (g : Bool) →
-        isValue (run fieldIn (g ⇒ Empty else Bad) xs) ≡ (g && all goodNumber (pieces 32 xs))
+    go : isValue (scan fieldIn Empty xs) ≡ all goodNumber (pieces 32 xs) → (g : Bool) →
+        isValue (scan fieldIn (g ⇒ Empty else Bad) xs) ≡ (g && all goodNumber (pieces 32 xs))
     go ih true = ih
     go ih false = ap isValue (bad-fields xs)
 
-pub fields-law : (l : List ℕ) → isValue (run fieldIn Empty l) ≡ all goodNumber (pieces 32 l)
+pub fields-law : (l : List ℕ) → isValue (scan fieldIn Empty l) ≡ all goodNumber (pieces 32 l)
 fields-law l = fields-from (parts 32 l)
 
 pub fields-words : (l : List ℕ) → all goodNumber (pieces 32 l) ≡ true →

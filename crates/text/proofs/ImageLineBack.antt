@@ -1,22 +1,22 @@
 -- The line that is written for words of 32 bits is read as those words.
 use Prim.Native.Nat.{ℕ, zero, suc, _+_, _-_, _/_, _%_, _^_, _≤_, _<_}
 use mathlib.Core.Path.{_≡_, refl, sym, ap, ap₂, _∙_}
-use mathlib.Core.Bool.{Bool, true, false, _&&_}
+use mathlib.Core.Bool.{Bool, true, false}
 use mathlib.Core.List.{List, [], _∷_, _++_, map, append-nil, append-assoc}
 use native.Mathlib.Omega.{arith}
 use native.Mathlib.Numerals.{unary-clauses}
-use lib.ListN.{length, getD, take, drop, length-append}
+use lib.ListN.{length, getD, length-append}
 use lib.Seq.{take-at, getD-at}
 use lib.Dec.{ltb}
 use borrow.Author.Tests.{lt-ltb, ltb-true, ltb-false, le-leb, ne-eqb}
 use Rattle.lists.specs.Choice.{_⇒_else_, _==_}
-use Rattle.lists.specs.Lists.{all, each, All, done, more}
+use Rattle.lists.specs.Lists.{all, concatMap, All, done, more}
 use Rattle.lists.proofs.Bools.{and-true, and-both}
 use Rattle.decimal.specs.Decimal.{digits, valueOf}
 use Rattle.decimal.proofs.Digits.{digits-back}
 use Rattle.text.specs.Reading.{digit, pieces, goodNumber}
 use Rattle.text.specs.Writing.{spaced, imageWord, lineOf}
-use Rattle.text.specs.ImageLine.{image, framedIn, numbersIn, readImage}
+use Rattle.text.specs.ImageLine.{image, framedIn, fieldsIn, readImage}
 use Rattle.text.proofs.Pieces.{Free, pieces-rest, pieces-cut}
 use Rattle.text.proofs.Accepts.{no-space}
 use Rattle.text.proofs.ImageLines.{Framed, framed-reads}
@@ -86,14 +86,14 @@ values-back done = refl
 values-back (more {x = w} h a) = ap₂ _∷_ (digits-back 10 w (omega arith)) (values-back a)
 
 next-pieces : {p : List ℕ} → Free 32 p → {ws : List ℕ} → All Word ws →
-    pieces 32 (p ++ each spaced ws) ≡ p ∷ map (digits 10) ws
+    pieces 32 (p ++ concatMap spaced ws) ≡ p ∷ map (digits 10) ws
 unfolding spaced
 next-pieces {p} f done = ap (pieces 32) (append-nil p) ∙ pieces-rest 32 f
 next-pieces {p} f (more {x = w} {xs = ws} h a) =
-    pieces-cut 32 f (digits 10 w ++ each spaced ws)
+    pieces-cut 32 f (digits 10 w ++ concatMap spaced ws)
     ∙ ap (λ (ls : List (List ℕ)). p ∷ ls) (next-pieces (no-space (digits 10 w) (written-good w h)) a)
 
-pub line-pieces : {ws : List ℕ} → All Word ws → pieces 32 (each spaced ws) ≡ [] ∷ map (digits 10) ws
+pub line-pieces : {ws : List ℕ} → All Word ws → pieces 32 (concatMap spaced ws) ≡ [] ∷ map (digits 10) ws
 line-pieces a = next-pieces done a
 
 -- ---- the line
@@ -102,33 +102,33 @@ module _ (ws : List ℕ) where
   bytes : List ℕ
   bytes = lineOf imageWord ws
 
-  line-seam : bytes ≡ (imageWord ++ each spaced ws) ++ 10 ∷ []
+  line-seam : bytes ≡ (imageWord ++ concatMap spaced ws) ++ 10 ∷ []
   unfolding bytes lineOf
-  line-seam = sym (append-assoc imageWord (each spaced ws) (10 ∷ []))
+  line-seam = sym (append-assoc imageWord (concatMap spaced ws) (10 ∷ []))
 
-  pub image-length : length (lineOf imageWord ws) ≡ length (each spaced ws) + 6
+  pub image-length : length (lineOf imageWord ws) ≡ length (concatMap spaced ws) + 6
   unfolding lineOf
-  image-length = omega (arith, length-append (each spaced ws) (10 ∷ []))
+  image-length = omega (arith, length-append (concatMap spaced ws) (10 ∷ []))
 
   line-framed : length (lineOf imageWord ws) ≤ 400000 → Framed (lineOf imageWord ws)
   unfolding lineOf bytes
   line-framed h =
-      let n : length (imageWord ++ each spaced ws) ≡ length bytes - 1 = omega (arith, image-length) in
+      let n : length (imageWord ++ concatMap spaced ws) ≡ length bytes - 1 = omega (arith, image-length) in
       record {
         least = omega (arith, image-length);
         most = h;
         named = refl;
-        ended = ap (λ (l : List ℕ). getD l (length bytes - 1) 0) line-seam ∙ getD-at (imageWord ++ each spaced ws) 10 [] 0 (length bytes - 1) n;
+        ended = ap (λ (l : List ℕ). getD l (length bytes - 1) 0) line-seam ∙ getD-at (imageWord ++ concatMap spaced ws) 10 [] 0 (length bytes - 1) n;
       }
 
-  line-between : framedIn (lineOf imageWord ws) ≡ each spaced ws
+  line-between : framedIn (lineOf imageWord ws) ≡ concatMap spaced ws
   unfolding lineOf
-  line-between = take-at (each spaced ws) (10 ∷ []) (length (lineOf imageWord ws) - 6) (omega (arith, image-length))
+  line-between = take-at (concatMap spaced ws) (10 ∷ []) (length (lineOf imageWord ws) - 6) (omega (arith, image-length))
 
   pub image-line-back : All Word ws → length (lineOf imageWord ws) ≤ 400000 → readImage (lineOf imageWord ws) ≡ image ws
-  unfolding numbersIn
+  unfolding fieldsIn
   image-line-back a h =
       framed-reads (lineOf imageWord ws) (line-framed h)
-      ∙ ap (λ (l : List ℕ). numbersIn (pieces 32 l)) line-between
-      ∙ ap numbersIn (line-pieces a)
+      ∙ ap (λ (l : List ℕ). fieldsIn (pieces 32 l)) line-between
+      ∙ ap fieldsIn (line-pieces a)
       ∙ rw (all-written a) (ap image (values-back a))

@@ -14,7 +14,7 @@ use Rattle.text.specs.Reading.{digit, pieces, goodNumber, goodLine}
 use Rattle.text.specs.declared.reading.Number.{Number}
 use Rattle.text.specs.declared.reading.Number.the-variants.{Empty, Value, Bad}
 use Rattle.text.specs.declared.reading.Line.{Line}
-use Rattle.text.specs.Scan.{run, moreDigit, addDigit, digitIn, isValue, blank, freshLine, spaceIn, lineIn, lineGood, lineBlank}
+use Rattle.text.specs.Scan.{scan, moreDigit, addDigit, digitIn, isValue, blank, freshLine, spaceIn, lineIn, lineGood, lineBlank}
 use Rattle.text.proofs.Pieces.{Free, Parts, rest, cut, parts, pieces-rest, pieces-cut, NonEmpty, nonempty, pieces-nonempty}
 use Rattle.text.proofs.Numbers.{and-true-right, run-append, bad-digit, number-good}
 use Rattle.lists.proofs.Bools.{and-false}
@@ -23,7 +23,7 @@ abbrev pub line : ℕ → Number → Line
 line k n = record { fields = k; number = n }
 
 -- bytes without a space belong to the number
-pub free-line : {p : List ℕ} → Free 32 p → (k : ℕ) (n : Number) → run lineIn (line k n) p ≡ line k (run digitIn n p)
+pub free-line : {p : List ℕ} → Free 32 p → (k : ℕ) (n : Number) → scan lineIn (line k n) p ≡ line k (scan digitIn n p)
 unfolding lineIn
 free-line done k n = refl
 free-line (more {x = x} e f) k n = rw e (free-line f k (digitIn n x))
@@ -36,25 +36,25 @@ bad-byte k x = rw (bad-digit x) (go (x == 32))
     go true = refl
     go false = refl
 
-bad-line : (xs : List ℕ) (k : ℕ) → run lineIn (line k Bad) xs ≡ line k Bad
+bad-line : (xs : List ℕ) (k : ℕ) → scan lineIn (line k Bad) xs ≡ line k Bad
 bad-line [] k = refl
 bad-line (x ∷ xs) k = rw (bad-byte k x) (bad-line xs k)
 
 -- a space at the end of a piece
-space-run : {p : List ℕ} → Free 32 p → (k : ℕ) (xs : List ℕ) → run lineIn (line k Empty) (p ++ 32 ∷ xs) ≡ run lineIn (spaceIn (line k (run digitIn Empty p))) xs
+space-run : {p : List ℕ} → Free 32 p → (k : ℕ) (xs : List ℕ) → scan lineIn (line k Empty) (p ++ 32 ∷ xs) ≡ scan lineIn (spaceIn (line k (scan digitIn Empty p))) xs
 unfolding lineIn
-space-run {p} f k xs = run-append lineIn (line k Empty) p (32 ∷ xs) ∙ ap (λ (l : Line). run lineIn l (32 ∷ xs)) (free-line f k Empty)
+space-run {p} f k xs = run-append lineIn (line k Empty) p (32 ∷ xs) ∙ ap (λ (l : Line). scan lineIn l (32 ∷ xs)) (free-line f k Empty)
 
 module _ (k : ℕ) (p : List ℕ) where
-  space-good : goodNumber p ≡ true → k < 4 → spaceIn (line k (run digitIn Empty p)) ≡ line (k + 1) Empty
+  space-good : goodNumber p ≡ true → k < 4 → spaceIn (line k (scan digitIn Empty p)) ≡ line (k + 1) Empty
   unfolding spaceIn
   space-good e h = rw (number-good p, e, lt-ltb k 4 h)
 
-  space-full : 4 ≤ k → spaceIn (line k (run digitIn Empty p)) ≡ line k Bad
+  space-full : 4 ≤ k → spaceIn (line k (scan digitIn Empty p)) ≡ line k Bad
   unfolding spaceIn
-  space-full h = rw (le-ltb k 4 h, and-false (isValue (run digitIn Empty p)))
+  space-full h = rw (le-ltb k 4 h, and-false (isValue (scan digitIn Empty p)))
 
-  space-bad : goodNumber p ≡ false → spaceIn (line k (run digitIn Empty p)) ≡ line k Bad
+  space-bad : goodNumber p ≡ false → spaceIn (line k (scan digitIn Empty p)) ≡ line k Bad
   unfolding spaceIn
   space-bad e = rw (number-good p, e)
 
@@ -75,16 +75,16 @@ last-good : (g : Bool) (k : ℕ) → (g && (k == 4)) ≡ ((k + 1 == 5) && (g && 
 last-good true k = same-test k 4 (k + 1) 5 (λ e. omega arith) (λ e. omega arith) ∙ sym (and-true-right (k + 1 == 5))
 last-good false k = sym (and-false (k + 1 == 5))
 
-line-from : {l : List ℕ} → Parts 32 l → (k : ℕ) → k ≤ 4 → lineGood (run lineIn (line k Empty) l) ≡ goodFrom k (pieces 32 l)
+line-from : {l : List ℕ} → Parts 32 l → (k : ℕ) → k ≤ 4 → lineGood (scan lineIn (line k Empty) l) ≡ goodFrom k (pieces 32 l)
 line-from (rest {p = p} f) k h = rw (free-line f k Empty, pieces-rest 32 f, number-good p) (last-good (goodNumber p) k)
 line-from (cut {p = p} {xs = xs} f q) k h = rw (space-run f k xs, pieces-cut 32 f xs) (go (λ j i. line-from q j i) (goodNumber p) refl)
   where
-    go : ((j : ℕ) → j ≤ 4 → lineGood (run lineIn (line j Empty) xs) ≡ goodFrom j (pieces 32 xs)) → (g : Bool) → goodNumber p ≡ g →
-        lineGood (run lineIn (spaceIn (line k (run digitIn Empty p))) xs) ≡ ((k + suc (length (pieces 32 xs)) == 5) && (g && all goodNumber (pieces 32 xs)))
+    go : ((j : ℕ) → j ≤ 4 → lineGood (scan lineIn (line j Empty) xs) ≡ goodFrom j (pieces 32 xs)) → (g : Bool) → goodNumber p ≡ g →
+        lineGood (scan lineIn (spaceIn (line k (scan digitIn Empty p))) xs) ≡ ((k + suc (length (pieces 32 xs)) == 5) && (g && all goodNumber (pieces 32 xs)))
     go ih false e = rw (space-bad k p e, bad-line xs k) (sym (and-false (k + suc (length (pieces 32 xs)) == 5)))
     go ih true e = room (ltb k 4) refl
       where
-        room : (t : Bool) → ltb k 4 ≡ t → lineGood (run lineIn (spaceIn (line k (run digitIn Empty p))) xs) ≡ ((k + suc (length (pieces 32 xs)) == 5) && all goodNumber (pieces 32 xs))
+        room : (t : Bool) → ltb k 4 ≡ t → lineGood (scan lineIn (spaceIn (line k (scan digitIn Empty p))) xs) ≡ ((k + suc (length (pieces 32 xs)) == 5) && all goodNumber (pieces 32 xs))
         room true r =
             let i : k < 4 = ltb-true k 4 r in
             let m : k + 1 + length (pieces 32 xs) ≡ k + suc (length (pieces 32 xs)) = omega arith in
@@ -93,7 +93,7 @@ line-from (cut {p = p} {xs = xs} f q) k h = rw (space-run f k xs, pieces-cut 32 
             let i : 4 ≤ k = ltb-false k 4 r in
             rw (space-full k p i, bad-line xs k) (sym (ap (λ (t : Bool). t && all goodNumber (pieces 32 xs)) (ne-eqb (k + suc (length (pieces 32 xs))) 5 (λ z. omega (arith, some (pieces-nonempty 32 q))))))
 
-pub line-law : (l : List ℕ) → lineGood (run lineIn freshLine l) ≡ goodLine l
+pub line-law : (l : List ℕ) → lineGood (scan lineIn freshLine l) ≡ goodLine l
 unfolding goodLine
 line-law l = line-from (parts 32 l) 0 (omega arith) ∙ ap (λ (j : ℕ). (j == 5) && all goodNumber (pieces 32 l)) z
   where
@@ -128,10 +128,10 @@ byte-blank l x = go (x == 32)
     go true = space (isValue (l .number) && ltb (l .fields) 4)
     go false = rw (digit-blank (l .number) x)
 
-bytes-blank : (xs : List ℕ) (l : Line) → lineBlank l ≡ false → lineBlank (run lineIn l xs) ≡ false
+bytes-blank : (xs : List ℕ) (l : Line) → lineBlank l ≡ false → lineBlank (scan lineIn l xs) ≡ false
 bytes-blank [] l e = e
 bytes-blank (x ∷ xs) l e = bytes-blank xs (lineIn l x) (byte-blank l x)
 
-pub blank-law : (xs : List ℕ) → lineBlank (run lineIn freshLine xs) ≡ (length xs == 0)
+pub blank-law : (xs : List ℕ) → lineBlank (scan lineIn freshLine xs) ≡ (length xs == 0)
 blank-law [] = refl
 blank-law (x ∷ xs) = bytes-blank xs (lineIn freshLine x) (byte-blank freshLine x) ∙ sym (ne-eqb (suc (length xs)) 0 (λ z. omega arith))

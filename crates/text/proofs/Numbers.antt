@@ -14,13 +14,13 @@ use Rattle.decimal.specs.Decimal.{valueOf}
 use Rattle.text.specs.Reading.{digit, goodNumber}
 use Rattle.text.specs.declared.reading.Number.{Number}
 use Rattle.text.specs.declared.reading.Number.the-variants.{Empty, Value, Bad}
-use Rattle.text.specs.Scan.{run, moreDigit, addDigit, digitIn, isValue}
+use Rattle.text.specs.Scan.{scan, moreDigit, addDigit, digitIn, isValue}
 
 pub and-true-right : (a : Bool) → (a && true) ≡ a
 and-true-right true = refl
 and-true-right false = refl
 
-pub run-append : {S : Type 0} (f : S → ℕ → S) (s : S) (xs ys : List ℕ) → run f s (xs ++ ys) ≡ run f (run f s xs) ys
+pub run-append : {S : Type 0} (f : S → ℕ → S) (s : S) (xs ys : List ℕ) → scan f s (xs ++ ys) ≡ scan f (scan f s xs) ys
 run-append f s [] ys = refl
 run-append f s (x ∷ xs) ys = run-append f (f s x) xs ys
 
@@ -32,7 +32,7 @@ bad-digit x = go (digit x)
     go true = refl
     go false = refl
 
-pub bad-stays : (xs : List ℕ) → run digitIn Bad xs ≡ Bad
+pub bad-stays : (xs : List ℕ) → scan digitIn Bad xs ≡ Bad
 bad-stays [] = refl
 bad-stays (x ∷ xs) = rw (bad-digit x) (bad-stays xs)
 
@@ -42,17 +42,17 @@ value-grows n [] = omega arith
 value-grows n (x ∷ xs) = omega (arith, value-grows (10 * n + (x - 48)) xs)
 
 -- after a number that does not begin with 0
-from-value : (xs : List ℕ) (v : ℕ) → 1 ≤ v → v < 2 ^ 32 → run digitIn (Value v) xs ≡ ((all digit xs && ltb (valueOf v xs) (2 ^ 32)) ⇒ Value (valueOf v xs) else Bad)
+from-value : (xs : List ℕ) (v : ℕ) → 1 ≤ v → v < 2 ^ 32 → scan digitIn (Value v) xs ≡ ((all digit xs && ltb (valueOf v xs) (2 ^ 32)) ⇒ Value (valueOf v xs) else Bad)
 unfolding valueOf digitIn addDigit moreDigit
 from-value [] v p q = rw (lt-ltb v (2 ^ 32) q)
 from-value (x ∷ xs) v p q = go (λ w h k. from-value xs w h k) (digit x) refl
   where
-    go : ((u : ℕ) → 1 ≤ u → u < 2 ^ 32 → run digitIn (Value u) xs ≡ ((all digit xs && ltb (valueOf u xs) (2 ^ 32)) ⇒ Value (valueOf u xs) else Bad)) →
-        (t : Bool) → digit x ≡ t → run digitIn (digitIn (Value v) x) xs ≡ (((digit x && all digit xs) && ltb (valueOf (10 * v + (x - 48)) xs) (2 ^ 32)) ⇒ Value (valueOf (10 * v + (x - 48)) xs) else Bad)
+    go : ((u : ℕ) → 1 ≤ u → u < 2 ^ 32 → scan digitIn (Value u) xs ≡ ((all digit xs && ltb (valueOf u xs) (2 ^ 32)) ⇒ Value (valueOf u xs) else Bad)) →
+        (t : Bool) → digit x ≡ t → scan digitIn (digitIn (Value v) x) xs ≡ (((digit x && all digit xs) && ltb (valueOf (10 * v + (x - 48)) xs) (2 ^ 32)) ⇒ Value (valueOf (10 * v + (x - 48)) xs) else Bad)
     go ih false e = rw e (bad-stays xs)
     go ih true e = simp (e, ne-eqb v 0 (λ z. omega arith)) (more (ltb (10 * v + (x - 48)) (2 ^ 32)) refl)
       where
-        more : (t : Bool) → ltb (10 * v + (x - 48)) (2 ^ 32) ≡ t → run digitIn (t ⇒ Value (10 * v + (x - 48)) else Bad) xs ≡ ((all digit xs && ltb (valueOf (10 * v + (x - 48)) xs) (2 ^ 32)) ⇒ Value (valueOf (10 * v + (x - 48)) xs) else Bad)
+        more : (t : Bool) → ltb (10 * v + (x - 48)) (2 ^ 32) ≡ t → scan digitIn (t ⇒ Value (10 * v + (x - 48)) else Bad) xs ≡ ((all digit xs && ltb (valueOf (10 * v + (x - 48)) xs) (2 ^ 32)) ⇒ Value (valueOf (10 * v + (x - 48)) xs) else Bad)
         more true f = ih (10 * v + (x - 48)) (omega arith) (ltb-true _ _ f)
         more false f =
             let g : 2 ^ 32 ≤ 10 * v + (x - 48) = ltb-false _ _ f in
@@ -75,12 +75,12 @@ not-last : (a : Bool) (l : ℕ) (b : Bool) → (a && (suc l == 0) && b) ≡ fals
 not-last true l b = rw (ne-eqb (suc l) 0 (λ z. omega arith))
 not-last false l b = refl
 
-first-zero : (xs : List ℕ) → run digitIn (Value 0) xs ≡ ((all digit xs && (length xs == 0) && ltb (valueOf 0 xs) (2 ^ 32)) ⇒ Value (valueOf 0 xs) else Bad)
+first-zero : (xs : List ℕ) → scan digitIn (Value 0) xs ≡ ((all digit xs && (length xs == 0) && ltb (valueOf 0 xs) (2 ^ 32)) ⇒ Value (valueOf 0 xs) else Bad)
 unfolding valueOf
 first-zero [] = refl
-first-zero (y ∷ ys) = ap (λ (n : Number). run digitIn n ys) (zero-digit y) ∙ bad-stays ys ∙ sym (ap (λ (t : Bool). t ⇒ Value (valueOf 0 (y ∷ ys)) else Bad) (not-last (all digit (y ∷ ys)) (length ys) _))
+first-zero (y ∷ ys) = ap (λ (n : Number). scan digitIn n ys) (zero-digit y) ∙ bad-stays ys ∙ sym (ap (λ (t : Bool). t ⇒ Value (valueOf 0 (y ∷ ys)) else Bad) (not-last (all digit (y ∷ ys)) (length ys) _))
 
-pub number-law : (p : List ℕ) → run digitIn Empty p ≡ numberOf p
+pub number-law : (p : List ℕ) → scan digitIn Empty p ≡ numberOf p
 unfolding goodNumber valueOf digitIn addDigit
 number-law [] = refl
 number-law (x ∷ xs) = go (digit x) refl
@@ -88,7 +88,7 @@ number-law (x ∷ xs) = go (digit x) refl
     v : 10 * 0 + (x - 48) ≡ x - 48
     v = omega arith
 
-    go : (t : Bool) → digit x ≡ t → run digitIn (digitIn Empty x) xs ≡ numberOf (x ∷ xs)
+    go : (t : Bool) → digit x ≡ t → scan digitIn (digitIn Empty x) xs ≡ numberOf (x ∷ xs)
     go false e = rw e (bad-stays xs)
     go true e = simp (e, v) (zero (x == 48) refl)
       where
@@ -96,13 +96,13 @@ number-law (x ∷ xs) = go (digit x) refl
         both = let a = and-true _ _ e in (leb-true _ _ (a .0), leb-true _ _ (a .1))
 
         zero : (t : Bool) → (x == 48) ≡ t →
-            run digitIn (Value (x - 48)) xs ≡ ((all digit xs && (not t || (length xs == 0)) && ltb (valueOf (x - 48) xs) (2 ^ 32)) ⇒ Value (valueOf (x - 48) xs) else Bad)
+            scan digitIn (Value (x - 48)) xs ≡ ((all digit xs && (not t || (length xs == 0)) && ltb (valueOf (x - 48) xs) (2 ^ 32)) ⇒ Value (valueOf (x - 48) xs) else Bad)
         zero true f =
             let z : x - 48 ≡ 0 = omega (arith, eqb-true x 48 f) in
             rw z (first-zero xs)
         zero false f = rw (and-true-right (all digit xs)) (from-value xs (x - 48) (omega (arith, eqb-false x 48 f, both .0)) (omega (arith, both .1)))
 
-pub number-good : (p : List ℕ) → isValue (run digitIn Empty p) ≡ goodNumber p
+pub number-good : (p : List ℕ) → isValue (scan digitIn Empty p) ≡ goodNumber p
 unfolding goodNumber
 number-good p = ap isValue (number-law p) ∙ go p
   where
@@ -114,7 +114,7 @@ number-good p = ap isValue (number-law p) ∙ go p
         pick true = refl
         pick false = refl
 
-pub number-value : (p : List ℕ) → goodNumber p ≡ true → run digitIn Empty p ≡ Value (valueOf 0 p)
+pub number-value : (p : List ℕ) → goodNumber p ≡ true → scan digitIn Empty p ≡ Value (valueOf 0 p)
 unfolding goodNumber
 number-value p e = number-law p ∙ go p e
   where

@@ -15,7 +15,7 @@ use Rattle.text.specs.declared.reading.Number.{Number}
 use Rattle.text.specs.declared.reading.Number.the-variants.{Empty}
 use Rattle.text.specs.declared.reading.Line.{Line}
 use Rattle.text.specs.declared.reading.Lines.{Lines}
-use Rattle.text.specs.Scan.{run, digitIn, freshLine, freshLines, lineIn, lineBlank, badAfter, newlineIn, byteIn, restIn, ends, numberAfter, wordAt, wordsFrom}
+use Rattle.text.specs.Scan.{scan, digitIn, freshLine, freshLines, lineIn, lineBlank, badAfter, newlineIn, byteIn, restIn, fieldEnds, numberAfter, wordAt, wordsFrom}
 use Rattle.text.proofs.Pieces.{Free, Parts, rest, cut, parts, pieces-rest, pieces-cut, NonEmpty, nonempty, pieces-nonempty}
 use Rattle.text.proofs.Numbers.{run-append, number-value}
 use Rattle.text.proofs.Lines.{line-law, blank-law}
@@ -26,18 +26,18 @@ lines a b l = record { ended = a; bad = b; line = l }
 -- ---- counting the lines, and finding the first bad one
 
 -- bytes without a newline belong to the line
-free-lines : {p : List ℕ} → Free 10 p → (a b : ℕ) (l : Line) → run byteIn (lines a b l) p ≡ lines a b (run lineIn l p)
+free-lines : {p : List ℕ} → Free 10 p → (a b : ℕ) (l : Line) → scan byteIn (lines a b l) p ≡ lines a b (scan lineIn l p)
 unfolding byteIn
 free-lines done a b l = refl
 free-lines (more {x = x} e f) a b l = rw e (free-lines f a b (lineIn l x))
 
 newline-run : {p : List ℕ} → Free 10 p → (a b : ℕ) (xs : List ℕ) →
-    run byteIn (lines a b freshLine) (p ++ 10 ∷ xs) ≡ run byteIn (lines (a + 1) (badAfter b (a + 1) (goodLine p)) freshLine) xs
+    scan byteIn (lines a b freshLine) (p ++ 10 ∷ xs) ≡ scan byteIn (lines (a + 1) (badAfter b (a + 1) (goodLine p)) freshLine) xs
 unfolding byteIn newlineIn
 newline-run {p} f a b xs =
     run-append byteIn (lines a b freshLine) p (10 ∷ xs)
-    ∙ ap (λ (s : Lines). run byteIn s (10 ∷ xs)) (free-lines f a b freshLine)
-    ∙ ap (λ (t : Bool). run byteIn (lines (a + 1) (badAfter b (a + 1) t) freshLine) xs) (line-law p)
+    ∙ ap (λ (s : Lines). scan byteIn s (10 ∷ xs)) (free-lines f a b freshLine)
+    ∙ ap (λ (t : Bool). scan byteIn (lines (a + 1) (badAfter b (a + 1) t) freshLine) xs) (line-law p)
 
 count-cons : (p : List ℕ) {ls : List (List ℕ)} → NonEmpty ls → lineCount (p ∷ ls) ≡ 1 + lineCount ls
 unfolding lineCount
@@ -65,7 +65,7 @@ pub record Counted (s : Lines) (a b : ℕ) (ls : List (List ℕ)) : Type 0 where
   pub count : s .ended ≡ a + lineCount ls
   pub found : s .bad ≡ ((b == 0) ⇒ firstBad (a + 1) ls else b)
 
-rest-counted : (p : List ℕ) (a b : ℕ) → Counted (restIn (lines a b (run lineIn freshLine p))) a b (p ∷ [])
+rest-counted : (p : List ℕ) (a b : ℕ) → Counted (restIn (lines a b (scan lineIn freshLine p))) a b (p ∷ [])
 unfolding restIn lineCount firstBad badAfter
 rest-counted p a b = go (length p == 0) refl
   where
@@ -73,11 +73,11 @@ rest-counted p a b = go (length p == 0) refl
     same true e = eqb-true b 0 e
     same false e = refl
 
-    go : (t : Bool) → (length p == 0) ≡ t → Counted (restIn (lines a b (run lineIn freshLine p))) a b (p ∷ [])
-    go true e = let f : lineBlank (run lineIn freshLine p) ≡ true = blank-law p ∙ e in record { count = rw (f, e) (omega arith); found = rw (f, e) (same (b == 0) refl) }
-    go false e = let f : lineBlank (run lineIn freshLine p) ≡ false = blank-law p ∙ e in record { count = rw (f, e); found = rw (f, e) }
+    go : (t : Bool) → (length p == 0) ≡ t → Counted (restIn (lines a b (scan lineIn freshLine p))) a b (p ∷ [])
+    go true e = let f : lineBlank (scan lineIn freshLine p) ≡ true = blank-law p ∙ e in record { count = rw (f, e) (omega arith); found = rw (f, e) (same (b == 0) refl) }
+    go false e = let f : lineBlank (scan lineIn freshLine p) ≡ false = blank-law p ∙ e in record { count = rw (f, e); found = rw (f, e) }
 
-lines-from : {xs : List ℕ} → Parts 10 xs → (a b : ℕ) → Counted (restIn (run byteIn (lines a b freshLine) xs)) a b (pieces 10 xs)
+lines-from : {xs : List ℕ} → Parts 10 xs → (a b : ℕ) → Counted (restIn (scan byteIn (lines a b freshLine) xs)) a b (pieces 10 xs)
 lines-from (rest {p = p} f) a b = rw (pieces-rest 10 f, free-lines f a b freshLine) (rest-counted p a b)
 lines-from (cut {p = p} {xs = xs} f q) a b = rw (pieces-cut 10 f xs, newline-run f a b xs) (go (lines-from q (a + 1) (badAfter b (a + 1) (goodLine p))))
   where
@@ -87,18 +87,18 @@ lines-from (cut {p = p} {xs = xs} f q) a b = rw (pieces-cut 10 f xs, newline-run
       found = c .found ∙ bad-then b (a + 1) (firstBad (a + 1 + 1) (pieces 10 xs)) (goodLine p) (omega arith) ∙ ap (λ (n : ℕ). (b == 0) ⇒ n else b) (sym (bad-cons (a + 1) p (pieces-nonempty 10 q)));
     }
 
-pub lines-law : (xs : List ℕ) → Counted (restIn (run byteIn freshLines xs)) 0 0 (pieces 10 xs)
+pub lines-law : (xs : List ℕ) → Counted (restIn (scan byteIn freshLines xs)) 0 0 (pieces 10 xs)
 lines-law xs = lines-from (parts 10 xs) 0 0
 
 -- ---- the words
 
-digit-goes : (x : ℕ) → digit x ≡ true → ends x ≡ false
+digit-goes : (x : ℕ) → digit x ≡ true → fieldEnds x ≡ false
 digit-goes x e =
     let a = and-true _ _ e in
     let h : 48 ≤ x = leb-true _ _ (a .0) in
     rw (ne-eqb x 32 (λ z. omega arith), ne-eqb x 10 (λ z. omega arith))
 
-digits-words : (p : List ℕ) → all digit p ≡ true → (n : Number) (xs : List ℕ) → wordsFrom n (p ++ xs) ≡ wordsFrom (run digitIn n p) xs
+digits-words : (p : List ℕ) → all digit p ≡ true → (n : Number) (xs : List ℕ) → wordsFrom n (p ++ xs) ≡ wordsFrom (scan digitIn n p) xs
 unfolding wordsFrom wordAt numberAfter
 digits-words [] e n xs = refl
 digits-words (x ∷ p) e n xs =
@@ -111,7 +111,7 @@ good-digits [] e = ft e
 good-digits (x ∷ xs) e = and-true _ _ (and-true _ _ e .0) .0
 
 -- a good number and the byte that ends it
-number-words : (p : List ℕ) (s : ℕ) → ends s ≡ true → goodNumber p ≡ true → (xs : List ℕ) → wordsFrom Empty (p ++ s ∷ xs) ≡ valueOf 0 p ∷ wordsFrom Empty xs
+number-words : (p : List ℕ) (s : ℕ) → fieldEnds s ≡ true → goodNumber p ≡ true → (xs : List ℕ) → wordsFrom Empty (p ++ s ∷ xs) ≡ valueOf 0 p ∷ wordsFrom Empty xs
 unfolding wordsFrom wordAt numberAfter
 number-words p s h e xs = digits-words p (good-digits p e) Empty (s ∷ xs) ∙ ap (λ (n : Number). wordsFrom n (s ∷ xs)) (number-value p e) ∙ rw h
 

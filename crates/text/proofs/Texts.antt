@@ -1,15 +1,15 @@
 -- The texts that are written, part by part, and their lengths.
 use Prim.Native.Nat.{ℕ, _+_, _*_, _≤_, _<_}
-use mathlib.Core.Path.{_≡_, refl, sym, ap, _∙_}
+use mathlib.Core.Path.{_≡_, refl, sym, ap}
 use mathlib.Core.Bool.{Bool, true, false}
-use mathlib.Core.List.{List, [], _∷_, _++_, append-nil}
+use mathlib.Core.List.{List, [], _∷_, _++_}
 use native.Mathlib.Omega.{arith}
 use lib.ListN.{length, getD, drop, length-append, drop-of-length-le, length-drop}
 use borrow.Author.Tests.{eq-eqb, ne-eqb, lt-ltb, le-ltb}
 use Rattle.lists.specs.Choice.{_⇒_else_, _==_}
-use Rattle.lists.specs.Lists.{each}
-use Rattle.text.specs.Writing.{spaced, imageWord, unreadableWord, doneWord, refusedWord, lineOf, answerLine, answerLines, writeText, boundedText, unreadableText}
-use Rattle.decimal.specs.Stored.{Written}
+use Rattle.lists.specs.Lists.{concatMap}
+use Rattle.text.specs.Writing.{spaced, imageWord, unreadableWord, doneWord, refusedWord, lineOf, answerLine, answerLines, writeText, boundedText, unreadableText, refusedLine}
+use Rattle.decimal.specs.Stored.{WrittenAt}
 use Rattle.decimal.proofs.Digits.{digits-most}
 use Rattle.decimal.proofs.Stores.{one-drop, written-as}
 
@@ -17,17 +17,17 @@ pub spaced-most : (n : ℕ) → length (spaced n) ≤ 11
 unfolding spaced
 spaced-most n = omega (arith, digits-most 10 n)
 
-pub numbers-most : (ws : List ℕ) → length (each spaced ws) ≤ 11 * length ws
+pub numbers-most : (ws : List ℕ) → length (concatMap spaced ws) ≤ 11 * length ws
 numbers-most [] = omega arith
-numbers-most (w ∷ ws) = omega (arith, length-append (spaced w) (each spaced ws), spaced-most w, numbers-most ws)
+numbers-most (w ∷ ws) = omega (arith, length-append (spaced w) (concatMap spaced ws), spaced-most w, numbers-most ws)
 
 -- ---- lines
 
-pub line-parts : (word ns : List ℕ) → word ++ (each spaced ns ++ (10 ∷ [])) ≡ lineOf word ns
+pub line-parts : (word ns : List ℕ) → word ++ (concatMap spaced ns ++ (10 ∷ [])) ≡ lineOf word ns
 unfolding lineOf
 line-parts word ns = refl
 
-pub line-length : (word ns : List ℕ) → length (lineOf word ns) ≡ length word + length (each spaced ns) + 1
+pub line-length : (word ns : List ℕ) → length (lineOf word ns) ≡ length word + length (concatMap spaced ns) + 1
 unfolding lineOf
 line-length word ns = simp length-append (omega arith)
 
@@ -71,7 +71,7 @@ write-parts answers image = refl
 
 -- ---- as much as there is room for
 
-pub written-none : {text out : List ℕ} → text ≡ [] → Written text 0 out out
+pub written-none : {text out : List ℕ} → text ≡ [] → WrittenAt text 0 out out
 written-none {text} {out} e = written-as [] text 0 out out (sym e) (refl, refl)
 
 module _ (answers image : List ℕ) where
@@ -108,11 +108,21 @@ module _ (ws : List ℕ) (k : ℕ) where
       go (x ∷ []) i = refl
       go (x ∷ y ∷ l) i = absurd (omega arith)
 
-  pub numbers-turn : k < length ws → spaced (getD ws k 0) ++ each spaced (drop (k + 1) ws) ≡ each spaced (drop k ws)
+  pub numbers-turn : k < length ws → spaced (getD ws k 0) ++ concatMap spaced (drop (k + 1) ws) ≡ concatMap spaced (drop k ws)
   numbers-turn h = rw (one-drop ws k h)
 
-  pub numbers-length : k < length ws → length (spaced (getD ws k 0)) + length (each spaced (drop (k + 1) ws)) ≡ length (each spaced (drop k ws))
+  pub numbers-length : k < length ws → length (spaced (getD ws k 0)) + length (concatMap spaced (drop (k + 1) ws)) ≡ length (concatMap spaced (drop k ws))
   numbers-length h = simp length-append at (ap length (numbers-turn h))
 
-  pub numbers-end : length ws ≤ k → each spaced (drop k ws) ≡ []
+  pub numbers-end : length ws ≤ k → concatMap spaced (drop k ws) ≡ []
   numbers-end h = rw (drop-of-length-le ws h)
+
+-- ---- a refused image
+
+pub refused-alone : (code offset : ℕ) → code ≡ 105 → lineOf refusedWord (code ∷ []) ≡ refusedLine code offset
+unfolding refusedLine
+refused-alone code offset e = rw (eq-eqb code 105 e)
+
+pub refused-offset : (code offset : ℕ) → (code ≡ 105 → ⊥) → lineOf refusedWord (code ∷ offset ∷ []) ≡ refusedLine code offset
+unfolding refusedLine
+refused-offset code offset n = rw (ne-eqb code 105 n)

@@ -7,12 +7,12 @@ use lib.ListN.{length}
 use lib.Dec.{ltb}
 use borrow.Author.Tests.{lt-ltb, le-ltb, eq-eqb, ne-eqb}
 use Rattle.lists.specs.Choice.{_⇒_else_, _==_}
-use Rattle.lists.specs.Lists.{over}
-use Rattle.text.specs.Reading.{Verdict, calls, unreadable, pieces, lineCount, firstBad, wordsIn, readText, wordsOf, answered}
+use Rattle.lists.specs.Lists.{overwritten}
+use Rattle.text.specs.Reading.{Verdict, calls, unreadable, pieces, lineCount, firstBad, wordsIn, readText, callWords, verdictOf}
 use Rattle.text.specs.declared.reading.Number.the-variants.{Empty}
 use Rattle.text.specs.declared.reading.ReadVerdict.the-variants.{Calls, Unreadable}
 use Rattle.text.specs.declared.reading.Lines.{Lines}
-use Rattle.text.specs.Scan.{run, freshLines, byteIn, restIn, wordsFrom}
+use Rattle.text.specs.Scan.{scan, freshLines, byteIn, restIn, wordsFrom}
 use Rattle.text.proofs.Pieces.{parts}
 use Rattle.text.proofs.Scans.{Counted, lines-law, Good, good, words-law, words-count}
 
@@ -24,7 +24,7 @@ long bytes h = rw (lt-ltb 60000 (length bytes) h)
 verdict : ℕ → ℕ → List ℕ → Verdict
 verdict ended bad ws = ltb 1000 ended ⇒ unreadable 1001 else (bad == 0) ⇒ calls ws else unreadable bad
 
-module _ (bytes : List ℕ) (s : Lines) (short : length bytes ≤ 60000) (e : s ≡ restIn (run byteIn freshLines bytes)) where
+module _ (bytes : List ℕ) (s : Lines) (short : length bytes ≤ 60000) (e : s ≡ restIn (scan byteIn freshLines bytes)) where
   by-lines : readText bytes ≡ verdict (s .ended) (s .bad) (wordsIn (pieces 10 bytes))
   unfolding readText verdict
   by-lines =
@@ -54,17 +54,17 @@ module _ (bytes : List ℕ) (s : Lines) (short : length bytes ≤ 60000) (e : s 
       omega (arith, c .count, ap length (words-law (all-good z)), words-count (all-good z))
 
 -- the two answers
-pub refused : (v : Verdict) (n : ℕ) (l : List ℕ) → v ≡ unreadable n → (Unreadable n ≡ answered v) × (l ≡ over (wordsOf v) l)
+pub refused : (v : Verdict) (n : ℕ) (l : List ℕ) → v ≡ unreadable n → (Unreadable n ≡ verdictOf v) × (l ≡ overwritten (callWords v) l)
 refused v n l e = rw e (refl, refl)
 
-pub accepted : (v : Verdict) (ws l l′ : List ℕ) (k : ℕ) → v ≡ calls ws → k ≡ length ws → l′ ≡ over ws l → (Calls k ≡ answered v) × (l′ ≡ over (wordsOf v) l)
+pub accepted : (v : Verdict) (ws l l′ : List ℕ) (k : ℕ) → v ≡ calls ws → k ≡ length ws → l′ ≡ overwritten ws l → (Calls k ≡ verdictOf v) × (l′ ≡ overwritten (callWords v) l)
 accepted v ws l l′ k e p q = rw e (ap Calls p, q)
 
 -- what an answer tells
-pub told-calls : (v : Verdict) (n : ℕ) → Calls n ≡ answered v → (v ≡ calls (wordsOf v)) × (n ≡ length (wordsOf v))
+pub told-calls : (v : Verdict) (n : ℕ) → Calls n ≡ verdictOf v → (v ≡ calls (callWords v)) × (n ≡ length (callWords v))
 told-calls (calls ws) n e = (refl, cc)
 told-calls (unreadable k) n e = let z : _≡_ {A = ℕ} 0 1 = cc in absurd (omega arith)
 
-pub told-unreadable : (v : Verdict) (n : ℕ) → Unreadable n ≡ answered v → v ≡ unreadable n
+pub told-unreadable : (v : Verdict) (n : ℕ) → Unreadable n ≡ verdictOf v → v ≡ unreadable n
 told-unreadable (calls ws) n e = let z : _≡_ {A = ℕ} 0 1 = cc in absurd (omega arith)
 told-unreadable (unreadable k) n e = cc

@@ -1,8 +1,8 @@
 -- A walk over the bytes: one turn, and the end.
 use Prim.Native.Nat.{ℕ, _+_, _≤_, _<_}
-use mathlib.Core.Path.{_≡_, ap, _∙_}
+use mathlib.Core.Path.{_≡_, ap}
 use mathlib.Core.Bool.{Bool, true, false}
-use mathlib.Core.List.{List, [], _∷_, _++_}
+use mathlib.Core.List.{List, [], _++_}
 use native.Mathlib.Omega.{arith}
 use lib.ListN.{length, getD, drop, length-append, drop-of-length-le}
 use lib.Seq.{sets}
@@ -10,13 +10,13 @@ use Rattle.lists.specs.Choice.{_⇒_else_, _==_}
 use Rattle.decimal.proofs.Stores.{then, one-drop}
 use Rattle.text.specs.declared.reading.Number.{Number}
 use Rattle.text.specs.declared.reading.Lines.{Lines}
-use Rattle.text.specs.Scan.{run, lineIn, byteIn, newlineIn, numberAfter, wordAt, wordsFrom}
+use Rattle.text.specs.Scan.{scan, lineIn, byteIn, newlineIn, numberAfter, wordAt, wordsFrom}
 
 module _ {S : Type 0} (f : S → ℕ → S) (xs : List ℕ) (i : ℕ) where
-  pub run-turn : (s t : S) → i < length xs → t ≡ f s (getD xs i 0) → run f t (drop (i + 1) xs) ≡ run f s (drop i xs)
-  run-turn s t h e = rw (one-drop xs i h) (ap (λ (u : S). run f u (drop (i + 1) xs)) e)
+  pub run-turn : (s t : S) → i < length xs → t ≡ f s (getD xs i 0) → scan f t (drop (i + 1) xs) ≡ scan f s (drop i xs)
+  run-turn s t h e = rw (one-drop xs i h) (ap (λ (u : S). scan f u (drop (i + 1) xs)) e)
 
-  pub run-end : (s : S) → length xs ≤ i → run f s (drop i xs) ≡ s
+  pub run-end : (s : S) → length xs ≤ i → scan f s (drop i xs) ≡ s
   run-end s h = rw (drop-of-length-le xs h)
 
 -- a byte ends at most one line

@@ -70,11 +70,11 @@ readText bytes =
     unreadable (firstBad 1 (pieces 10 bytes))
 
 -- the words that are read: none where the input is unreadable
-abbrev pub wordsOf : Verdict → List ℕ
-wordsOf (calls ws) = ws
-wordsOf (unreadable n) = []
+abbrev pub callWords : Verdict → List ℕ
+callWords (calls ws) = ws
+callWords (unreadable n) = []
 
 -- the answer as the code gives it: how many words, or the number after unreadable
-abbrev pub answered : Verdict → ReadVerdict
-answered (calls ws) = Calls (length ws)
-answered (unreadable n) = Unreadable n
+abbrev pub verdictOf : Verdict → ReadVerdict
+verdictOf (calls ws) = Calls (length ws)
+verdictOf (unreadable n) = Unreadable n

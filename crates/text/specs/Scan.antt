@@ -11,9 +11,9 @@ use Rattle.text.specs.declared.reading.Line.{Line}
 use Rattle.text.specs.declared.reading.Lines.{Lines}
 
 -- the state after all elements
-abbrev pub run {ℓ} : {S : Type ℓ} → (S → ℕ → S) → S → List ℕ → S
-run f s [] = s
-run f s (x ∷ xs) = run f (f s x) xs
+abbrev pub scan {ℓ} : {S : Type ℓ} → (S → ℕ → S) → S → List ℕ → S
+scan f s [] = s
+scan f s (x ∷ xs) = scan f (f s x) xs
 
 -- ---- a number: the bytes since its start
 
@@ -97,15 +97,15 @@ restIn s = lineBlank
 
 -- ---- the words: each number that a space or a newline ends
 
-abbrev pub ends : ℕ → Bool
-ends b = (b == 32) || (b == 10)
+abbrev pub fieldEnds : ℕ → Bool
+fieldEnds b = (b == 32) || (b == 10)
 
 unfoldable pub numberAfter : Number → ℕ → Number
 unfolding digitIn
-numberAfter n b = ends b ⇒ Empty else digitIn n b
+numberAfter n b = fieldEnds b ⇒ Empty else digitIn n b
 
 unfoldable pub wordAt : Number → ℕ → List ℕ
-wordAt n b = ends b ⇒ (valueIn n ∷ []) else []
+wordAt n b = fieldEnds b ⇒ (valueIn n ∷ []) else []
 
 unfoldable pub wordsFrom : Number → List ℕ → List ℕ
 unfolding numberAfter wordAt

@@ -4,7 +4,7 @@ use mathlib.Core.List.{List, [], _∷_, _++_}
 use lib.ListN.{length}
 use lib.Dec.{ltb}
 use Rattle.lists.specs.Choice.{_⇒_else_, _==_}
-use Rattle.lists.specs.Lists.{each}
+use Rattle.lists.specs.Lists.{concatMap}
 use Rattle.decimal.specs.Decimal.{digits}
 
 -- a number with the space before it; a word has at most ten digits
@@ -28,7 +28,7 @@ unreadableWord = 117 ∷ 110 ∷ 114 ∷ 101 ∷ 97 ∷ 100 ∷ 97 ∷ 98 ∷ 10
 -- a word, numbers, and the newline that ends them
 unfoldable pub lineOf : List ℕ → List ℕ → List ℕ
 unfolding spaced
-lineOf word ns = word ++ (each spaced ns ++ (10 ∷ []))
+lineOf word ns = word ++ (concatMap spaced ns ++ (10 ∷ []))
 
 -- an accepted call has code 0
 unfoldable pub answerLine : ℕ → ℕ → List ℕ
@@ -60,3 +60,8 @@ boundedText answers image =
 unfoldable pub unreadableText : ℕ → List ℕ
 unfolding lineOf
 unreadableText n = lineOf unreadableWord (n ∷ [])
+
+-- chartpage's refusal: 105 alone; any other code with the offset of the first bad word
+unfoldable pub refusedLine : ℕ → ℕ → List ℕ
+unfolding lineOf
+refusedLine code offset = lineOf refusedWord ((code == 105) ⇒ (code ∷ []) else (code ∷ offset ∷ []))

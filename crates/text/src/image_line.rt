@@ -2,9 +2,9 @@
 ghost use mathlib.Core.Path.{_≡_};
 ghost use Prim.Native.Nat.{_≤_};
 ghost use lib.ListN.{length, take};
-ghost use Rattle.lists.specs.Lists.{over, same};
-ghost use Rattle.text.specs.Scan.{run, isValue};
-ghost use Rattle.text.specs.ImageLine.{readImage, lineWords, answered, fieldIn};
+ghost use Rattle.lists.specs.Lists.{overwritten, equalLists};
+ghost use Rattle.text.specs.Scan.{scan, isValue};
+ghost use Rattle.text.specs.ImageLine.{readImage, lineWords, lineVerdict, fieldIn};
 use crate::reading::Number;
 use crate::reading::digit_in;
 use crate::reading::is_value;
@@ -18,7 +18,7 @@ pub enum LineVerdict {
 
 fn begins(bytes: &[u8], word: &[u8]) -> bool
     requires { ⌜ length (now word) ≤ length (now bytes) ⌝ }
-    ensures { λ r. ⌜ r ≡ same (take (length (now (word .entry))) (now (bytes .entry))) (now (word .entry)) ⌝ }
+    ensures { λ r. ⌜ r ≡ equalLists (take (length (now (word .entry))) (now (bytes .entry))) (now (word .entry)) ⌝ }
 {
     let mut i = 0;
     while i < word.len() {
@@ -44,7 +44,7 @@ fn field_in(n: Number, b: u8) -> Number
 
 // Whether the bytes are numbers with one space between.
 fn are_numbers(bytes: &[u8]) -> bool
-    ensures { λ r. ⌜ r ≡ isValue (run fieldIn Number.Empty (now (bytes .entry))) ⌝ }
+    ensures { λ r. ⌜ r ≡ isValue (scan fieldIn Number.Empty (now (bytes .entry))) ⌝ }
 {
     let mut n = Number::Empty;
     let mut i = 0;
@@ -55,11 +55,13 @@ fn are_numbers(bytes: &[u8]) -> bool
     is_value(n)
 }
 
-// The words stand at the front of out, and behind them what stood there; another text leaves out as it is.
-pub fn read_image(bytes: &[u8], out: &mut [u32]) -> LineVerdict
-    requires { ⌜ 200000 ≤ length (now out) ⌝ }
-    ensures verdict { λ r. ⌜ r ≡ answered (readImage (now (bytes .entry))) ⌝ }
-    ensures words { λ r. ⌜ now (out .exit) ≡ over (lineWords (readImage (now (bytes .entry)))) (now (out .entry)) ⌝ }
+// The words stand at the front of out, and behind them what stood there; another text leaves out as it is. 400,000
+// bytes
+// name no more words than there is room for.
+pub fn read_image(bytes: &[u8], out: &mut [u32; 200000]) -> LineVerdict
+    ensures verdict { λ r. ⌜ r ≡ lineVerdict (readImage (now (bytes .entry))) ⌝ }
+    ensures words { λ r. ⌜ now (out .exit) ≡ overwritten (lineWords (readImage (now (bytes .entry)))) (now
+        (out .entry)) ⌝ }
 {
     let len = bytes.len();
     if len < 6 {

@@ -7,6 +7,6 @@ pub use image_line::LineVerdict;
 pub use image_line::read_image;
 pub use reading::ReadVerdict;
 pub use reading::read;
-pub use writing::line;
 pub use writing::write;
+pub use writing::write_refused;
 pub use writing::write_unreadable;

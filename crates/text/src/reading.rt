@@ -3,10 +3,11 @@ ghost use mathlib.Core.Path.{_≡_};
 ghost use Prim.Native.Nat.{_+_, _≤_, _<_};
 ghost use lib.ListN.{length};
 ghost use lib.Seq.{sets};
-ghost use Rattle.lists.specs.Lists.{over};
-ghost use Rattle.text.specs.Reading.{readText, wordsOf, answered};
-ghost use Rattle.text.specs.Scan.{run, moreDigit, addDigit, digitIn, isValue, valueIn, blank, spaceIn, lineIn};
-ghost use Rattle.text.specs.Scan.{lineGood, lineBlank, freshLines, badAfter, newlineIn, byteIn, restIn, ends};
+ghost use Rattle.lists.specs.Lists.{overwritten};
+ghost use Rattle.text.specs.Reading.{readText, callWords, verdictOf};
+ghost use Rattle.text.specs.Scan.{scan, moreDigit, addDigit, digitIn, isValue, valueIn, blank, spaceIn, lineIn};
+ghost use Rattle.text.specs.Scan.{lineGood, lineBlank, freshLines, badAfter, newlineIn, byteIn, restIn};
+ghost use Rattle.text.specs.Scan.{fieldEnds};
 ghost use Rattle.text.specs.Scan.{numberAfter, wordAt, wordsFrom};
 
 // What the bytes are: so many words of calls, or unreadable and the number that is printed after it.
@@ -221,7 +222,7 @@ fn rest_in(s: Lines) -> Lines
 // All lines of the bytes.
 fn check_lines(bytes: &[u8]) -> Lines
     requires { ⌜ length (now bytes) ≤ 60000 ⌝ }
-    ensures { λ r. ⌜ r ≡ restIn (run byteIn freshLines (now (bytes .entry))) ⌝ }
+    ensures { λ r. ⌜ r ≡ restIn (scan byteIn freshLines (now (bytes .entry))) ⌝ }
 {
     let mut s = Lines {
         ended: 0,
@@ -240,7 +241,7 @@ fn check_lines(bytes: &[u8]) -> Lines
 }
 
 fn ends(b: u8) -> bool
-    ensures { λ r. ⌜ r ≡ ends b ⌝ }
+    ensures { λ r. ⌜ r ≡ fieldEnds b ⌝ }
 {
     if b == 32 {
         return true;
@@ -273,7 +274,7 @@ fn word_at(calls: &mut [u32], k: usize, n: Number, b: u8) -> usize
 pub fn words(bytes: &[u8], calls: &mut [u32]) -> usize
     requires { ⌜ length (wordsFrom Number.Empty (now bytes)) ≤ length (now calls) ⌝ }
     ensures { λ r. ⌜ (r ≡ length (wordsFrom Number.Empty (now (bytes .entry))))
-        × (now (calls .exit) ≡ over (wordsFrom Number.Empty (now (bytes .entry))) (now (calls .entry))) ⌝ }
+        × (now (calls .exit) ≡ overwritten (wordsFrom Number.Empty (now (bytes .entry))) (now (calls .entry))) ⌝ }
 {
     let mut n = Number::Empty;
     let mut k = 0;
@@ -290,8 +291,8 @@ pub fn words(bytes: &[u8], calls: &mut [u32]) -> usize
 // The words of the calls stand at the front of calls, and behind them what stood there; unreadable bytes leave calls as
 // it is. There is room for 1,000 calls.
 pub fn read(bytes: &[u8], calls: &mut [u32; 5000]) -> ReadVerdict
-    ensures { λ r. ⌜ (r ≡ answered (readText (now (bytes .entry))))
-        × (now (calls .exit) ≡ over (wordsOf (readText (now (bytes .entry)))) (now (calls .entry))) ⌝ }
+    ensures { λ r. ⌜ (r ≡ verdictOf (readText (now (bytes .entry))))
+        × (now (calls .exit) ≡ overwritten (callWords (readText (now (bytes .entry)))) (now (calls .entry))) ⌝ }
 {
     if 60000 < bytes.len() {
         return ReadVerdict::Unreadable(0);

@@ -1,11 +1,11 @@
 // From words to bytes. Each function writes a text at a place of out and returns the place behind it.
 ghost use Prim.Native.Nat.{_+_, _*_, _≤_};
 ghost use lib.ListN.{length};
-ghost use Rattle.lists.specs.Lists.{each};
-ghost use Rattle.decimal.specs.Stored.{Stored, Written};
+ghost use Rattle.lists.specs.Lists.{concatMap};
+ghost use Rattle.decimal.specs.Stored.{Stored, WrittenAt};
 ghost use Rattle.decimal.specs.Decimal.{digits};
 ghost use Rattle.text.specs.Writing.{spaced, lineOf, answerLine, answerLines, writeText, boundedText};
-ghost use Rattle.text.specs.Writing.{unreadableText};
+ghost use Rattle.text.specs.Writing.{unreadableText, refusedLine};
 use decimal::bytes;
 
 fn digits(out: &mut [u8], at: usize, n: u32) -> usize
@@ -30,8 +30,8 @@ fn spaced(out: &mut [u8], at: usize, n: u32) -> usize
 }
 
 fn numbers(out: &mut [u8], at: usize, words: &[u32]) -> usize
-    requires { ⌜ at + length (each spaced (now words)) ≤ length (now out) ⌝ }
-    ensures { λ r. ⌜ Stored (each spaced (now (words .entry))) at (now (out .entry)) (now (out .exit)) r ⌝ }
+    requires { ⌜ at + length (concatMap spaced (now words)) ≤ length (now out) ⌝ }
+    ensures { λ r. ⌜ Stored (concatMap spaced (now (words .entry))) at (now (out .entry)) (now (out .exit)) r ⌝ }
 {
     let mut p = at;
     let mut k = 0;
@@ -43,7 +43,7 @@ fn numbers(out: &mut [u8], at: usize, words: &[u32]) -> usize
 }
 
 // A word and its numbers.
-pub fn line(out: &mut [u8], at: usize, word: &[u8], ns: &[u32]) -> usize
+fn line(out: &mut [u8], at: usize, word: &[u8], ns: &[u32]) -> usize
     requires { ⌜ at + length (lineOf (now word) (now ns)) ≤ length (now out) ⌝ }
     ensures { λ r. ⌜ Stored (lineOf (now (word .entry)) (now (ns .entry))) at (now (out .entry)) (now (out .exit)) r ⌝ }
 {
@@ -80,7 +80,7 @@ fn answers(out: &mut [u8], words: &[u32]) -> usize
 // A line of an answer has at most 19 bytes, and a number of the image with its space 11.
 fn lines(codes: &[u32], image: &[u32], out: &mut [u8]) -> usize
     requires { ⌜ 10 * length (now codes) + 11 * length (now image) + 6 ≤ length (now out) ⌝ }
-    ensures { λ r. ⌜ Written (writeText (now (codes .entry)) (now (image .entry))) r (now (out .entry))
+    ensures { λ r. ⌜ WrittenAt (writeText (now (codes .entry)) (now (image .entry))) r (now (out .entry))
         (now (out .exit)) ⌝ }
 {
     let p = answers(out, codes);
@@ -89,7 +89,7 @@ fn lines(codes: &[u32], image: &[u32], out: &mut [u8]) -> usize
 
 // There is room for 1,000 answers and the image of 200 vertices and 800 edges; of more nothing is written.
 pub fn write(codes: &[u32], image: &[u32], out: &mut [u8; 99272]) -> usize
-    ensures { λ r. ⌜ Written (boundedText (now (codes .entry)) (now (image .entry))) r (now (out .entry))
+    ensures { λ r. ⌜ WrittenAt (boundedText (now (codes .entry)) (now (image .entry))) r (now (out .entry))
         (now (out .exit)) ⌝ }
 {
     if 2000 < codes.len() {
@@ -103,7 +103,17 @@ pub fn write(codes: &[u32], image: &[u32], out: &mut [u8; 99272]) -> usize
 
 // The line of unreadable input.
 pub fn write_unreadable(n: u32, out: &mut [u8; 99272]) -> usize
-    ensures { λ r. ⌜ Written (unreadableText n) r (now (out .entry)) (now (out .exit)) ⌝ }
+    ensures { λ r. ⌜ WrittenAt (unreadableText n) r (now (out .entry)) (now (out .exit)) ⌝ }
 {
     line(out, 0, b"unreadable", &[n])
+}
+
+// The line of an image that does not load.
+pub fn write_refused(code: u32, offset: u32, out: &mut [u8; 100000]) -> usize
+    ensures { λ r. ⌜ WrittenAt (refusedLine code offset) r (now (out .entry)) (now (out .exit)) ⌝ }
+{
+    if code == 105 {
+        return line(out, 0, b"refused", &[code]);
+    }
+    line(out, 0, b"refused", &[code, offset])
 }

@@ -298,7 +298,8 @@ fn written_example() {
             2,
             3,
         ],
-        b"done 1\ndone 1\ndone 1\ndone 1\ndone 0\ndone 2\ndone 0\ndone 1\ndone 450\nimage 2 1 6 14 20 22 1 0 7 1 2 0 9 1 1 1 2 0 2 450 2 3\n",
+        b"done 1\ndone 1\ndone 1\ndone 1\ndone 0\ndone 2\ndone 0\ndone 1\ndone 450\nimage 2 1 6 14 20 22 1 0 7 1 2 0 9 \
+          1 1 1 2 0 2 450 2 3\n",
         b"the nine calls of chartrun",
     );
 }

@@ -1,6 +1,7 @@
 -- The rows: one back, one on, cut, one more.
 use Prim.Native.Nat.{ℕ, zero, suc, _+_, _-_, _*_, _≤_, _<_}
 use mathlib.Core.Path.{_≡_, refl, sym, ap, subst, _∙_}
+use mathlib.Core.Bool.{Bool, true, false}
 use mathlib.Core.List.{List}
 use native.Mathlib.Omega.{arith}
 use lib.ListN.{length}
@@ -11,15 +12,15 @@ use Rattle.graph.specs.WellFormed.{Bounds, WellFormed, Within}
 use Rattle.graph.specs.Edits.{Applies, EditIn, apply, inverse}
 use Rattle.graph.proofs.Keeps.{keeps-formed}
 use Rattle.graph.proofs.EditBounds.{keeps-within}
-use Rattle.journal.specs.Rows.{rowAt, rowed, Below}
+use Rattle.journal.specs.Rows.{rowAt, rowed, turned, SameBelow}
 use Rattle.journal.specs.Written.{Written}
 use Rattle.journal.proofs.RowLaws.{row-agree, rowed-length, rowed-below, rowed-row}
-use Rattle.tables.specs.Tables.{State}
-use Rattle.tables.specs.Holds.{Holds}
-use Rattle.tables.specs.Edits.{applyS, Can}
-use Rattle.tables.specs.Capacities.{Sized}
-use Rattle.tables.proofs.Callers.{can-apply, edited, edited-sized, can-revert, reverted, reverted-sized}
-use Rattle.timeline.specs.JournalRows.{made, JournalRows, Added, Toward, back, on}
+use Rattle.graph_tables.specs.Tables.{State}
+use Rattle.graph_tables.specs.Holds.{Holds}
+use Rattle.graph_tables.specs.Edits.{applyS, Can}
+use Rattle.graph_tables.specs.Capacities.{Sized}
+use Rattle.graph_tables.proofs.Callers.{can-apply, edited, edited-sized, can-revert, reverted, reverted-sized}
+use Rattle.timeline.specs.JournalRows.{made, JournalRows, shifted, Reach, crossed}
 
 -- ---- what the rows make is well formed and within the bounds
 
@@ -89,61 +90,48 @@ module _ (b : Bounds) (t : List ℕ) (g : Graph) (n : ℕ) (s : State) where
     holds = k .holds;
   }
 
-pub made-agree : (u : ℕ) (t t′ : List ℕ) (g : Graph) → Below u t t′ → (i : ℕ) → i ≤ u → made t′ g i ≡ made t g i
+pub made-agree : (u : ℕ) (t t′ : List ℕ) (g : Graph) → SameBelow u t t′ → (i : ℕ) → i ≤ u → made t′ g i ≡ made t g i
 made-agree u t t′ g b zero h = refl
 made-agree u t t′ g b (suc i) h = rw (row-agree u i t t′ b (omega arith), made-agree u t t′ g b i (omega arith))
 
--- ---- what a caller makes of what each call ensures
+-- ---- one row, back or on
 
-can-by : (s : State) {e e′ : Edit} → e ≡ e′ → Can e′ s → Can e s
-can-by s q h = subst (λ (x : Edit). Can x s) (sym q) h
+pub reach-by : {back way : Bool} (n u m : ℕ) → back ≡ way → Reach back n u m → Reach way n u m
+reach-by n u m e = subst (λ (x : Bool). Reach x n u m) e
 
-did-by : (s : State) {s′ : State} {e e′ : Edit} → e ≡ e′ → s′ ≡ applyS e s → s′ ≡ applyS e′ s
-did-by s q h = h ∙ ap (λ (x : Edit). applyS x s) q
+pub edit-is : (t : List ℕ) (back : Bool) (u i : ℕ) (e : Edit) → i ≡ crossed back u → e ≡ turned back (rowAt t i)
+    → e ≡ turned back (rowAt t (crossed back u))
+edit-is t back u i e p q = q ∙ ap (λ (j : ℕ). turned back (rowAt t j)) p
 
--- ---- one row, back or on; the lower of u and v is its number
+module _ (b : Bounds) (t : List ℕ) (g : Graph) (n : ℕ) (s : State) (u : ℕ) (k : JournalRows b t g n s u) where
+  -- after one row at least
+  some-behind : 1 ≤ u → JournalRows b t g n s (suc (u - 1))
+  some-behind h = let q : u ≡ suc (u - 1) = omega arith in subst (JournalRows b t g n s) q k
 
-module _ (b : Bounds) (t : List ℕ) (g : Graph) (n : ℕ) (s : State) (to u v : ℕ) (i : to ≤ n) (d : Toward to u v) (k : JournalRows b t g n s u) where
-  pub row-room : 12 * (u - (u - v)) + 12 ≤ length t
-  row-room = elim d [ back h q ↦ omega (arith, k .upto, k .within) | on h q ↦ omega (arith, k .within) ]
+  pub row-word : (back : Bool) → Reach back 1 u n → Reach back 1 u 4294967295
+  row-word true h = h
+  row-word false h = omega (arith, k .within, k .short)
 
-  module _ (e : Edit) (x : v < u → e ≡ inverse (rowAt t (u - (u - v)))) (y : u ≤ v → e ≡ rowAt t (u - (u - v))) where
-    back-row : u ≡ suc v → e ≡ inverse (rowAt t v)
-    back-row q = let p : u - (u - v) ≡ v = omega arith in x (omega arith) ∙ ap (λ (j : ℕ). inverse (rowAt t j)) p
+  pub row-room : (back : Bool) → Reach back 1 u n → 12 * crossed back u + 12 ≤ length t
+  row-room true h = omega (arith, k .upto, k .within)
+  row-room false h = omega (arith, k .within)
 
-    on-row : v ≡ suc u → e ≡ rowAt t u
-    on-row q = let p : u - (u - v) ≡ u = omega arith in y (omega arith) ∙ ap (rowAt t) p
+  pub row-can : (back : Bool) → Reach back 1 u n → Can (turned back (rowAt t (crossed back u))) s
+  row-can true h = can-back b t g n s (u - 1) (some-behind h)
+  row-can false h = can-on b t g n s u k (omega arith)
 
-    pub row-can : Can e s
-    row-can = elim d [
-      | back h q ↦ can-by s (back-row q) (can-back b t g n s v (subst (JournalRows b t g n s) q k))
-      | on h q ↦ can-by s (on-row q) (can-on b t g n s u k (omega arith))
-    ]
-
-    pub row-tape : (s′ : State) → s′ ≡ applyS e s → JournalRows b t g n s′ v
-    row-tape s′ z = elim d [
-      | back h q ↦ rows-back b t g n s v (subst (JournalRows b t g n s) q k) s′ (did-by s (back-row q) z)
-      | on h q ↦ subst (JournalRows b t g n s′) (sym q) (rows-on b t g n s u k (omega arith) s′ (did-by s (on-row q) z))
-    ]
-
--- ---- the loops
-
-abbrev pub apart : ℕ → ℕ → ℕ
-apart u to = (u - to) + (to - u)
-
-pub nearer : (to u v : ℕ) → Toward to u v → apart v to < apart u to
-nearer to u v d = elim d [ back h q ↦ omega arith | on h q ↦ omega arith ]
-
-pub record Replayed (t : List ℕ) (s₀ s : State) (from to u : ℕ) : Type 0 where
-  pub vlen : length (s .vt) ≡ length (s₀ .vt)
-  pub elen : length (s .et) ≡ length (s₀ .et)
-  pub goes : (b : Bounds) (g : Graph) (n : ℕ) → to ≤ n → JournalRows b t g n s₀ from → JournalRows b t g n s u
+  pub row-done : (back : Bool) → Reach back 1 u n → (s′ : State) → s′ ≡ applyS (turned back (rowAt t (crossed back u))) s
+      → JournalRows b t g n s′ (shifted back 1 u)
+  row-done true h s′ e = rows-back b t g n s (u - 1) (some-behind h) s′ e
+  row-done false h s′ e =
+      let q : suc u ≡ u + 1 = omega arith in
+      subst (JournalRows b t g n s′) q (rows-on b t g n s u k (omega arith) s′ e)
 
 -- ---- an edit is written down as the row after the last
 
 module _ (b : Bounds) (t t′ : List ℕ) (g : Graph) (s : State) (u : ℕ) (e : Edit) (c : ℕ) (k : JournalRows b t g u s u) (room : 12 * u + 12 ≤ length t)
     (a : Applies e (made t g u)) (i : EditIn b e) (q : t′ ≡ rowed u e c t) where
-  below : Below u t t′
+  below : SameBelow u t t′
   below = rowed-below u e c t t′ q room
 
   row : rowAt t′ u ≡ e
@@ -181,9 +169,9 @@ module _ (b : Bounds) (t t′ : List ℕ) (g : Graph) (s : State) (u : ℕ) (e :
   }
 
 -- an edit that was written down and carried out
-pub written-added : (e : Edit) (c u : ℕ) (s : State) (t : List ℕ) (s′ : State) (t′ : List ℕ) → 12 * u + 12 ≤ length t → Written e c u s t s′ t′ → Added e c u s t s′ t′
-written-added e c u s t s′ t′ room w = record {
-  row = w .row;
-  rows = λ b g i a k.
-      rows-on b t′ g (suc u) s u (rows-added b t t′ g s u e c k room a i (w .row)) (omega arith) s′ (did-by s (sym (rowed-row u e c t t′ (w .row) room)) (w .state));
-}
+pub written-rows : (b : Bounds) (g : Graph) (e : Edit) (c u : ℕ) (s : State) (t : List ℕ) (s′ : State) (t′ : List ℕ)
+    → 12 * u + 12 ≤ length t → EditIn b e → Applies e (made t g u) → JournalRows b t g u s u → Written e c u s t s′ t′
+    → JournalRows b t′ g (suc u) s′ (suc u)
+written-rows b g e c u s t s′ t′ room i a k w =
+    rows-on b t′ g (suc u) s u (rows-added b t t′ g s u e c k room a i (w .row)) (omega arith) s′
+    (w .state ∙ ap (λ (x : Edit). applyS x s) (sym (rowed-row u e c t t′ (w .row) room)))

@@ -1,6 +1,7 @@
 -- The steps in the rows: undo, redo, a step more, commit, free changes.
 use Prim.Native.Nat.{ℕ, zero, suc, _+_, _-_, _*_, _^_, _≤_, _<_}
 use mathlib.Core.Path.{_≡_, refl, sym, ap, subst, _∙_}
+use mathlib.Core.Bool.{Bool, true, false}
 use mathlib.Core.List.{List, [], _∷_, _++_}
 use native.Mathlib.Omega.{arith}
 use lib.ListN.{length, take}
@@ -9,19 +10,20 @@ use Rattle.graph.specs.declared.Edit.{Edit}
 use Rattle.graph.specs.Graph.{Graph}
 use Rattle.graph.specs.WellFormed.{Bounds, WellFormed, Within}
 use Rattle.graph.specs.Edits.{Applies, EditIn, apply}
-use Rattle.history.specs.Machine.{Step, Timeline, begun, graphAt, current, placed, extended, costs, freeOf}
+use Rattle.history.specs.Machine.{Step, Timeline, begun, graphAt, presentIn, placed, extended, costs, freeOf}
 use Rattle.history.proofs.Timelines.{length-cut}
-use Rattle.journal.specs.Rows.{costAt, Below}
+use Rattle.journal.specs.Rows.{costAt, SameBelow}
+use Rattle.journal.specs.Written.{Written}
 use Rattle.journal.proofs.RowLaws.{below-less, cost-agree, rowed-below, rowed-cost, rowed-length}
-use Rattle.tables.specs.Tables.{State, st}
-use Rattle.tables.specs.Holds.{Holds}
-use Rattle.tables.specs.Capacities.{Sized}
-use Rattle.tables.proofs.GraphRead.{holds-one}
+use Rattle.graph_tables.specs.Tables.{State, state}
+use Rattle.graph_tables.specs.Holds.{Holds}
+use Rattle.graph_tables.specs.Capacities.{Sized}
+use Rattle.graph_tables.proofs.GraphRead.{holds-one}
 use Rattle.timeline.specs.declared.Position.{Position}
 use Rattle.timeline.specs.declared.Current.{Current}
-use Rattle.timeline.specs.JournalRows.{made, JournalRows, Toward, back, on, Ready, Added}
+use Rattle.timeline.specs.JournalRows.{made, JournalRows, shifted, Reach, crossed}
 use Rattle.timeline.specs.Steps.{rowsTo, StepAt, StepsAt, Behind, Journal, Open}
-use Rattle.timeline.proofs.JournalRowLaws.{made-within, made-agree, rows-cut, made-more}
+use Rattle.timeline.proofs.JournalRowLaws.{made-within, made-agree, rows-cut, made-more, written-rows}
 
 abbrev pub stepWith : ℕ → Graph → Step
 stepWith c g = record { cost = c; graph = g }
@@ -63,24 +65,24 @@ makes-current t g i (suc p) (x ∷ ss) l h = ap (λ (y : Graph). graphAt p y ss)
 -- ---- what the journal says of the present graph
 
 module _ (b : Bounds) (j : Position) (s : State) (t : List ℕ) (l : Timeline) (k : Journal b j s t l) where
-  current-made : current l ≡ made t (l .start) (j .used)
+  current-made : presentIn l ≡ made t (l .start) (j .used)
   current-made = makes-current t (l .start) 0 (l .place) (l .steps) (k .steps-at) (k .inside) ∙ ap (made t (l .start)) (sym (k .used))
 
   -- the tables hold Gp
-  pub holds-current : Holds s (current l)
+  pub holds-current : Holds s (presentIn l)
   holds-current = subst (λ (x : Graph). Holds s x) (sym current-made) (k .rows .holds)
 
-  pub sound-current : WellFormed (current l)
+  pub sound-current : WellFormed (presentIn l)
   sound-current = holds-current .sound
 
-  pub within-current : Within b (current l)
+  pub within-current : Within b (presentIn l)
   within-current =
       subst (Within b) (sym current-made)
       (made-within b t (l .start) _ (k .rows .applies) (k .rows .inside) (k .rows .bounded) (j .used) (k .rows .upto))
 
 -- ---- cut at place p, and one step more
 
-step-agree : (t t′ : List ℕ) (g : Graph) (i : ℕ) (x : Step) → Below (i + x .cost) t t′ → StepAt t g i x → StepAt t′ g i x
+step-agree : (t t′ : List ℕ) (g : Graph) (i : ℕ) (x : Step) → SameBelow (i + x .cost) t t′ → StepAt t g i x → StepAt t′ g i x
 step-agree t t′ g i x b k = record {
   some = k .some;
   first = cost-agree (i + x .cost) i t t′ b (omega (arith, k .some)) ∙ k .first;
@@ -88,7 +90,7 @@ step-agree t t′ g i x b k = record {
   makes = k .makes ∙ sym (made-agree (i + x .cost) t t′ g b (i + x .cost) (omega arith));
 }
 
-steps-at-more : (t t′ : List ℕ) (g : Graph) (i p : ℕ) (ss : List Step) (x : Step) → StepsAt t g i ss → p ≤ length ss → Below (rowsTo i p ss) t t′
+steps-at-more : (t t′ : List ℕ) (g : Graph) (i p : ℕ) (ss : List Step) (x : Step) → StepsAt t g i ss → p ≤ length ss → SameBelow (rowsTo i p ss) t t′
     → StepAt t′ g (rowsTo i p ss) x → StepsAt t′ g i (take p ss ++ (x ∷ []))
 steps-at-more t t′ g i zero ss x l h b k = (k, tt)
 steps-at-more t t′ g i (suc p) [] x l h b k = absurd (omega arith)
@@ -104,61 +106,44 @@ rows-more i (suc p) (y ∷ ss) x h = rows-more (i + y .cost) p ss x (omega arith
 
 -- ---- to another place
 
-pub record Back (t : List ℕ) (ss : List Step) (q u : ℕ) : Type 0 where
+-- a step's cost stands in the row that is crossed first, and leads to the rows of the next place
+pub record NextStep (t : List ℕ) (g : Graph) (ss : List Step) (p u : ℕ) (back : Bool) : Type 0 where
   pub cost : ℕ
   pub some : 1 ≤ cost
-  pub word : costAt t (u - 1) ≡ cost
-  pub before : rowsTo 0 q ss + cost ≡ u
-  pub fits : 12 * u ≤ length t
+  pub word : costAt t (crossed back u) ≡ cost
+  pub reach : Reach back cost u 4294967295
+  pub room : 12 * crossed back u + 12 ≤ length t
+  pub after : Behind t g ss (shifted back 1 p) (shifted back cost u)
 
-pub record Forward (t : List ℕ) (ss : List Step) (q u : ℕ) : Type 0 where
-  pub cost : ℕ
-  pub some : 1 ≤ cost
-  pub word : costAt t u ≡ cost
-  pub after : rowsTo 0 q ss ≡ u + cost
-  pub fits : 12 * (u + cost) ≤ length t
+module _ (t : List ℕ) (g : Graph) (ss : List Step) (p u : ℕ) (k : Behind t g ss p u) where
+  behind-by : (q v : ℕ) → q ≤ length ss → v ≡ rowsTo 0 q ss → Behind t g ss q v
+  behind-by q v i e = record { steps-at = k .steps-at; within = k .within; short = k .short; inside = i; used = e }
 
-module _ (t : List ℕ) (g : Graph) (ss : List Step) (to p q u : ℕ) (i : to ≤ length ss) (d : Toward to p q) (k : Behind t g ss p u) where
-  pub back-of : q < p → Back t ss q u
-  back-of h =
-      let e : p ≡ suc q = elim d [ back x y ↦ y | on x y ↦ absurd (omega arith) ] in
-      let r = turn-at t g 0 q ss (k .steps-at) (omega (arith, k .inside)) in
-      let w : rowsTo 0 (suc q) ss ≡ u = ap (λ (x : ℕ). rowsTo 0 x ss) (sym e) ∙ sym (k .used) in
+  -- the step back from place p, or the one on
+  pub next-step : (back : Bool) → Reach back 1 p (length ss) → NextStep t g ss p u back
+  next-step true h =
+      let e : suc (p - 1) ≡ p = omega arith in
+      let r = turn-at t g 0 (p - 1) ss (k .steps-at) (omega (arith, k .inside)) in
+      let w : rowsTo 0 (suc (p - 1)) ss ≡ u = ap (λ (x : ℕ). rowsTo 0 x ss) e ∙ sym (k .used) in
       record {
         cost = r .cost;
         some = r .some;
         word = ap (λ (x : ℕ). costAt t (x - 1)) (sym w) ∙ r .last;
-        before = sym (r .next) ∙ w;
-        fits = omega (arith, w, r .within, k .within);
+        reach = omega (arith, r .next, w);
+        room = omega (arith, r .next, r .some, w, r .within, k .within);
+        after = behind-by (p - 1) (u - r .cost) (omega (arith, k .inside)) (omega (arith, r .next, w));
       }
-
-  pub forward-of : p ≤ q → Forward t ss q u
-  forward-of h =
-      let e : q ≡ suc p = elim d [ back x y ↦ absurd (omega arith) | on x y ↦ y ] in
-      let l : p < to = elim d [ back x y ↦ absurd (omega arith) | on x y ↦ x ] in
+  next-step false h =
+      let e : p + 1 ≡ suc p = omega arith in
       let r = turn-at t g 0 p ss (k .steps-at) (omega arith) in
       record {
         cost = r .cost;
         some = r .some;
         word = ap (costAt t) (k .used) ∙ r .first;
-        after = ap (λ (x : ℕ). rowsTo 0 x ss) e ∙ r .next ∙ ap (λ (x : ℕ). x + r .cost) (sym (k .used));
-        fits = omega (arith, k .used, r .next, r .within, k .within);
+        reach = omega (arith, k .used, r .next, r .within, k .within, k .short);
+        room = omega (arith, k .used, r .next, r .some, r .within, k .within);
+        after = behind-by (p + 1) (u + r .cost) (omega arith) (omega (arith, k .used, r .next, ap (λ (x : ℕ). rowsTo 0 x ss) e));
       }
-
-  behind-by : (v : ℕ) → v ≡ rowsTo 0 q ss → Behind t g ss q v
-  behind-by v e = record {
-    steps-at = k .steps-at;
-    within = k .within;
-    short = k .short;
-    inside = elim d [ back x y ↦ omega (arith, k .inside) | on x y ↦ omega arith ];
-    used = e;
-  }
-
-  pub behind-back : q < p → (c : ℕ) → c ≡ costAt t (u - 1) → Behind t g ss q (u - c)
-  behind-back h c e = let r = back-of h in behind-by (u - c) (omega (arith, e, r .word, r .before))
-
-  pub behind-on : p ≤ q → (c : ℕ) → c ≡ costAt t u → Behind t g ss q (u + c)
-  behind-on h c e = let r = forward-of h in behind-by (u + c) (omega (arith, e, r .word, r .after))
 
 rows-within : (i p : ℕ) (ss : List Step) → p ≤ length ss → rowsTo i p ss ≤ rowsTo i (length ss) ss
 rows-within i zero ss h = rows-from i (length ss) ss
@@ -190,8 +175,8 @@ journal-placed b j j′ s s′ t l k h y z = record {
 }
 
 -- the record that a lending function hands back, at what its contract says of it
-pub at-record : (b : Bounds) (x y : Current) (vt et t : List ℕ) (l : Timeline) → x ≡ y → Journal b (y .position) (st (y .head) vt et) t l → Journal b (x .position) (st (x .head) vt et) t l
-at-record b x y vt et t l e = subst (λ (z : Current). Journal b (z .position) (st (z .head) vt et) t l) (sym e)
+pub at-record : (b : Bounds) (x y : Current) (vt et t : List ℕ) (l : Timeline) → x ≡ y → Journal b (y .position) (state (y .head) vt et) t l → Journal b (x .position) (state (x .head) vt et) t l
+at-record b x y vt et t l e = subst (λ (z : Current). Journal b (z .position) (state (z .head) vt et) t l) (sym e)
 
 pub placed-by : (b : Bounds) (j : Position) (s : State) (t : List ℕ) (l : Timeline) (p q : ℕ) → p ≡ q → Journal b j s t (placed p l) → Journal b j s t (placed q l)
 placed-by b j s t l p q e = subst (λ (x : ℕ). Journal b j s t (placed x l)) e
@@ -207,8 +192,14 @@ rows-count t g i (suc p) (x ∷ ss) l h = omega (arith, l .0 .some, rows-count t
 pub place-short : (b : Bounds) (j : Position) (s : State) (t : List ℕ) (l : Timeline) → Journal b j s t l → 12 * j .place ≤ length t
 place-short b j s t l k = omega (arith, rows-count t (l .start) 0 (l .place) (l .steps) (k .steps-at) (k .inside), k .place, k .used, k .rows .within, k .rows .upto)
 
+pub steps-short : (b : Bounds) (j : Position) (s : State) (t : List ℕ) (l : Timeline) → Journal b j s t l → 12 * j .steps ≤ length t
+steps-short b j s t l k = omega (arith, rows-count t (l .start) 0 (length (l .steps)) (l .steps) (k .steps-at) (omega arith), k .steps, k .rows .within)
+
+pub rows-short : (b : Bounds) (t : List ℕ) (g : Graph) (n : ℕ) (s : State) (u : ℕ) → JournalRows b t g n s u → u < 4294967296
+rows-short b t g n s u k = omega (arith, k .upto, k .within, k .short)
+
 -- rows written after the rows of step p are a step
-journal-close : (b : Bounds) (j j′ : Position) (s s′ : State) (t t′ : List ℕ) (l : Timeline) (x : Step) → Journal b j s t l → Below (j .used) t t′ → StepAt t′ (l .start) (j .used) x
+journal-close : (b : Bounds) (j j′ : Position) (s s′ : State) (t t′ : List ℕ) (l : Timeline) (x : Step) → Journal b j s t l → SameBelow (j .used) t t′ → StepAt t′ (l .start) (j .used) x
     → JournalRows b t′ (l .start) (j .used + x .cost) s′ (j .used + x .cost)
     → j′ .place ≡ j .place + 1 → j′ .steps ≡ j .place + 1 → j′ .used ≡ j .used + x .cost → Journal b j′ s′ t′ (extended x l)
 journal-close b j j′ s s′ t t′ l x k w y z p q r =
@@ -219,7 +210,7 @@ journal-close b j j′ s s′ t t′ l x k w y z p q r =
     record {
       rows = rw (r, v) z;
       steps-at = steps-at-more t t′ (l .start) 0 (l .place) (l .steps) x (k .steps-at) (k .inside)
-          (subst (λ (i : ℕ). Below i t t′) (k .used) w) (subst (λ (i : ℕ). StepAt t′ (l .start) i x) (k .used) y);
+          (subst (λ (i : ℕ). SameBelow i t t′) (k .used) w) (subst (λ (i : ℕ). StepAt t′ (l .start) i x) (k .used) y);
       place = omega (arith, p, k .place);
       inside = omega (arith, n);
       steps = omega (arith, q, n, k .place);
@@ -248,14 +239,11 @@ module _ (b : Bounds) (j : Position) (s₀ : State) (t₀ : List ℕ) (l : Timel
         subst (Within b) (sym (open-now g h))
         (made-within b t (l .start) u (k .rows .applies) (k .rows .inside) (k .rows .bounded) u (k .rows .upto))
 
-    pub open-ready : (g : Graph) (e : Edit) → Holds s g → Applies e g → EditIn b e → Ready e u s t
-    open-ready g e h a i = (b, l .start, i, subst (Applies e) (open-now g h) a, k .rows)
-
     -- one row more
     module _ (g : Graph) (e : Edit) (h : Holds s g) (a : Applies e g) (i : EditIn b e) (f : 12 * u + 12 ≤ length t) (s′ : State) (t′ : List ℕ) (u′ : ℕ)
-        (d : Added e c u s t s′ t′) (n : u′ ≡ suc u) where
+        (d : Written e c u s t s′ t′) (n : u′ ≡ suc u) where
       open-tape : JournalRows b t′ (l .start) (suc u) s′ (suc u)
-      open-tape = d .rows b (l .start) i (subst (Applies e) (open-now g h) a) (k .rows)
+      open-tape = written-rows b (l .start) e c u s t s′ t′ f i (subst (Applies e) (open-now g h) a) (k .rows) d
 
       pub open-more : Open b j s₀ t₀ l c s′ t′ u′
       open-more = subst (Open b j s₀ t₀ l c s′ t′) (sym n) (record {
@@ -311,9 +299,9 @@ journal-begin b j s t g z w h e x y u = record {
 }
 
 pub journal-commit : (b : Bounds) (j j′ : Position) (s : State) (t : List ℕ) (l : Timeline) → Journal b j s t l → j′ .place ≡ 0 → j′ .steps ≡ 0 → j′ .used ≡ 0
-    → Journal b j′ s t (begun (current l))
+    → Journal b j′ s t (begun (presentIn l))
 journal-commit b j j′ s t l k x y u =
-    journal-begin b j′ s t (current l) (k .rows .sized) (within-current b j s t l k) (holds-current b j s t l k) (k .rows .short) x y u
+    journal-begin b j′ s t (presentIn l) (k .rows .sized) (within-current b j s t l k) (holds-current b j s t l k) (k .rows .short) x y u
 
 rows-total : (i p : ℕ) (ss : List Step) → rowsTo i p ss ≡ i + costs (take p ss)
 rows-total i zero ss = omega arith

@@ -1,6 +1,6 @@
 -- The record of ends, counts and position after a step, and at another place.
 use Prim.Native.Nat.{ℕ, _+_}
-use Rattle.tables.specs.declared.Head.{Head}
+use Rattle.graph_tables.specs.declared.Head.{Head}
 use Rattle.timeline.specs.declared.Position.{Position}
 use Rattle.timeline.specs.declared.Current.{Current}
 

@@ -1,16 +1,15 @@
 -- The rows of the journal as edits that lead from one graph to the next, and the tables somewhere on the way.
-use Prim.Native.Nat.{ℕ, zero, suc, _*_, _^_, _≤_, _<_}
-use mathlib.Core.Path.{_≡_}
+use Prim.Native.Nat.{ℕ, zero, suc, _+_, _-_, _*_, _^_, _≤_, _<_}
+use mathlib.Core.Bool.{Bool, true, false}
 use mathlib.Core.List.{List}
 use lib.ListN.{length}
-use Rattle.graph.specs.declared.Edit.{Edit}
 use Rattle.graph.specs.Graph.{Graph}
 use Rattle.graph.specs.WellFormed.{Bounds, WellFormed, Within}
 use Rattle.graph.specs.Edits.{Applies, EditIn, apply}
-use Rattle.journal.specs.Rows.{rowAt, rowed}
-use Rattle.tables.specs.Tables.{State}
-use Rattle.tables.specs.Holds.{Holds}
-use Rattle.tables.specs.Capacities.{Sized}
+use Rattle.journal.specs.Rows.{rowAt}
+use Rattle.graph_tables.specs.Tables.{State}
+use Rattle.graph_tables.specs.Holds.{Holds}
+use Rattle.graph_tables.specs.Capacities.{Sized}
 
 -- what the first i rows make of g
 abbrev pub made : List ℕ → Graph → ℕ → Graph
@@ -29,17 +28,19 @@ pub record JournalRows (b : Bounds) (t : List ℕ) (g : Graph) (n : ℕ) (s : St
   pub upto : u ≤ n
   pub holds : Holds s (made t g u)
 
--- v is one nearer to a number than u
-pub data Toward (to u v : ℕ) : Type 0 where
-  back : to < u → u ≡ suc v → Toward to u v
-  on : u < to → v ≡ suc u → Toward to u v
+-- ---- the ways back and on
 
--- u rows lie behind the tables and no more are left, and the edit applies there
-abbrev pub Ready : Edit → ℕ → State → List ℕ → Type 0
-Ready e u s t = (b : Bounds) × (g : Graph) × EditIn b e × Applies e (made t g u) × JournalRows b t g u s u
+-- the number n before u, or n after it
+abbrev pub shifted : Bool → ℕ → ℕ → ℕ
+shifted true n u = u - n
+shifted false n u = u + n
 
--- the edit is row u, of a step of cost c, and the tables have it behind them
-pub record Added (e : Edit) (c u : ℕ) (s : State) (t : List ℕ) (s′ : State) (t′ : List ℕ) : Type 0 where
-  pub row : t′ ≡ rowed u e c t
-  pub rows : (b : Bounds) (g : Graph) → EditIn b e → Applies e (made t g u) → JournalRows b t g u s u
-      → JournalRows b t′ g (suc u) s′ (suc u)
+-- from u there are n back, down to 0, or n on, up to m
+abbrev pub Reach : Bool → ℕ → ℕ → ℕ → Type 0
+Reach true n u m = n ≤ u
+Reach false n u m = u + n ≤ m
+
+-- the row between u rows behind and one less, or one more
+abbrev pub crossed : Bool → ℕ → ℕ
+crossed true u = u - 1
+crossed false u = u

@@ -1,15 +1,18 @@
 -- The steps of the timeline in the rows of the journal.
 use Prim.Native.Nat.{ℕ, zero, suc, _+_, _-_, _*_, _^_, _≤_, _<_}
 use mathlib.Core.Path.{_≡_}
+use mathlib.Core.Logic.{_≢_}
+use mathlib.Core.Bool.{Bool, true, false}
 use mathlib.Core.List.{List, [], _∷_}
 use lib.ListN.{length}
 use Rattle.graph.specs.Graph.{Graph}
 use Rattle.graph.specs.WellFormed.{Bounds}
 use Rattle.history.specs.Machine.{Step, Timeline}
-use Rattle.journal.specs.Rows.{costAt, Below}
-use Rattle.tables.specs.Tables.{State}
+use Rattle.journal.specs.Rows.{costAt, SameBelow}
+use Rattle.graph_tables.specs.Tables.{State}
+use Rattle.timeline.specs.declared.Ahead.{Ahead}
 use Rattle.timeline.specs.declared.Position.{Position}
-use Rattle.timeline.specs.JournalRows.{made, JournalRows}
+use Rattle.timeline.specs.JournalRows.{made, JournalRows, shifted, Reach}
 
 -- i and the costs of the first p steps: the row where step p + 1 begins, if the first step begins at row i
 abbrev pub rowsTo : ℕ → ℕ → List Step → ℕ
@@ -37,6 +40,29 @@ pub record Behind (t : List ℕ) (g : Graph) (ss : List Step) (p u : ℕ) : Type
   pub inside : p ≤ length ss
   pub used : u ≡ rowsTo 0 p ss
 
+-- ---- on the way to another place
+
+-- a row is left: at the end of a step, another step is
+abbrev pub Unfinished : ℕ → Ahead → Type 0
+Unfinished u a = u ≡ a .end → a .left ≢ 0
+
+-- at the end of a step the next one begins; else the same goes on
+abbrev pub Advances : ℕ → Ahead → Ahead → Type 0
+Advances u a r = (u ≡ a .end → r .left + 1 ≡ a .left) × (u ≢ a .end → r ≡ a)
+
+-- e is u, or before it on the way back, or after it on the way on
+abbrev pub Side : Bool → ℕ → ℕ → Type 0
+Side true u e = e ≤ u
+Side false u e = u ≤ e
+
+-- with u rows behind, the present step ends at the rows of a place from where place q is so many steps away
+pub record Aims (t : List ℕ) (g : Graph) (ss : List Step) (back : Bool) (q u : ℕ) (a : Ahead) : Type 0 where
+  pub place : ℕ
+  pub behind : Behind t g ss place (a .end)
+  pub reach : Reach back (a .left) place (length ss)
+  pub goal : q ≡ shifted back (a .left) place
+  pub side : Side back u (a .end)
+
 -- the position, the tables s and the journal's words t stand for the timeline l
 pub record Journal (b : Bounds) (j : Position) (s : State) (t : List ℕ) (l : Timeline) : Type 0 where
   pub rows : JournalRows b t (l .start) (rowsTo 0 (length (l .steps)) (l .steps)) s (j .used)
@@ -50,7 +76,7 @@ pub record Journal (b : Bounds) (j : Position) (s : State) (t : List ℕ) (l : T
 pub record Open (b : Bounds) (j : Position) (s₀ : State) (t₀ : List ℕ) (l : Timeline) (c : ℕ) (s : State) (t : List ℕ)
     (u : ℕ) : Type 0 where
   pub journal : Journal b j s₀ t₀ l
-  pub below : Below (j .used) t₀ t
+  pub below : SameBelow (j .used) t₀ t
   pub rows : JournalRows b t (l .start) u s u
   pub low : j .used ≤ u
   pub costs : (i : ℕ) → j .used ≤ i → i < u → costAt t i ≡ c

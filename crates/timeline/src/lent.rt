@@ -1,7 +1,7 @@
 // The record that every change updates, lent to thin functions.
 use crate::Current;
 use crate::Position;
-use tables::Head;
+use graph_tables::Head;
 ghost use mathlib.Core.Path.{_≡_};
 ghost use Prim.Native.Nat.{_+_, _<_, _^_};
 ghost use Rattle.timeline.specs.Current.{afterStep, atPlace};

@@ -1,24 +1,23 @@
 // The steps in the journal: undo, redo, going to a place, and steps that are added.
-use graph::Edit;
-use tables::Head;
+// A caller has tables and journal that stand for a timeline.
+use graph_tables::Head;
 
 pub mod lent; // the record that every change updates, lent to thin functions
 
 ghost use mathlib.Core.Path.{_≡_};
+ghost use mathlib.Core.Bool.{true, false};
 ghost use mathlib.Core.List.{List};
-ghost use Prim.Native.Nat.{ℕ, suc, _+_, _-_, _*_, _^_, _≤_, _<_};
+ghost use Prim.Native.Nat.{ℕ, _-_, _^_, _<_};
 ghost use lib.ListN.{length};
 ghost use Rattle.graph.specs.Graph.{Graph};
 ghost use Rattle.graph.specs.WellFormed.{Bounds, Within};
-ghost use Rattle.graph.specs.Edits.{inverse};
-ghost use Rattle.history.specs.Machine.{Step, Timeline, begun, current, placed, freeOf, distance};
-ghost use Rattle.journal.specs.Rows.{rowAt};
-ghost use Rattle.tables.specs.Tables.{State, st};
-ghost use Rattle.tables.specs.Capacities.{Sized};
-ghost use Rattle.tables.specs.Holds.{Holds};
+ghost use Rattle.history.specs.Machine.{Step, Timeline, begun, placed, freeOf};
+ghost use Rattle.graph_tables.specs.Tables.{State, state};
+ghost use Rattle.graph_tables.specs.Capacities.{Sized};
+ghost use Rattle.graph_tables.specs.Holds.{Holds};
 ghost use Rattle.timeline.specs.Current.{noSteps};
-ghost use Rattle.timeline.specs.JournalRows.{JournalRows, Toward, Ready, Added};
-ghost use Rattle.timeline.specs.Steps.{Journal, Behind};
+ghost use Rattle.timeline.specs.JournalRows.{shifted, Reach, crossed, JournalRows};
+ghost use Rattle.timeline.specs.Steps.{Journal, Unfinished, Advances, Aims};
 
 // The place p, the number of steps m, and the rows of steps 1 to p.
 pub struct Position {
@@ -33,207 +32,107 @@ pub struct Current {
     pub position: Position,
 }
 
-// One nearer to another number.
-fn toward(u: u32, to: u32) -> u32
-    requires { ⌜ (u ≡ to → ⊥) ⌝ }
-    ensures { λ r. ⌜ Toward to u r ⌝ }
+// The rows up to which the present step leads, and how many steps come after it.
+pub struct Ahead {
+    pub end: u32,
+    pub left: u32,
+}
+
+// The number n before u, or n after it.
+fn shifted_by(u: u32, n: u32, back: bool) -> u32
+    requires { ⌜ Reach back n u 4294967295 ⌝ }
+    ensures { λ r. ⌜ r ≡ shifted back n u ⌝ }
 {
-    if to < u {
+    if back {
+        return u - n;
+    }
+    u + n
+}
+
+// The row that is taken back or carried out next, where u rows lie behind.
+fn row_crossed(u: u32, back: bool) -> u32
+    requires { ⌜ Reach back 1 u 4294967295 ⌝ }
+    ensures { λ r. ⌜ r ≡ crossed back u ⌝ }
+{
+    if back {
         return u - 1;
     }
-    u + 1
-}
-
-// The lower of two numbers.
-fn lower(u: u32, v: u32) -> u32
-    ensures { λ r. ⌜ r ≡ u - (u - v) ⌝ }
-{
-    if v < u {
-        return v;
-    }
     u
 }
 
-// The edit that leads from u rows behind to v, one more or one less.
-fn edit_between(t: &[u32], u: u32, v: u32) -> Edit
-    requires { ⌜ 12 * (u - (u - v)) + 12 ≤ length (now t) ⌝ }
-    ensures { λ r. ⌜ (v < u → r ≡ inverse (rowAt (now (t .entry)) (u - (u - v)))) ⌝ }
-    ensures { λ r. ⌜ (u ≤ v → r ≡ rowAt (now (t .entry)) (u - (u - v))) ⌝ }
+// Takes one row back or carries it out.
+fn replay_row(head: Head, vt: &mut [u32], et: &mut [u32], t: &[u32], u: u32, back: bool) -> Head
+    requires { ⌜ ((b : Bounds) × (g : Graph) × (n : ℕ) × Reach back 1 u n
+        × JournalRows b (now t) g n (state head (now vt) (now et)) u) ⌝ }
+    ensures { λ r. ⌜ ((b : Bounds) → (g : Graph) → (n : ℕ) → Reach back 1 u n
+        → JournalRows b (now (t .entry)) g n (state head (now (vt .entry)) (now (et .entry))) u
+        → JournalRows b (now (t .entry)) g n (state r (now (vt .exit)) (now (et .exit))) (shifted back 1 u)) ⌝ }
 {
-    let i = lower(u, v);
-    journal::row_at(t, i, v < u)
+    let i = row_crossed(u, back);
+    let e = journal::row_at(t, i, back);
+    graph_tables::edits::apply_edit(head, vt, et, e)
 }
 
-// Takes one row back or carries it out: from u rows behind to v.
-fn replay_row(head: Head, vt: &mut [u32], et: &mut [u32], t: &[u32], u: u32, v: u32) -> Head
-    requires { ⌜ ((b : Bounds) × (g : Graph) × (n : ℕ) × (to : ℕ) × (to ≤ n) × Toward to u v
-        × JournalRows b (now t) g n (st head (now vt) (now et)) u) ⌝ }
-    ensures { λ r. ⌜ ((b : Bounds) → (g : Graph) → (n : ℕ) → (to : ℕ) → to ≤ n → Toward to u v
-        → JournalRows b (now (t .entry)) g n (st head (now (vt .entry)) (now (et .entry))) u
-        → JournalRows b (now (t .entry)) g n (st r (now (vt .exit)) (now (et .exit))) v) ⌝ }
+// Is a row left to go through?
+fn unfinished(u: u32, a: Ahead) -> bool
+    ensures { λ r. ⌜ (r ≡ true → Unfinished u a) ⌝ }
+    ensures { λ r. ⌜ (r ≡ false → (a .left ≡ 0) × (u ≡ a .end)) ⌝ }
 {
-    let e = edit_between(t, u, v);
-    tables::edits::apply_edit(head, vt, et, e)
-}
-
-// Takes rows back or carries them out: from `from` rows behind to `to`. The one loop that replays, so that it is
-// compiled as
-// one piece with the edits in it.
-fn replay(head: Head, vt: &mut [u32], et: &mut [u32], t: &[u32], from: u32, to: u32) -> Head
-    requires { ⌜ ((b : Bounds) × (g : Graph) × (n : ℕ) × (to ≤ n)
-        × JournalRows b (now t) g n (st head (now vt) (now et)) from) ⌝ }
-    ensures { λ r. ⌜ ((b : Bounds) → (g : Graph) → (n : ℕ) → to ≤ n
-        → JournalRows b (now (t .entry)) g n (st head (now (vt .entry)) (now (et .entry))) from
-        → JournalRows b (now (t .entry)) g n (st r (now (vt .exit)) (now (et .exit))) to) ⌝ }
-{
-    let mut h = head;
-    let mut u = from;
-    while u != to {
-        let v = toward(u, to);
-        h = replay_row(h, vt, et, t, u, v);
-        u = v;
+    if a.left != 0 {
+        return true;
     }
-    h
-}
-
-// The rows behind place q, from those behind place p, one more or one less: the step's first row and its last have its
-// cost.
-fn rows_beside(t: &[u32], u: u32, p: u32, q: u32) -> u32
-    requires { ⌜ ((g : Graph) × (ss : List Step) × (to : ℕ) × (to ≤ length ss) × Toward to p q
-        × Behind (now t) g ss p u) ⌝ }
-    ensures { λ r. ⌜ ((g : Graph) → (ss : List Step) → (to : ℕ) → to ≤ length ss → Toward to p q
-        → Behind (now (t .entry)) g ss p u → Behind (now (t .entry)) g ss q r) ⌝ }
-{
-    if q < p {
-        let c = journal::cost_at(t, u - 1);
-        return u - c;
+    if u == a.end {
+        return false;
     }
-    let c = journal::cost_at(t, u);
-    u + c
+    true
 }
 
-// The rows behind a place, from those behind place p.
-fn rows_behind(t: &[u32], used: u32, from: u32, place: u32) -> u32
-    requires { ⌜ ((g : Graph) × (ss : List Step) × (place ≤ length ss) × Behind (now t) g ss from used) ⌝ }
-    ensures { λ r. ⌜ ((g : Graph) → (ss : List Step) → place ≤ length ss → Behind (now (t .entry)) g ss from used
-        → Behind (now (t .entry)) g ss place r) ⌝ }
+// The step that u rows behind are in; at its end, the next one. A step's first row and its last have its cost.
+fn next_ahead(t: &[u32], u: u32, a: Ahead, back: bool) -> Ahead
+    requires { ⌜ ((g : Graph) × (ss : List Step) × (q : ℕ) × Unfinished u a × Aims (now t) g ss back q u a) ⌝ }
+    ensures { λ r. ⌜ ((g : Graph) → (ss : List Step) → (q : ℕ) → Aims (now (t .entry)) g ss back q u a
+        → Aims (now (t .entry)) g ss back q u r × (u ≡ r .end → ⊥)) ⌝ }
+    ensures { λ r. ⌜ Advances u a r ⌝ }
 {
-    let mut u = used;
-    let mut p = from;
-    while p != place {
-        let q = toward(p, place);
-        u = rows_beside(t, u, p, q);
-        p = q;
+    if u != a.end {
+        return Ahead {
+            end: a.end,
+            left: a.left,
+        };
     }
-    u
+    let i = row_crossed(u, back);
+    let cost = journal::cost_at(t, i);
+    let end = shifted_by(u, cost, back);
+    Ahead {
+        end,
+        left: a.left - 1,
+    }
 }
 
-// To a place: its rows are counted, then those between are taken back or carried out.
-fn placed_at(x: Current, vt: &mut [u32], et: &mut [u32], t: &[u32], place: u32) -> Current
-    requires { ⌜ place ≤ x .position .steps ⌝ }
+// So many steps back or on, row by row: the one loop that replays, so that it is compiled as one piece with the edits
+// in it. Which words of the tables hold the graph there is left open.
+pub fn go(x: Current, vt: &mut [u32], et: &mut [u32], t: &[u32], back: bool, steps: u32) -> Current
+    requires { ⌜ Reach back steps (x .position .place) (x .position .steps) ⌝ }
     requires { ⌜ ((b : Bounds) × (l : Timeline)
-        × Journal b (x .position) (st (x .head) (now vt) (now et)) (now t) l) ⌝ }
+        × Journal b (x .position) (state (x .head) (now vt) (now et)) (now t) l) ⌝ }
     ensures { λ r. ⌜ ((b : Bounds) → (l : Timeline)
-        → Journal b (x .position) (st (x .head) (now (vt .entry)) (now (et .entry))) (now (t .entry)) l
-        → Journal b (r .position) (st (r .head) (now (vt .exit)) (now (et .exit))) (now (t .entry))
-        (placed place l)) ⌝ }
+        → Journal b (x .position) (state (x .head) (now (vt .entry)) (now (et .entry))) (now (t .entry)) l
+        → Journal b (r .position) (state (r .head) (now (vt .exit)) (now (et .exit))) (now (t .entry))
+        (placed (shifted back steps (l .place)) l)) ⌝ }
 {
-    let used = x.position.used;
-    let to = rows_behind(t, used, x.position.place, place);
-    let h = replay(x.head, vt, et, t, used, to);
-    lent::moved(x, h, place, to)
-}
-
-// Kind 19: one step back. Which words of the tables hold the graph then is left open.
-pub fn undo(x: Current, vt: &mut [u32], et: &mut [u32], t: &[u32]) -> Current
-    requires { ⌜ 1 ≤ x .position .place ⌝ }
-    requires { ⌜ ((b : Bounds) × (l : Timeline)
-        × Journal b (x .position) (st (x .head) (now vt) (now et)) (now t) l) ⌝ }
-    ensures { λ r. ⌜ ((b : Bounds) → (l : Timeline)
-        → Journal b (x .position) (st (x .head) (now (vt .entry)) (now (et .entry))) (now (t .entry)) l
-        → Journal b (r .position) (st (r .head) (now (vt .exit)) (now (et .exit))) (now (t .entry))
-        (placed (l .place - 1) l)) ⌝ }
-{
-    placed_at(x, vt, et, t, x.position.place - 1)
-}
-
-// Kind 20: one step on. Which words of the tables hold the graph then is left open.
-pub fn redo(x: Current, vt: &mut [u32], et: &mut [u32], t: &[u32]) -> Current
-    requires { ⌜ x .position .place < x .position .steps ⌝ }
-    requires { ⌜ ((b : Bounds) × (l : Timeline)
-        × Journal b (x .position) (st (x .head) (now vt) (now et)) (now t) l) ⌝ }
-    ensures { λ r. ⌜ ((b : Bounds) → (l : Timeline)
-        → Journal b (x .position) (st (x .head) (now (vt .entry)) (now (et .entry))) (now (t .entry)) l
-        → Journal b (r .position) (st (r .head) (now (vt .exit)) (now (et .exit))) (now (t .entry))
-        (placed (suc (l .place)) l)) ⌝ }
-{
-    placed_at(x, vt, et, t, x.position.place + 1)
-}
-
-// Writes an edit down as row i and carries that row out. The journal is given exactly; the words of the tables
-// are left open, but for the graph that they hold.
-pub fn add_row(
-    head: Head,
-    vt: &mut [u32],
-    et: &mut [u32],
-    t: &mut [u32],
-    i: u32,
-    edit: Edit,
-    cost: u32,
-) -> Head
-    requires { ⌜ 12 * i + 12 ≤ length (now t) ⌝ }
-    requires { ⌜ Ready edit i (st head (now vt) (now et)) (now t) ⌝ }
-    ensures { λ r. ⌜ Added edit cost i (st head (now (vt .entry)) (now (et .entry))) (now (t .entry))
-        (st r (now (vt .exit)) (now (et .exit))) (now (t .exit)) ⌝ }
-{
-    journal::put_row(t, i, edit, cost);
-    replay(head, vt, et, t, i, i + 1)
-}
-
-// The head and the position at a place that is gone to, and how many steps lay between.
-pub struct MovedTo {
-    pub current: Current,
-    pub moved: u32,
-}
-
-// The steps between two places.
-fn steps_between(p: u32, q: u32) -> u32
-    ensures { λ r. ⌜ r ≡ distance p q ⌝ }
-{
-    if q < p {
-        return p - q;
+    let mut h = x.head;
+    let mut u = x.position.used;
+    let mut a = Ahead {
+        end: u,
+        left: steps,
+    };
+    while unfinished(u, a) {
+        a = next_ahead(t, u, a, back);
+        h = replay_row(h, vt, et, t, u, back);
+        u = shifted_by(u, 1, back);
     }
-    q - p
-}
-
-// To a place: the steps between are undone or redone; how many. Which words of the tables hold the graph
-// there is left open.
-pub fn go_to(x: Current, vt: &mut [u32], et: &mut [u32], t: &[u32], place: u32) -> MovedTo
-    requires { ⌜ place ≤ x .position .steps ⌝ }
-    requires { ⌜ ((b : Bounds) × (l : Timeline)
-        × Journal b (x .position) (st (x .head) (now vt) (now et)) (now t) l) ⌝ }
-    ensures { λ r. ⌜ ((b : Bounds) → (l : Timeline)
-        → Journal b (x .position) (st (x .head) (now (vt .entry)) (now (et .entry))) (now (t .entry)) l
-        → Journal b (r .current .position) (st (r .current .head) (now (vt .exit)) (now (et .exit))) (now (t .entry))
-        (placed place l)) ⌝ }
-    ensures { λ r. ⌜ r .moved ≡ distance (x .position .place) place ⌝ }
-{
-    let current = placed_at(x, vt, et, t, place);
-    let moved = steps_between(x.position.place, place);
-    MovedTo { current, moved }
-}
-
-// Kind 22: the present graph is the start.
-pub fn commit(pos: Position) -> Position
-    ensures { λ r. ⌜ r ≡ noSteps ⌝ }
-    ensures { λ r. ⌜ ((b : Bounds) → (s : State) → (t : List ℕ) → (l : Timeline) → Journal b pos s t l
-        → Journal b r s t (begun (current l))) ⌝ }
-{
-    Position {
-        place: 0,
-        steps: 0,
-        used: 0,
-    }
+    let place = shifted_by(x.position.place, steps, back);
+    lent::moved(x, h, place, u)
 }
 
 // Kind 51: free changes, of a capacity; 0 where more rows are used than it has.
@@ -248,7 +147,7 @@ pub fn free_changes(pos: Position, capacity: u32) -> u32
     capacity - pos.used
 }
 
-// No step yet.
+// No step yet: at the start, and after a commit.
 pub fn begin() -> Position
     ensures { λ r. ⌜ r ≡ noSteps ⌝ }
     ensures { λ r. ⌜ ((b : Bounds) → (s : State) → (t : List ℕ) → (g : Graph) → Sized b s → Within b g → Holds s g

@@ -5,29 +5,29 @@ use mathlib.Core.List.{List, [], _∷_}
 use native.Mathlib.Omega.{arith}
 use lib.ListN.{length, take}
 use borrow.Author.Tests.{le-ltb}
-use Rattle.lists.specs.Lists.{over}
+use Rattle.lists.specs.Lists.{overwritten}
 use Rattle.image.specs.Image.{load, save}
 use Rattle.history.specs.Machine.{present}
 use Rattle.commands.specs.Calls.{callsOf}
 use Rattle.machine.specs.Machine.{answers, last}
-use Rattle.machine.specs.Run.{Lent, RunResult, listRefusal, run, answerWords}
+use Rattle.machine.specs.Run.{Lent, AfterRun, listRefusal, run, answerWords}
 use Rattle.machine.proofs.Whole.{demand-3, answers-length}
 use Rattle.decimal.proofs.Stores.{over-front, over-fits}
 use Rattle.text.specs.declared.reading.ReadVerdict.{ReadVerdict}
 use Rattle.text.specs.declared.reading.ReadVerdict.the-variants.{Calls, Unreadable}
-use Rattle.text.specs.Reading.{readText, wordsOf, answered}
+use Rattle.text.specs.Reading.{readText, callWords, verdictOf}
 use Rattle.text.specs.Writing.{writeText, unreadableText}
 use Rattle.text.proofs.Verdicts.{told-calls, told-unreadable}
 use Rattle.text.proofs.Accepts.{five-a-line, words-most}
-use Rattle.engine.specs.declared.run.Outcome.{Outcome}
+use Rattle.engine.specs.declared.run.RunResult.{RunResult}
 use Rattle.engine.specs.Outcomes.{runResult}
-use Rattle.transcript.specs.Transcript.{parameters, begin, reply, replyTo, transcript}
+use Rattle.transcript.specs.Transcript.{programParameters, begin, reply, replyTo, transcript}
 
 -- what chartrun lends beside the calls
 abbrev pub lends : List ℕ → List ℕ → List ℕ → Lent
 lends calls answers end = record {
   start = 0 ∷ 0 ∷ 6 ∷ 6 ∷ 6 ∷ 6 ∷ [];
-  rows = parameters .rows;
+  rows = programParameters .rows;
   calls = calls;
   vertexTable = 1600;
   edgeTable = 9600;
@@ -50,22 +50,22 @@ module _ (ws slice end : List ℕ) (whole : length ws % 5 ≡ 0) (few : length w
       rw (whole, a, le-ltb _ _ p, b)
 
   -- what the run leaves, cut to the calls done and the words of the image, is what the reply shows
-  pub shows : (r : Outcome) (slice′ end′ : List ℕ) → length slice′ ≡ 2000 → length end′ ≡ 7206 → runResult r slice′ end′ ≡ run (lends ws slice end) →
+  pub shows : (r : RunResult) (slice′ end′ : List ℕ) → length slice′ ≡ 2000 → length end′ ≡ 7206 → runResult r slice′ end′ ≡ run (lends ws slice end) →
       Shows ws (r .done) (r .words) slice′ end′
   unfolding reply load
   shows r slice′ end′ p q e =
       let l = lends ws slice end in
       let d = demand-3 l accepts in
-      let A = answerWords (answers parameters begin (callsOf ws)) in
-      let G = save (present (last parameters begin (callsOf ws))) in
-      let done : 2 * r .done ≡ length A = ap (λ (n : ℕ). 2 * n) (ap (λ (x : RunResult). x .done) e ∙ d .done) ∙ sym (answers-length parameters begin (callsOf ws)) in
-      let words : r .words ≡ length G = ap (λ (x : RunResult). x .words) e ∙ d .words in
-      let answered : slice′ ≡ over A slice = ap (λ (x : RunResult). x .answers) e ∙ d .answered in
-      let saved : end′ ≡ over G end = ap (λ (x : RunResult). x .end) e ∙ d .saved in
+      let A = answerWords (answers programParameters begin (callsOf ws)) in
+      let G = save (present (last programParameters begin (callsOf ws))) in
+      let done : 2 * r .done ≡ length A = ap (λ (n : ℕ). 2 * n) (ap (λ (x : AfterRun). x .done) e ∙ d .done) ∙ sym (answers-length programParameters begin (callsOf ws)) in
+      let words : r .words ≡ length G = ap (λ (x : AfterRun). x .words) e ∙ d .words in
+      let verdictOf : slice′ ≡ overwritten A slice = ap (λ (x : AfterRun). x .answers) e ∙ d .answered in
+      let saved : end′ ≡ overwritten G end = ap (λ (x : AfterRun). x .end) e ∙ d .saved in
       record {
-        calls-fit = over-fits A slice slice′ (2 * r .done) 2000 done answered p;
+        calls-fit = over-fits A slice slice′ (2 * r .done) 2000 done verdictOf p;
         words-fit = over-fits G end end′ (r .words) 7206 words saved q;
-        text = λ i. writeText (over-front A slice slice′ (2 * r .done) done answered i) (over-front G end end′ (r .words) words saved i);
+        text = λ i. writeText (over-front A slice slice′ (2 * r .done) done verdictOf i) (over-front G end end′ (r .words) words saved i);
       }
 
 -- the calls read stand at the front of calls, n words of them
@@ -75,12 +75,12 @@ pub record CallsRead (bytes calls : List ℕ) (n : ℕ) : Type 0 where
   pub few : length (take n calls) ≤ 5000
   pub text : reply (take n calls) ≡ transcript bytes
 
-module _ (bytes : List ℕ) (n : ℕ) (v : ReadVerdict) (read : v ≡ answered (readText bytes)) where
-  pub calls-read : (slice slice′ : List ℕ) → v ≡ Calls n → slice′ ≡ over (wordsOf (readText bytes)) slice → CallsRead bytes slice′ n
+module _ (bytes : List ℕ) (n : ℕ) (v : ReadVerdict) (read : v ≡ verdictOf (readText bytes)) where
+  pub calls-read : (slice slice′ : List ℕ) → v ≡ Calls n → slice′ ≡ overwritten (callWords (readText bytes)) slice → CallsRead bytes slice′ n
   unfolding transcript
   calls-read slice slice′ e f =
       let t = told-calls (readText bytes) n (sym e ∙ read) in
-      let ws = wordsOf (readText bytes) in
+      let ws = callWords (readText bytes) in
       let p : take n slice′ ≡ ws = over-front ws slice slice′ n (t .1) f in
       record {
         fit = over-fits ws slice slice′ n (length slice′) (t .1) f refl;

@@ -12,8 +12,8 @@ use Rattle.text.specs.Reading.{Verdict, calls, unreadable, readText}
 use Rattle.text.specs.Writing.{writeText, unreadableText}
 
 -- REFERENCE 11.1
-abbrev pub parameters : Parameters
-parameters = record { rows = 0 ∷ 0 ∷ 2 ∷ 2 ∷ 0 ∷ []; vertices = 200; edges = 800; changes = 1000 }
+abbrev pub programParameters : Parameters
+programParameters = record { rows = 0 ∷ 0 ∷ 2 ∷ 2 ∷ 0 ∷ []; vertices = 200; edges = 800; changes = 1000 }
 
 -- nothing at the start
 abbrev pub begin : Machine
@@ -22,8 +22,8 @@ begin = fresh empty
 -- REFERENCE 11.4, for input that can be read
 unfoldable pub reply : List ℕ → List ℕ
 unfolding answers last save writeText
-reply words = writeText (answerWords (answers parameters begin (callsOf words)))
-    (save (present (last parameters begin (callsOf words))))
+reply words = writeText (answerWords (answers programParameters begin (callsOf words)))
+    (save (present (last programParameters begin (callsOf words))))
 
 unfoldable pub replyTo : Verdict → List ℕ
 unfolding reply unreadableText

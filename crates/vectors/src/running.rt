@@ -10,7 +10,7 @@ use crate::rest;
 use crate::untouched;
 use crate::word;
 pub use cases::cases;
-use engine::run::Outcome;
+use engine::run::RunResult;
 use engine::run::run;
 use libc::STDOUT_FILENO;
 use page::Printed;
@@ -152,7 +152,7 @@ fn run_on(
     answers: &mut [u32],
     image: &mut [u32],
     lent: Lengths,
-) -> Outcome {
+) -> RunResult {
     let v = least(lent.vertices, vertices.len());
     let e = least(lent.edges, edges.len());
     let j = least(lent.journal, journal.len());
@@ -171,7 +171,7 @@ fn run_on(
 }
 
 // Whether an accepted run kept the words behind what it wrote.
-fn behind(r: Outcome, answers: &[u32], image: &[u32], junk: u32) -> bool {
+fn behind(r: RunResult, answers: &[u32], image: &[u32], junk: u32) -> bool {
     if untouched(answers, wrapping_add_usize(r.done, r.done), junk) {
         return untouched(image, r.words, junk);
     }
@@ -203,7 +203,7 @@ fn all_kept(
 
 // What the run left.
 fn report(
-    r: Outcome,
+    r: RunResult,
     calls: &[u32],
     vertices: &[u32],
     edges: &[u32],

@@ -1,3 +1,4 @@
+-- `commands::change_of` meets its contract.
 use borrow.Author.Tests.{ne-eqb}
 use Rattle.commands.specs.Commands.{changeOf}
 use Rattle.commands.proofs.change_of.Statement.{statement}

@@ -1,6 +1,7 @@
+-- `commands::command_of` meets its contract.
 use mathlib.Core.Path.{ap}
 use borrow.Author.Tests.{eq-eqb, ne-eqb, le-leb, lt-leb}
-use Rattle.commands.specs.declared.Command.the-variants.{Alter, Recall, Ask}
+use Rattle.commands.specs.declared.Command.the-variants.{Alter, History, Ask}
 use Rattle.commands.specs.Commands.{commandOf}
 use borrow.Author.Needs.{needs}
 use Rattle.commands.proofs.command_of.Statement.{statement}
@@ -10,40 +11,25 @@ returns : tie.Need-returns
 unfolding commandOf
 returns c = rw (eq-eqb _ _ (c .if1 .taken))
 
-change-of-requires : tie.Need-change-of-requires
-change-of-requires c κs = search needs
-
 returns-2 : tie.Need-returns-2
 unfolding commandOf
 returns-2 c = rw (ne-eqb _ _ (c .before .before .if1 .left), le-leb _ _ (c .before .if2 .taken)) (ap Alter (c .change-of .ensures))
 
-history-of-requires : tie.Need-history-of-requires
-history-of-requires c κs = search needs
-
 returns-3 : tie.Need-returns-3
 unfolding commandOf
-returns-3 c = rw (ne-eqb _ _ (c .before .before .before .if1 .left), lt-leb _ _ (c .before .before .if2 .left), le-leb _ _ (c .before .if3 .taken)) (ap Recall (c .history-of .ensures))
+returns-3 c = rw (ne-eqb _ _ (c .before .before .before .if1 .left), lt-leb _ _ (c .before .before .if2 .left), le-leb _ _ (c .before .if3 .taken)) (ap History (c .history-of .ensures))
 
 returns-4 : tie.Need-returns-4
 unfolding commandOf
 returns-4 c = rw (ne-eqb _ _ (c .before .before .before .if1 .left), lt-leb _ _ (c .before .before .if2 .left), lt-leb _ _ (c .before .if3 .left), le-leb _ _ (c .if4 .taken))
 
-question-of-requires : tie.Need-question-of-requires
-question-of-requires c κs = search needs
-
 returns-5 : tie.Need-returns-5
 unfolding commandOf
 returns-5 c = rw (ne-eqb _ _ (c .before .before .before .before .before .if1 .left), lt-leb _ _ (c .before .before .before .before .if2 .left), lt-leb _ _ (c .before .before .before .if3 .left), lt-leb _ _ (c .before .before .if4 .left), le-leb _ _ (c .before .if5 .taken)) (ap Ask (c .question-of .ensures))
 
-history-of-requires-2 : tie.Need-history-of-requires-2
-history-of-requires-2 c κs = search needs
-
 returns-6 : tie.Need-returns-6
 unfolding commandOf
-returns-6 c = rw (ne-eqb _ _ (c .before .before .before .before .before .before .if1 .left), lt-leb _ _ (c .before .before .before .before .before .if2 .left), lt-leb _ _ (c .before .before .before .before .if3 .left), lt-leb _ _ (c .before .before .before .if4 .left), lt-leb _ _ (c .before .before .if5 .left), le-leb _ _ (c .before .if6 .taken)) (ap Recall (c .history-of2 .ensures))
-
-question-of-requires-2 : tie.Need-question-of-requires-2
-question-of-requires-2 c κs = search needs
+returns-6 c = rw (ne-eqb _ _ (c .before .before .before .before .before .before .if1 .left), lt-leb _ _ (c .before .before .before .before .before .if2 .left), lt-leb _ _ (c .before .before .before .before .if3 .left), lt-leb _ _ (c .before .before .before .if4 .left), lt-leb _ _ (c .before .before .if5 .left), le-leb _ _ (c .before .if6 .taken)) (ap History (c .history-of2 .ensures))
 
 returns-7 : tie.Need-returns-7
 unfolding commandOf
@@ -66,16 +52,16 @@ command-of-spec =
     tie.close
     (tie.spec
     returns
-    change-of-requires
+    (λ c κs. search needs)
     returns-2
-    history-of-requires
+    (λ c κs. search needs)
     returns-3
     returns-4
-    question-of-requires
+    (λ c κs. search needs)
     returns-5
-    history-of-requires-2
+    (λ c κs. search needs)
     returns-6
-    question-of-requires-2
+    (λ c κs. search needs)
     returns-7
     returns-8
     returns-9

@@ -1,3 +1,4 @@
+-- `commands::history_of` meets its contract.
 use borrow.Author.Tests.{ne-eqb}
 use Rattle.commands.specs.Commands.{historyOf}
 use Rattle.commands.proofs.history_of.Statement.{statement}

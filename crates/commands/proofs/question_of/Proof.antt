@@ -1,3 +1,4 @@
+-- `commands::question_of` meets its contract.
 use borrow.Author.Tests.{ne-eqb}
 use Rattle.commands.specs.Commands.{questionOf}
 use Rattle.commands.proofs.question_of.Statement.{statement}

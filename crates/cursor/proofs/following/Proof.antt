@@ -35,7 +35,7 @@ use denote.Triple.Table.{entered, cited}
 use denote.Triple.Walked.{says, needs, Stays, stay-none, stay-none-slice, walkOf, goes-none, goes-none-slice, Walks, ends-at, walked, walk-meets}
 use denote.Exit.{yes}
 use denote.Triple.Clauses.{ensured}
-use Rattle.tables.specs.Tables.{WIn, wnext}
+use Rattle.graph_tables.specs.Tables.{HalfRowIn, wnext}
 use Rattle.cursor.specs.declared.Cursor.{Cursor}
 use Rattle.cursor.proofs.Cursor as T
 use Rattle.cursor.proofs.Cursor.Laws as T′
@@ -71,7 +71,7 @@ module _ {M : Type 1} (𝓤 : URA M) (H : Heap 𝓤) (A : Atoms 𝓤) (mem : Mem
   abbrev Present : Contract 𝓤
   Present = tripleOf 𝓤 H A present.signature (present.spec 𝓤 H A mem run)
 
-module _ {M : Type 1} (𝓤 : URA M) (H : Heap 𝓤) (A : Atoms 𝓤) (W : Given 𝓤 H A) (mem : Memory → SProp 𝓤) (run : Routine → Fun 𝓤) (κ : Lft) (q : Share) (s : RefT (List ℕ)) (n : ℕ) (fits : n < 2 ^ 32) (ok : WIn (now s) n) where
+module _ {M : Type 1} (𝓤 : URA M) (H : Heap 𝓤) (A : Atoms 𝓤) (W : Given 𝓤 H A) (mem : Memory → SProp 𝓤) (run : Routine → Fun 𝓤) (κ : Lft) (q : Share) (s : RefT (List ℕ)) (n : ℕ) (fits : n < 2 ^ 32) (ok : HalfRowIn (now s) n) where
   -- the machine value that s has
   abbrev v : Val
   v = sliceVal (s .ptr) (length (s .now))
@@ -106,14 +106,14 @@ module _ {M : Type 1} (𝓤 : URA M) (H : Heap 𝓤) (A : Atoms 𝓤) (W : Given
   at-said r = told 𝓤 H A at.ended (at.clauses 𝓤 H A mem run) (κ, tt) (s, (n, tt)) tt r ((r .edges ≡ s) × (r .word ≡ n)) (λ ws. id⊢ 𝓤 _)
 
   -- what `stepped` asks, of the struct that `at` made
-  kept : (r : Cursor) → r .edges ≡ s → r .word ≡ n → WIn (now (r .edges)) (r .word)
-  kept r e f = subst (λ (w : ℕ). WIn (now (r .edges)) w) (sym f) (subst (λ (x : RefT (List ℕ)). WIn (now x) n) (sym e) ok)
+  kept : (r : Cursor) → r .edges ≡ s → r .word ≡ n → HalfRowIn (now (r .edges)) (r .word)
+  kept r e f = subst (λ (w : ℕ). HalfRowIn (now (r .edges)) w) (sym f) (subst (λ (x : RefT (List ℕ)). HalfRowIn (now x) n) (sym e) ok)
 
   -- the call of `stepped`, at the struct r with the machine value u
   abbrev to-stepped : Cursor → Val → Stepped 𝓤 H A mem run .Ghost
   to-stepped r u = (((κ, tt), (q, tt), tt, (r, tt), (u ∷ [], tt)), tt)
 
-  goes-stepped : (r : Cursor) (u : Val) → WIn (now (r .edges)) (r .word) → ent 𝓤 (⋆ 𝓤 H A (‵ (Row (κ, tt) .own r (u ∷ [])) ∷ (‵ (flft κ q) ⊛ ‵ ftrue) ∷ [])) (Stepped 𝓤 H A mem run .pre (to-stepped r u))
+  goes-stepped : (r : Cursor) (u : Val) → HalfRowIn (now (r .edges)) (r .word) → ent 𝓤 (⋆ 𝓤 H A (‵ (Row (κ, tt) .own r (u ∷ [])) ∷ (‵ (flft κ q) ⊛ ‵ ftrue) ∷ [])) (Stepped 𝓤 H A mem run .pre (to-stepped r u))
   goes-stepped r u g = qed W (‵ (Row (κ, tt) .own r (u ∷ [])) ∷ (‵ (flft κ q) ⊛ ‵ ftrue) ∷ []) ∵ says ! g $ move ! (1 ∷ []) $ frame ! $ nothing ! $ move ! (1 ∷ 0 ∷ []) $ fjoin ! $ done !
 
   stepped-said : (r t : Cursor) → ent 𝓤 (ensured 𝓤 H A stepped.ended (stepped.clauses 𝓤 H A mem run) (κ, tt) (r, tt) tt t) (fact 𝓤 ((t .edges ≡ r .edges) × (t .word ≡ wnext (now (r .edges)) (r .word))))
@@ -170,7 +170,7 @@ module _ {M : Type 1} (𝓤 : URA M) (H : Heap 𝓤) (A : Atoms 𝓤) (W : Given
   following-walks : (C : Calls 𝓤 H) (Λ : Loops 𝓤 H) → FmC 𝓤 H (W .laws) C → Triple 𝓤 (C #cursor·at) (At 𝓤 H A mem run) → Triple 𝓤 (C #cursor·stepped) (Stepped 𝓤 H A mem run) → Triple 𝓤 (C #cursor·present) (Present 𝓤 H A mem run)
       → Walks 𝓤 H A following.ended stayed (WpFn 𝓤 H C Λ code.function) (following.clauses 𝓤 H A mem run)
   following-walks C Λ fm known-at known-stepped known-present = walked 𝓤 H A following.ended stayed (following.clauses 𝓤 H A mem run) (WpFn 𝓤 H C Λ code.function) (λ κs. (slice-vals, (uint-vals w32, tt))) (λ κs. (shr-slice-tells (named 0) (κs .0) u32, (uint-tells w32, tt)))
-      (λ κs qs bounds a g are. needs 𝓤 (WIn (now (a .0)) (a .1 .0)) _ (λ ok. walk 𝓤 H A W mem run (κs .0) (qs .0) (a .0) (a .1 .0) (are .1 .0 .1) ok C Λ fm known-at known-stepped known-present (are .0)))
+      (λ κs qs bounds a g are. needs 𝓤 (HalfRowIn (now (a .0)) (a .1 .0)) _ (λ ok. walk 𝓤 H A W mem run (κs .0) (qs .0) (a .0) (a .1 .0) (are .1 .0 .1) ok C Λ fm known-at known-stepped known-present (are .0)))
 
 following-meets : {M : Type 1} (𝓤 : URA M) (H : Heap 𝓤) (A : Atoms 𝓤) (W : Given 𝓤 H A) (mem : Memory → SProp 𝓤) (run : Routine → Fun 𝓤) (𝓣 : Tables 𝓤 H)
     → Triple 𝓤 (𝓣 .C #cursor·at) (At 𝓤 H A mem run) → Triple 𝓤 (𝓣 .C #cursor·stepped) (Stepped 𝓤 H A mem run) → Triple 𝓤 (𝓣 .C #cursor·present) (Present 𝓤 H A mem run)

@@ -42,14 +42,14 @@ use denote.Triple.Table.{entered, cited}
 use denote.Triple.Walked.{says, needs, Stays, stay-none, walkOf, goes-none, Walks, ends-at, walked, walk-meets}
 use denote.Exit.{yes}
 use denote.Triple.Clauses.{ensured}
-use Rattle.tables.specs.Tables.{WIn, wnext}
+use Rattle.graph_tables.specs.Tables.{HalfRowIn, wnext}
 use Rattle.cursor.specs.declared.Cursor.{Cursor}
 use Rattle.cursor.proofs.Cursor.Laws as T′
 use Rattle.cursor.proofs.Walks.{Row, Shape, laws, told}
-use Rattle.tables.proofs.rows.word_next as step
-use Rattle.tables.proofs.rows.word_next.Symbol as step-def
-use Rattle.tables.proofs.rows.word_next.Symbol.{name as #tables·word-next}
-use Rattle.tables.proofs.rows.word_next.Met as step-thm
+use Rattle.graph_tables.proofs.rows.word_next as step
+use Rattle.graph_tables.proofs.rows.word_next.Symbol as step-def
+use Rattle.graph_tables.proofs.rows.word_next.Symbol.{name as #tables·word-next}
+use Rattle.graph_tables.proofs.rows.word_next.Met as step-thm
 use Rattle.cursor.proofs.stepped.Key.{name as #cursor·stepped}
 use Rattle.cursor.proofs.stepped as stepped
 use Rattle.cursor.proofs.stepped.Statement as stated
@@ -63,7 +63,7 @@ module _ {M : Type 1} (𝓤 : URA M) (H : Heap 𝓤) (A : Atoms 𝓤) (mem : Mem
   abbrev WordNext : Contract 𝓤
   WordNext = tripleOf 𝓤 H A step.signature (step.spec 𝓤 H A mem run)
 
-module _ {M : Type 1} (𝓤 : URA M) (H : Heap 𝓤) (A : Atoms 𝓤) (W : Given 𝓤 H A) (mem : Memory → SProp 𝓤) (run : Routine → Fun 𝓤) (κ : Lft) (q : Share) (d : Cursor) (ok : WIn (now (d .edges)) (d .word)) where
+module _ {M : Type 1} (𝓤 : URA M) (H : Heap 𝓤) (A : Atoms 𝓤) (W : Given 𝓤 H A) (mem : Memory → SProp 𝓤) (run : Routine → Fun 𝓤) (κ : Lft) (q : Share) (d : Cursor) (ok : HalfRowIn (now (d .edges)) (d .word)) where
   abbrev mach : Val
   mach = T′.lowered d
 
@@ -149,7 +149,7 @@ module _ {M : Type 1} (𝓤 : URA M) (H : Heap 𝓤) (A : Atoms 𝓤) (W : Given
   stepped-walks : (C : Calls 𝓤 H) (Λ : Loops 𝓤 H) → FmC 𝓤 H (W .laws) C → Triple 𝓤 (C #tables·word-next) (WordNext 𝓤 H A mem run)
       → Walks 𝓤 H A stepped.ended stayed (WpFn 𝓤 H C Λ code.function) (stepped.clauses 𝓤 H A mem run)
   stepped-walks C Λ fm known = walked 𝓤 H A stepped.ended stayed (stepped.clauses 𝓤 H A mem run) (WpFn 𝓤 H C Λ code.function) (λ κs. (LL.vals (Shape κs) (laws κs), tt)) (λ κs. (LL.tells (Shape κs) (laws κs), tt))
-      (λ κs qs bounds a g are. needs 𝓤 (WIn (now (a .0 .edges)) (a .0 .word)) _ (λ ok. walk 𝓤 H A W mem run (κs .0) (qs .0) (a .0) ok C Λ fm known (LL.lawful (Shape κs) (laws κs) 𝓤 H A W .typed (a .0) _ (are .0) .0)))
+      (λ κs qs bounds a g are. needs 𝓤 (HalfRowIn (now (a .0 .edges)) (a .0 .word)) _ (λ ok. walk 𝓤 H A W mem run (κs .0) (qs .0) (a .0) ok C Λ fm known (LL.lawful (Shape κs) (laws κs) 𝓤 H A W .typed (a .0) _ (are .0) .0)))
 
 stepped-meets : {M : Type 1} (𝓤 : URA M) (H : Heap 𝓤) (A : Atoms 𝓤) (W : Given 𝓤 H A) (mem : Memory → SProp 𝓤) (run : Routine → Fun 𝓤) (𝓣 : Tables 𝓤 H)
     → Triple 𝓤 (𝓣 .C #tables·word-next) (WordNext 𝓤 H A mem run)
@@ -163,4 +163,4 @@ stepped-spec 𝓤 H 𝓜 𝓖 𝓡 =
     entered 𝓤 H (tripleOf 𝓤 H (𝓖 .A) stepped.signature (stepped.spec 𝓤 H (𝓖 .A) (𝓜 .mem) (𝓡 .run)))
     (tables 𝓤 H 𝓜 𝓡 code.env .C) (tables 𝓤 H 𝓜 𝓡 code.env .Λ) #cursor·stepped code.function (code.unfolded 𝓤 H 𝓜 𝓡)
     (stepped-meets 𝓤 H (𝓖 .A) (givenOf 𝓤 H 𝓜 𝓖) (𝓜 .mem) (𝓡 .run) (tablesOf 𝓤 H 𝓜 (tables 𝓤 H 𝓜 𝓡 code.env))
-    (cited 𝓤 H (WordNext 𝓤 H (𝓖 .A) (𝓜 .mem) (𝓡 .run)) 𝓜 𝓡 code.env #tables·word-next step-def.routine code.calls-tables·rows·word-next (step-thm.met 𝓤 H 𝓜 𝓖 𝓡)))
+    (cited 𝓤 H (WordNext 𝓤 H (𝓖 .A) (𝓜 .mem) (𝓡 .run)) 𝓜 𝓡 code.env #tables·word-next step-def.routine code.calls-graph-tables·rows·word-next (step-thm.met 𝓤 H 𝓜 𝓖 𝓡)))

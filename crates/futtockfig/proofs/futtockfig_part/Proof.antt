@@ -5,14 +5,8 @@ use lib.ListN.{length}
 use Rattle.futtockfig.proofs.futtockfig_part.Statement.{statement}
 use Rattle.futtockfig.proofs.futtockfig_part.Tie as tie
 
-part-start-requires : tie.Need-part-start-requires
-part-start-requires c κs = search needs
-
-part-requires : tie.Need-part-requires
-part-requires c κs = search needs
-
 returns : tie.Need-returns
 returns c = (c .before .part-start .ensures, ap length (c .part .ensures .0))
 
 pub futtockfig-part-spec : {M : Type 1} → statement M
-futtockfig-part-spec = tie.close (tie.spec part-start-requires part-requires returns)
+futtockfig-part-spec = tie.close (tie.spec (λ c κs. search needs) (λ c κs. search needs) returns)

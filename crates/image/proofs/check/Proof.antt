@@ -1,3 +1,4 @@
+-- `image::check` meets its contract.
 use Prim.Native.Nat.{ℕ, _≤_}
 use mathlib.Core.Path.{sym, ap₂, _∙_}
 use native.Mathlib.Omega.{arith}
@@ -5,33 +6,15 @@ use borrow.Author.Needs.{needs}
 use borrow.Author.Tests.{not-true, not-false}
 use Rattle.image.specs.Checks.{bounds, checked, verdict}
 use Rattle.image.proofs.Headers.{counts-le}
-use Rattle.image.proofs.ScratchPass.{bad-head, bad-counts, incidences-few, verdict-by}
+use Rattle.image.proofs.ScratchPass.{bad-head, bad-counts, incidences-few, none-sound, verdict-by}
 use Rattle.image.proofs.check.Statement.{statement}
 use Rattle.image.proofs.check.Tie as tie
-
-sound-requires : tie.Need-sound-requires
-sound-requires c κs = search needs
 
 returns : tie.Need-returns
 returns c =
     let a = c .before .before .before .args in
     let s = c .before .sound in
     bad-head (checked (a .vertices) (a .edges) (a .types)) (a .words .now) (sym (s .ensures) ∙ not-true (s .result) (c .if1 .taken))
-
-get-requires : tie.Need-get-requires
-get-requires c κs = search needs
-
-get-requires-2 : tie.Need-get-requires-2
-get-requires-2 c κs = search needs
-
-smaller-requires : tie.Need-smaller-requires
-smaller-requires c κs = search needs
-
-smaller-requires-2 : tie.Need-smaller-requires-2
-smaller-requires-2 c κs = search needs
-
-counts-requires : tie.Need-counts-requires
-counts-requires c κs = search needs
 
 returns-2 : tie.Need-returns-2
 returns-2 c =
@@ -42,36 +25,23 @@ returns-2 c =
     bad-counts (a .words .now) (sym (s .ensures) ∙ not-false (s .result) (c .before .before .before .before .before .before .if1 .left)) (checked (a .vertices) (a .edges) (a .types))
     (rw (c .before .before .before .before .before .get .ensures, c .before .before .before .before .get2 .ensures, c .before .before .before .smaller .ensures .0, c .before .before .smaller2 .ensures .0) at k)
 
-part-requires : tie.Need-part-requires
-part-requires c κs = search needs
-
-part-requires-2 : tie.Need-part-requires-2
-part-requires-2 c κs = search needs
-
-part-requires-3 : tie.Need-part-requires-3
-part-requires-3 c κs = search needs
-
-record-size-requires : tie.Need-record-size-requires
-record-size-requires c κs = search needs
+returns-3 : tie.Need-returns-3
+returns-3 c =
+    let a = c .before .before .before .before .before .before .before .before .before .before .args in
+    let s = c .before .before .before .before .before .before .before .before .sound in
+    let x = c .before .before .before .before .before .before .get in
+    let y = c .before .before .before .before .before .get2 in
+    let vc = c .before .before .before .before .smaller in
+    let ec = c .before .before .before .smaller2 in
+    let n = c .before .before .counts in
+    let h = sym (s .ensures) ∙ not-false (s .result) (c .before .before .before .before .before .before .before .if1 .left) in
+    let k = sym (n .ensures) ∙ not-false (n .result) (c .before .if2 .left) in
+    none-sound (a .words .now) h (λ i. omega (arith, c .before .before .before .before .before .before .before .before .before .shared-slice-known .given i)) (vc .result) (ec .result) (a .types) (x .result) (y .result) (vc .ensures .1) (ec .ensures .1)
+    (x .ensures) (y .ensures) k (c .if3 .taken)
+    ∙ ap₂ (λ (m e : ℕ). verdict (bounds m e (a .types)) (a .words .now)) (vc .ensures .0) (ec .ensures .0)
 
 all-requires : tie.Need-all-requires
 all-requires c κs =
-    let a = c .before .before .before .before .before .before .before .before .before .before .before .before .before .args in
-    let s = c .before .before .before .before .before .before .before .before .before .before .before .sound in
-    let x = c .before .before .before .before .before .before .before .before .before .get in
-    let y = c .before .before .before .before .before .before .before .before .get2 in
-    let vc = c .before .before .before .before .before .before .before .smaller in
-    let ec = c .before .before .before .before .before .before .smaller2 in
-    let n = c .before .before .before .before .before .counts in
-    let h = sym (s .ensures) ∙ not-false (s .result) (c .before .before .before .before .before .before .before .before .before .before .if1 .left) in
-    let k = sym (n .ensures) ∙ not-false (n .result) (c .before .before .before .before .if2 .left) in
-    let l = counts-le (vc .result) (ec .result) (x .result) (y .result) k in
-    let le : y .result ≤ 4000 = omega (arith, l .1, ec .ensures .1) in
-    let q = c .before .part3 in
-    (c .record-size .ensures .1, omega (arith, l .0, vc .ensures .1), le, ec .ensures .1, incidences-few (a .words .now) h (y .result) (y .ensures) le (q .result .now) (q .ensures .0))
-
-returns-3 : tie.Need-returns-3
-returns-3 c =
     let a = c .before .before .before .before .before .before .before .before .before .before .before .before .before .before .args in
     let s = c .before .before .before .before .before .before .before .before .before .before .before .before .sound in
     let x = c .before .before .before .before .before .before .before .before .before .before .get in
@@ -81,11 +51,27 @@ returns-3 c =
     let n = c .before .before .before .before .before .before .counts in
     let h = sym (s .ensures) ∙ not-false (s .result) (c .before .before .before .before .before .before .before .before .before .before .before .if1 .left) in
     let k = sym (n .ensures) ∙ not-false (n .result) (c .before .before .before .before .before .if2 .left) in
+    let l = counts-le (vc .result) (ec .result) (x .result) (y .result) k in
+    let le : y .result ≤ 4000 = omega (arith, l .1, ec .ensures .1) in
+    let q = c .before .part3 in
+    (c .record-size .ensures .1, omega (arith, l .0, vc .ensures .1), le, ec .ensures .1, incidences-few (a .words .now) h (y .result) (y .ensures) le (q .result .now) (q .ensures .0))
+
+returns-4 : tie.Need-returns-4
+returns-4 c =
+    let a = c .before .before .before .before .before .before .before .before .before .before .before .before .before .before .before .args in
+    let s = c .before .before .before .before .before .before .before .before .before .before .before .before .before .sound in
+    let x = c .before .before .before .before .before .before .before .before .before .before .before .get in
+    let y = c .before .before .before .before .before .before .before .before .before .before .get2 in
+    let vc = c .before .before .before .before .before .before .before .before .before .smaller in
+    let ec = c .before .before .before .before .before .before .before .before .smaller2 in
+    let n = c .before .before .before .before .before .before .before .counts in
+    let h = sym (s .ensures) ∙ not-false (s .result) (c .before .before .before .before .before .before .before .before .before .before .before .before .if1 .left) in
+    let k = sym (n .ensures) ∙ not-false (n .result) (c .before .before .before .before .before .before .if2 .left) in
     let z = c .before .record-size in
     let u = c .before .before .before .before .part in
     let v = c .before .before .before .part2 in
     let w = c .before .before .part3 in
-    verdict-by (a .words .now) h (λ i. omega (arith, c .before .before .before .before .before .before .before .before .before .before .before .before .before .shared-slice-known .given i)) (vc .result) (ec .result) (a .types) (z .result) (x .result) (y .result) (vc .ensures .1) (ec .ensures .1)
+    verdict-by (a .words .now) h (λ i. omega (arith, c .before .before .before .before .before .before .before .before .before .before .before .before .before .before .shared-slice-known .given i)) (vc .result) (ec .result) (a .types) (z .result) (x .result) (y .result) (vc .ensures .1) (ec .ensures .1)
     (z .ensures .0) (x .ensures) (y .ensures) k (u .result .now) (v .result .now) (w .result .now) (u .ensures .0) (v .ensures .0) (w .ensures .0) (c .all .result) (c .all .ensures)
     ∙ ap₂ (λ (m e : ℕ). verdict (bounds m e (a .types)) (a .words .now)) (vc .ensures .0) (ec .ensures .0)
 
@@ -93,17 +79,18 @@ pub check-spec : {M : Type 1} → statement M
 check-spec =
     tie.close
     (tie.spec
-    sound-requires
+    (λ c κs. search needs)
     returns
-    get-requires
-    get-requires-2
-    smaller-requires
-    smaller-requires-2
-    counts-requires
+    (λ c κs. search needs)
+    (λ c κs. search needs)
+    (λ c κs. search needs)
+    (λ c κs. search needs)
+    (λ c κs. search needs)
     returns-2
-    part-requires
-    part-requires-2
-    part-requires-3
-    record-size-requires
+    returns-3
+    (λ c κs. search needs)
+    (λ c κs. search needs)
+    (λ c κs. search needs)
+    (λ c κs. search needs)
     all-requires
-    returns-3)
+    returns-4)

@@ -9,21 +9,12 @@ use Rattle.image.proofs.Parts.{part-within, part-cut}
 use Rattle.image.proofs.part.Statement.{statement}
 use Rattle.image.proofs.part.Tie as tie
 
-part-bound-requires : tie.Need-part-bound-requires
-part-bound-requires c κs = search needs
-
-part-bound-requires-2 : tie.Need-part-bound-requires-2
-part-bound-requires-2 c κs = search needs
-
 -- the ends are in order and within the words
 ends : (c : tie.After-part-bound2) →
     (c .before .part-bound .result ≤ c .part-bound2 .result) × (c .part-bound2 .result ≤ length (c .before .before .before .args .words .now))
 ends c =
     let a = c .before .before .before .args in
     rw (c .before .part-bound .ensures .0, c .part-bound2 .ensures .0) (part-within (a .which) (a .words .now))
-
-mul-result : tie.Need-mul-result
-mul-result c = search needs
 
 sub-result : tie.Need-sub-result
 sub-result c = ends c .0
@@ -43,4 +34,4 @@ returns c =
 
 pub part-spec : {M : Type 1} → statement M
 part-spec =
-    tie.close (tie.spec part-bound-requires part-bound-requires-2 mul-result sub-result part-result-start part-result-end returns)
+    tie.close (tie.spec (λ c κs. search needs) (λ c κs. search needs) (λ c. search needs) sub-result part-result-start part-result-end returns)

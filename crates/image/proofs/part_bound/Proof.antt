@@ -9,24 +9,9 @@ use Rattle.image.specs.Parts.{partBound}
 use Rattle.image.proofs.part_bound.Statement.{statement}
 use Rattle.image.proofs.part_bound.Tie as tie
 
-has-part-requires : tie.Need-has-part-requires
-has-part-requires c κs = search needs
-
 returns : tie.Need-returns
 unfolding partBound
 returns c = (rw (sym (c .before .has-part .ensures) ∙ not-true (c .before .has-part .result) (c .if1 .taken)), search needs)
-
-wide-requires : tie.Need-wide-requires
-wide-requires c κs = search needs
-
-wide-requires-2 : tie.Need-wide-requires-2
-wide-requires-2 c κs = search needs
-
-add-word : tie.Need-add-word
-add-word c = search needs
-
-word-requires : tie.Need-word-requires
-word-requires c κs = search needs
 
 returns-2 : tie.Need-returns-2
 unfolding partBound
@@ -40,4 +25,4 @@ returns-2 c =
 
 pub part-bound-spec : {M : Type 1} → statement M
 part-bound-spec =
-    tie.close (tie.spec has-part-requires returns wide-requires wide-requires-2 add-word word-requires returns-2)
+    tie.close (tie.spec (λ c κs. search needs) returns (λ c κs. search needs) (λ c κs. search needs) (λ c. search needs) (λ c κs. search needs) returns-2)

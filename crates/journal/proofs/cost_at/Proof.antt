@@ -1,23 +1,9 @@
+-- `journal::cost_at` meets its contract.
 use mathlib.Core.Path.{refl}
 use Rattle.journal.proofs.RowLaws.{cost-read}
 use borrow.Author.Needs.{needs}
 use Rattle.journal.proofs.cost_at.Statement.{statement}
 use Rattle.journal.proofs.cost_at.Tie as tie
-
-wide-requires : tie.Need-wide-requires
-wide-requires c κs = search needs
-
-mul-result : tie.Need-mul-result
-mul-result c = search needs
-
-add-result : tie.Need-add-result
-add-result c = search needs
-
-mul-result-2 : tie.Need-mul-result-2
-mul-result-2 c = search needs
-
-shared-slice-read-result : tie.Need-shared-slice-read-result
-shared-slice-read-result c = search needs
 
 returns : tie.Need-returns
 returns c =
@@ -27,4 +13,4 @@ returns c =
 pub cost-at-spec : {M : Type 1} → statement M
 cost-at-spec =
     tie.close
-    (tie.spec wide-requires mul-result add-result mul-result-2 shared-slice-read-result returns)
+    (tie.spec (λ c κs. search needs) (λ c. search needs) (λ c. search needs) (λ c. search needs) (λ c. search needs) returns)

@@ -1,20 +1,9 @@
+-- `journal::decode_back` meets its contract.
 use Rattle.journal.specs.Rows.{editOf}
 use borrow.Author.Tests.{ne-eqb}
 use borrow.Author.Needs.{needs}
 use Rattle.journal.proofs.decode_back.Statement.{statement}
 use Rattle.journal.proofs.decode_back.Tie as tie
-
-reading-of-requires : tie.Need-reading-of-requires
-reading-of-requires c κs = search needs
-
-reading-of-requires-2 : tie.Need-reading-of-requires-2
-reading-of-requires-2 c κs = search needs
-
-reading-of-requires-3 : tie.Need-reading-of-requires-3
-reading-of-requires-3 c κs = search needs
-
-reading-of-requires-4 : tie.Need-reading-of-requires-4
-reading-of-requires-4 c κs = search needs
 
 returns : tie.Need-returns
 unfolding editOf
@@ -56,10 +45,10 @@ pub decode-back-spec : {M : Type 1} → statement M
 decode-back-spec =
     tie.close
     (tie.spec
-    reading-of-requires
-    reading-of-requires-2
-    reading-of-requires-3
-    reading-of-requires-4
+    (λ c κs. search needs)
+    (λ c κs. search needs)
+    (λ c κs. search needs)
+    (λ c κs. search needs)
     returns
     returns-2
     returns-3

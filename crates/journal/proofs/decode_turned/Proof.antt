@@ -1,18 +1,13 @@
+-- `journal::decode_turned` meets its contract.
 use borrow.Author.Needs.{needs}
 use Rattle.journal.proofs.decode_turned.Statement.{statement}
 use Rattle.journal.proofs.decode_turned.Tie as tie
 
-decode-back-requires : tie.Need-decode-back-requires
-decode-back-requires c κs = search needs
-
 returns : tie.Need-returns
 returns c = rw (c .before .if1 .taken) (c .decode-back .ensures)
-
-decode-requires : tie.Need-decode-requires
-decode-requires c κs = search needs
 
 returns-2 : tie.Need-returns-2
 returns-2 c = rw (c .before .if1 .left) (c .decode .ensures)
 
 pub decode-turned-spec : {M : Type 1} → statement M
-decode-turned-spec = tie.close (tie.spec decode-back-requires returns decode-requires returns-2)
+decode-turned-spec = tie.close (tie.spec (λ c κs. search needs) returns (λ c κs. search needs) returns-2)

@@ -1,35 +1,39 @@
-use Rattle.journal.proofs.RowLaws.{row-written}
+-- `journal::put_row` meets its contract.
+use Prim.Native.Nat.{_+_, _*_}
+use mathlib.Core.Path.{ap, _∙_}
+use mathlib.Core.List.{[], _∷_}
+use lib.ListN.{length-set}
+use Rattle.journal.specs.Rows.{storeFrom}
+use Rattle.journal.proofs.RowLaws.{words-written}
 use borrow.Author.Needs.{needs}
 use Rattle.journal.proofs.put_row.Statement.{statement}
 use Rattle.journal.proofs.put_row.Tie as tie
 
-wide-requires : tie.Need-wide-requires
-wide-requires c κs = search needs
-
-mul-q : tie.Need-mul-q
-mul-q c = search needs
-
-put-edit-requires : tie.Need-put-edit-requires
-put-edit-requires c κs = search needs
-
-add-t : tie.Need-add-t
-add-t c = search needs
-
-mul-t : tie.Need-mul-t
-mul-t c = search needs
-
-slice-write-t : tie.Need-slice-write-t
-slice-write-t c = search needs
-
 same-length : tie.Need-same-length
-same-length c = search needs
+same-length c = simp length-set (c .before .before .put-five2 .kept .0 ∙ c .before .before .before .before .before .before .put-five .kept .0)
 
 returns : tie.Need-returns
 returns c =
-    let s = c .before .before .before .before .before .before in
-    row-written (s .args .t .now) _ (s .args .i) _ (s .args .edit) (s .args .cost) (c .before .before .put-edit .ensures) (c .before .before .before .before .wide .ensures)
+    let a = c .before .before .before .before .before .before .before .before .before .before .args in
+    let w = c .before .before .before .before .before .before .before .before .wide in
+    let e = c .before .before .put-five2 .ensures ∙ ap (storeFrom (12 * w .result + 1 + 1 + 1 + 1 + 1) (a .e ∷ a .f ∷ a .g ∷ a .h ∷ a .j ∷ [])) (c .before .before .before .before .before .before .put-five .ensures) in
+    words-written (a .t .now) _ (a .i) (w .result) (a .cost) (a .k ∷ a .a ∷ a .b ∷ a .c ∷ a .d ∷ a .e ∷ a .f ∷ a .g ∷ a .h ∷ a .j ∷ []) e (w .ensures)
 
 pub put-row-spec : {M : Type 1} → statement M
 put-row-spec =
     tie.close
-    (tie.spec wide-requires mul-q put-edit-requires add-t mul-t slice-write-t same-length returns)
+    (tie.spec
+    (λ c κs. search needs)
+    (λ c. search needs)
+    (λ c κs. search needs)
+    (λ c. search needs)
+    (λ c. search needs)
+    (λ c. search needs)
+    (λ c. search needs)
+    (λ c. search needs)
+    (λ c κs. search needs)
+    (λ c. search needs)
+    (λ c. search needs)
+    (λ c. search needs)
+    same-length
+    returns)

@@ -1,3 +1,4 @@
+-- `marks::count_marks` meets its contract.
 use mathlib.Core.Path.{refl}
 use Rattle.marks.proofs.MarkLaws.{count-is}
 use Rattle.marks.proofs.count_marks.Statement.{statement}

@@ -1,3 +1,4 @@
+-- `marks::cut_mark` meets its contract.
 use Prim.Native.Nat.{ℕ, _≤_, _<_}
 use mathlib.Core.Path.{subst}
 use borrow.Author.Tests.{eq-eqb, ne-eqb, lt-ltb, le-ltb}
@@ -8,16 +9,10 @@ use Rattle.marks.proofs.cut_mark.Tie as tie
 returns : tie.Need-returns
 returns c = rw (ne-eqb _ 1 (c .if1 .taken))
 
-place-of-requires : tie.Need-place-of-requires
-place-of-requires c κs = search needs
-
 returns-2 : tie.Need-returns-2
 returns-2 c =
     let q = subst (λ (q : ℕ). q ≤ c .before .before .before .args .p) (c .before .place-of .ensures) (c .if2 .taken) in
     rw (eq-eqb _ 1 (c .before .before .if1 .left), le-ltb _ _ q)
-
-drop-mark-requires : tie.Need-drop-mark-requires
-drop-mark-requires c κs = search needs
 
 returns-3 : tie.Need-returns-3
 returns-3 c =
@@ -26,4 +21,4 @@ returns-3 c =
 
 pub cut-mark-spec : {M : Type 1} → statement M
 cut-mark-spec =
-    tie.close (tie.spec returns place-of-requires returns-2 drop-mark-requires returns-3)
+    tie.close (tie.spec returns (λ c κs. search needs) returns-2 (λ c κs. search needs) returns-3)

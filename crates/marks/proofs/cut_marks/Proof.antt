@@ -1,16 +1,17 @@
+-- `marks::cut_marks` meets its contract.
 use Prim.Native.Nat.{ℕ, _+_, _/_, _^_}
 use mathlib.Core.Path.{_≡_, refl, sym, ap, subst, _∙_}
 use native.Mathlib.Omega.{arith}
 use native.Mathlib.Nat.{div-one, pow-zero}
 use borrow.Author.Needs.{needs}
 use Rattle.history.specs.Machine.{cutMarks}
-use Rattle.marks.specs.Marked.{digits, Marked}
+use Rattle.marks.specs.Marked.{binary, Marked}
 use Rattle.marks.proofs.MarkLaws.{cutTo, cut-start, left-marks, left-half, cut-turn, cut-end, cut-marked}
 use Rattle.marks.proofs.cut_marks.Statement.{statement}
 use Rattle.marks.proofs.cut_marks.Tie as tie
 
 abbrev Inv-loop : tie.InvT-loop
-Inv-loop set places p s₀ left₀ a₀ s left a = (left ≡ set / 2 ^ a) × (s ≡ digits 64 1 (cutTo a p places set))
+Inv-loop set places p s₀ left₀ a₀ s left a = (left ≡ set / 2 ^ a) × (s ≡ binary 64 1 (cutTo a p places set))
 
 abbrev μ-loop : tie.MeasureT-loop
 μ-loop set places p s₀ left₀ a₀ s left a = left
@@ -24,9 +25,6 @@ add-a : tie.Need-add-a Inv-loop μ-loop
 add-a c =
     let l = c .before .loop in
     omega (arith, left-marks (c .before .before .args .set) (l .left) (l .a) (c .before .before .fits .set .fits) (l .inv .0) (c .loop-test .taken))
-
-cut-mark-requires : tie.Need-cut-mark-requires Inv-loop μ-loop
-cut-mark-requires c κs = search needs
 
 loop-less : tie.Need-loop-less Inv-loop μ-loop
 loop-less c = omega (arith, c .before .loop-test .taken)
@@ -51,4 +49,4 @@ returns c =
 pub cut-marks-spec : {M : Type 1} → statement M
 cut-marks-spec =
     tie.close
-    (tie.spec Inv-loop μ-loop loop-holds add-a cut-mark-requires loop-less loop-again returns)
+    (tie.spec Inv-loop μ-loop loop-holds add-a (λ c κs. search needs) loop-less loop-again returns)

@@ -1,3 +1,4 @@
+-- `marks::drop_mark` meets its contract.
 use mathlib.Core.Path.{refl, sym, _∙_}
 use native.Mathlib.Omega.{arith}
 use borrow.Author.Tests.{not-true, not-false}
@@ -6,9 +7,6 @@ use Rattle.marks.proofs.MarkLaws.{in-range, without-is, in-set, mark-go
 use borrow.Author.Needs.{needs}
 use Rattle.marks.proofs.drop_mark.Statement.{statement}
 use Rattle.marks.proofs.drop_mark.Tie as tie
-
-stands-requires : tie.Need-stands-requires
-stands-requires c κs = search needs
 
 returns : tie.Need-returns
 returns c =
@@ -20,9 +18,6 @@ sub-k c =
     let a = c .before .before .args in
     let w = in-range (a .set) (a .a) (sym (c .before .stands .ensures) ∙ not-false _ (c .if1 .left)) in
     omega (arith, w .0, w .1)
-
-cast-result : tie.Need-cast-result
-cast-result c = search needs
 
 shl-result : tie.Need-shl-result
 shl-result c =
@@ -41,4 +36,4 @@ returns-2 c =
 
 pub drop-mark-spec : {M : Type 1} → statement M
 drop-mark-spec =
-    tie.close (tie.spec stands-requires returns sub-k cast-result shl-result returns-2)
+    tie.close (tie.spec (λ c κs. search needs) returns sub-k (λ c. search needs) shl-result returns-2)

@@ -1,3 +1,4 @@
+-- `marks::is_mark` meets its contract.
 use native.Mathlib.Omega.{arith}
 use borrow.Author.Tests.{le-leb}
 use Rattle.marks.proofs.is_mark.Statement.{statement}

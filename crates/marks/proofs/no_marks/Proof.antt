@@ -1,3 +1,4 @@
+-- `marks::no_marks` meets its contract.
 use mathlib.Core.Path.{refl}
 use Rattle.marks.proofs.MarkLaws.{none-marked}
 use Rattle.marks.proofs.no_marks.Statement.{statement}

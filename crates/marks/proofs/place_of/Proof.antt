@@ -1,3 +1,4 @@
+-- `marks::place_of` meets its contract.
 use mathlib.Core.Path.{sym, _∙_}
 use native.Mathlib.Omega.{arith}
 use borrow.Author.Tests.{not-true, not-false}
@@ -6,9 +7,6 @@ use borrow.Author.Needs.{needs}
 use Rattle.marks.proofs.place_of.Statement.{statement}
 use Rattle.marks.proofs.place_of.Tie as tie
 
-is-mark-requires : tie.Need-is-mark-requires
-is-mark-requires c κs = search needs
-
 returns : tie.Need-returns
 returns c = rw (sym (c .before .is-mark .ensures) ∙ not-true _ (c .if1 .taken))
 
@@ -16,12 +14,6 @@ sub-k : tie.Need-sub-k
 sub-k c =
     let w = within-range 1 64 (c .before .before .args .a) (sym (c .before .is-mark .ensures) ∙ not-false _ (c .if1 .left)) in
     omega (arith, w .0, w .1)
-
-cast-result : tie.Need-cast-result
-cast-result c = search needs
-
-mul-result : tie.Need-mul-result
-mul-result c = search needs
 
 element-copy-out-result : tie.Need-element-copy-out-result
 element-copy-out-result c =
@@ -35,10 +27,10 @@ pub place-of-spec : {M : Type 1} → statement M
 place-of-spec =
     tie.close
     (tie.spec
-    is-mark-requires
+    (λ c κs. search needs)
     returns
     sub-k
-    cast-result
-    mul-result
+    (λ c. search needs)
+    (λ c. search needs)
     element-copy-out-result
     returns-2)

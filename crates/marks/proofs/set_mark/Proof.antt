@@ -1,3 +1,4 @@
+-- `marks::set_mark` meets its contract.
 use mathlib.Core.Path.{refl, sym, _∙_}
 use native.Mathlib.Omega.{arith}
 use borrow.Author.Tests.{not-true, not-false}
@@ -6,9 +7,6 @@ use Rattle.marks.proofs.MarkLaws.{with-is, in-set, mark-put}
 use borrow.Author.Needs.{needs}
 use Rattle.marks.proofs.set_mark.Statement.{statement}
 use Rattle.marks.proofs.set_mark.Tie as tie
-
-is-mark-requires : tie.Need-is-mark-requires
-is-mark-requires c κs = search needs
 
 returns : tie.Need-returns
 returns c =
@@ -22,19 +20,10 @@ sub-k c =
     let w = within-range 1 64 (c .before .before .args .a) (sym (c .before .is-mark .ensures) ∙ not-false _ (c .if1 .left)) in
     omega (arith, w .0, w .1)
 
-cast-places : tie.Need-cast-places
-cast-places c = search needs
-
-mul-places : tie.Need-mul-places
-mul-places c = search needs
-
 element-write-places : tie.Need-element-write-places
 element-write-places c =
     let w = within-range 1 64 (c .before .before .args .a) (sym (c .before .is-mark .ensures) ∙ not-false _ (c .if1 .left)) in
     omega (arith, w .0, w .1)
-
-cast-result : tie.Need-cast-result
-cast-result c = search needs
 
 shl-result : tie.Need-shl-result
 shl-result c =
@@ -57,12 +46,12 @@ pub set-mark-spec : {M : Type 1} → statement M
 set-mark-spec =
     tie.close
     (tie.spec
-    is-mark-requires
+    (λ c κs. search needs)
     returns
     sub-k
-    cast-places
-    mul-places
+    (λ c. search needs)
+    (λ c. search needs)
     element-write-places
-    cast-result
+    (λ c. search needs)
     shl-result
     returns-2)

@@ -1,3 +1,4 @@
+-- `marks::stands` meets its contract.
 use mathlib.Core.Path.{sym, _∙_}
 use native.Mathlib.Omega.{arith}
 use borrow.Author.Tests.{not-true, not-false}
@@ -6,9 +7,6 @@ use borrow.Author.Needs.{needs}
 use Rattle.marks.proofs.stands.Statement.{statement}
 use Rattle.marks.proofs.stands.Tie as tie
 
-is-mark-requires : tie.Need-is-mark-requires
-is-mark-requires c κs = search needs
-
 returns : tie.Need-returns
 returns c = rw (sym (c .before .is-mark .ensures) ∙ not-true _ (c .if1 .taken))
 
@@ -16,9 +14,6 @@ sub-k : tie.Need-sub-k
 sub-k c =
     let w = within-range 1 64 (c .before .before .args .a) (sym (c .before .is-mark .ensures) ∙ not-false _ (c .if1 .left)) in
     omega (arith, w .0, w .1)
-
-cast-result : tie.Need-cast-result
-cast-result c = search needs
 
 shr-result : tie.Need-shr-result
 shr-result c =
@@ -29,4 +24,4 @@ returns-2 : tie.Need-returns-2
 returns-2 c = rw (sym (c .before .is-mark .ensures) ∙ not-false _ (c .if1 .left))
 
 pub stands-spec : {M : Type 1} → statement M
-stands-spec = tie.close (tie.spec is-mark-requires returns sub-k cast-result shr-result returns-2)
+stands-spec = tie.close (tie.spec (λ c κs. search needs) returns sub-k (λ c. search needs) shr-result returns-2)

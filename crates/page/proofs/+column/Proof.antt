@@ -1,6 +1,6 @@
-use mathlib.Core.Path.{refl, sym, ap, _∙_}
+-- `page::+column` meets its contract.
+use mathlib.Core.Path.{refl, _∙_}
 use native.Mathlib.Omega.{arith}
-use borrow.Author.Needs.{needs}
 use lib.ListN.{length-set, length-replicate}
 use Rattle.decimal.proofs.Stores.{stored-byte, stored-then, stored-as}
 use Rattle.page.proofs.Columns.{column-length, stored-none, column-single, column-tens}

@@ -11,18 +11,6 @@ use Rattle.page.proofs.print.Tie as tie
 loads : (c : tie.Else1) → loadCode pageBounds (c .before .before .before .before .before .args .words .now) ≡ 0
 loads c = sym (c .before .code-of .ensures ∙ ap codeOf (c .before .before .check .ensures)) ∙ c .if1 .left
 
-check-requires : tie.Need-check-requires
-check-requires c κs = search needs
-
-code-of-requires : tie.Need-code-of-requires
-code-of-requires c κs = search needs
-
-offset-of-requires : tie.Need-offset-of-requires
-offset-of-requires c κs = search needs
-
-cast-t10 : tie.Need-cast-t10
-cast-t10 c = search needs
-
 returns : tie.Need-returns
 returns c =
     let k = c .before .before in
@@ -30,23 +18,11 @@ returns c =
     let a = k .before .before .before .before .args in
     page-refused (a .words .now) (a .page .now) _ _ (k .code-of .ensures ∙ ap codeOf v) (c .offset-of .ensures ∙ ap offsetOf v) (c .before .if1 .taken)
 
-part-requires : tie.Need-part-requires
-part-requires c κs = search needs
-
-mul-if2 : tie.Need-mul-if2
-mul-if2 c = search needs
-
 returns-2 : tie.Need-returns-2
 returns-2 c =
     let d = c .before in
     let a = d .before .before .before .before .before .before .args in
     page-short (a .words .now) _ (loads (d .before)) (d .part .ensures .0) (a .page .now) (c .if2 .taken)
-
-rows-requires : tie.Need-rows-requires
-rows-requires c κs = search needs
-
-same-length : tie.Need-same-length
-same-length c = search needs
 
 returns-3 : tie.Need-returns-3
 returns-3 c =
@@ -60,14 +36,14 @@ pub print-spec : {M : Type 1} → statement M
 print-spec =
     tie.close
     (tie.spec
-    check-requires
-    code-of-requires
-    offset-of-requires
-    cast-t10
+    (λ c κs. search needs)
+    (λ c κs. search needs)
+    (λ c κs. search needs)
+    (λ c. search needs)
     returns
-    part-requires
-    mul-if2
+    (λ c κs. search needs)
+    (λ c. search needs)
     returns-2
-    rows-requires
-    same-length
+    (λ c κs. search needs)
+    (λ c. search needs)
     returns-3)

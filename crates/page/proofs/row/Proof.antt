@@ -47,35 +47,14 @@ after-5 c = let p = after-4 (fourth c) in (omega (arith, p .0, simp reading-leng
 
 -- ---- the needs
 
-shared-slice-read-cell : tie.Need-shared-slice-read-cell
-shared-slice-read-cell c = search needs
-
-cell-requires : tie.Need-cell-requires
-cell-requires c κs = search needs
-
-shared-slice-read-cell-2 : tie.Need-shared-slice-read-cell-2
-shared-slice-read-cell-2 c = search needs
-
 cell-requires-2 : tie.Need-cell-requires-2
 cell-requires-2 c κs = let d = c .before .before .before .before in let p = after-1 d in omega (arith, p .0, p .1, start d .pre .1)
-
-shared-slice-read-cell-3 : tie.Need-shared-slice-read-cell-3
-shared-slice-read-cell-3 c = search needs
 
 cell-requires-3 : tie.Need-cell-requires-3
 cell-requires-3 c κs = let d = c .before .before .before .before in let p = after-2 d in omega (arith, p .0, p .1, start (first d) .pre .1)
 
-shared-slice-read-cell-4 : tie.Need-shared-slice-read-cell-4
-shared-slice-read-cell-4 c = search needs
-
 cell-requires-4 : tie.Need-cell-requires-4
 cell-requires-4 c κs = let d = c .before .before .before .before in let p = after-3 d in omega (arith, p .0, p .1, start (first (second d)) .pre .1)
-
-shared-slice-read-reading : tie.Need-shared-slice-read-reading
-shared-slice-read-reading c = search needs
-
-shared-slice-read-reading-2 : tie.Need-shared-slice-read-reading-2
-shared-slice-read-reading-2 c = search needs
 
 reading-requires : tie.Need-reading-requires
 reading-requires c κs =
@@ -115,16 +94,16 @@ pub row-spec : {M : Type 1} → statement M
 row-spec =
     tie.close
     (tie.spec
-    shared-slice-read-cell
-    cell-requires
-    shared-slice-read-cell-2
+    (λ c. search needs)
+    (λ c κs. search needs)
+    (λ c. search needs)
     cell-requires-2
-    shared-slice-read-cell-3
+    (λ c. search needs)
     cell-requires-3
-    shared-slice-read-cell-4
+    (λ c. search needs)
     cell-requires-4
-    shared-slice-read-reading
-    shared-slice-read-reading-2
+    (λ c. search needs)
+    (λ c. search needs)
     reading-requires
     slice-write-out
     add-result

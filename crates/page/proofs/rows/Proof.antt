@@ -1,3 +1,4 @@
+-- `page::rows` meets its contract.
 use mathlib.Core.Path.{_≡_, refl, sym, ap, _∙_}
 use native.Mathlib.Omega.{arith}
 use borrow.Author.Needs.{needs}
@@ -21,18 +22,6 @@ abbrev μ-loop : tie.MeasureT-loop
 loop-holds : tie.Need-loop-holds Inv-loop μ-loop
 loop-holds c = let a = c .before .before .args in (omega arith, refl, refl, refl, rows-start (a .out .now) (a .words .now) (a .count))
 
-mul-row : tie.Need-mul-row Inv-loop μ-loop
-mul-row c = search needs
-
-sub-row : tie.Need-sub-row Inv-loop μ-loop
-sub-row c = search needs
-
-part-row-start : tie.Need-part-row-start Inv-loop μ-loop
-part-row-start c = search needs
-
-part-row-end : tie.Need-part-row-end Inv-loop μ-loop
-part-row-end c = search needs
-
 row-requires : tie.Need-row-requires Inv-loop μ-loop
 row-requires c κs =
     let l = c .before .before .before .loop in
@@ -41,15 +30,6 @@ row-requires c κs =
       omega (arith, ap length (rest-all ws (l .from)), length-drop (l .from) ws, a .pre .0, l .inv .1),
       omega (arith, a .pre .1, l .inv .2, l .inv .3),
     )
-
-add-from : tie.Need-add-from Inv-loop μ-loop
-add-from c = search needs
-
-add-i : tie.Need-add-i Inv-loop μ-loop
-add-i c = search needs
-
-loop-less : tie.Need-loop-less Inv-loop μ-loop
-loop-less c = search needs
 
 loop-again : tie.Need-loop-again Inv-loop μ-loop
 loop-again c =
@@ -64,9 +44,6 @@ loop-again c =
       d .kept .1 .0 ∙ l .inv .3,
       stored-left (rowsFrom (a .count - (l .i + 1)) (drop (l .from + 6) ws)) (rowsFrom (a .count - l .i) (drop (l .from) ws)) (d .ensures) (rows-turn ws (a .count) (l .i) (l .from) h) ∙ l .inv .4,
     )
-
-same-length : tie.Need-same-length Inv-loop μ-loop
-same-length c = search needs
 
 returns : tie.Need-returns Inv-loop μ-loop
 returns c =
@@ -86,14 +63,14 @@ rows-spec =
     Inv-loop
     μ-loop
     loop-holds
-    mul-row
-    sub-row
-    part-row-start
-    part-row-end
+    (λ c. search needs)
+    (λ c. search needs)
+    (λ c. search needs)
+    (λ c. search needs)
     row-requires
-    add-from
-    add-i
-    loop-less
+    (λ c. search needs)
+    (λ c. search needs)
+    (λ c. search needs)
     loop-again
-    same-length
+    (λ c. search needs)
     returns)

@@ -1,3 +1,4 @@
+-- `timeline::begin` meets its contract.
 use mathlib.Core.Path.{refl}
 use Rattle.timeline.proofs.Steps.{journal-begin}
 use Rattle.timeline.proofs.begin.Statement.{statement}

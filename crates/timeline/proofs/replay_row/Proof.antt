@@ -1,38 +1,48 @@
-use Rattle.tables.specs.Tables.{st}
-use Rattle.timeline.proofs.JournalRowLaws.{row-room, row-can, row-tape}
+-- `timeline::replay_row` meets its contract.
+use Prim.Native.Nat.{ℕ, _+_, _*_, _≤_}
+use mathlib.Core.Path.{sym, ap, subst, _∙_}
+use lib.ListN.{length}
+use Rattle.graph.specs.declared.Edit.{Edit}
+use Rattle.graph_tables.specs.Tables.{state}
+use Rattle.graph_tables.specs.Edits.{applyS, Can}
+use Rattle.timeline.proofs.JournalRowLaws.{edit-is, row-word, row-room, row-can, row-done}
 use borrow.Author.Needs.{needs}
 use Rattle.timeline.proofs.replay_row.Statement.{statement}
 use Rattle.timeline.proofs.replay_row.Tie as tie
 
-edit-between-requires : tie.Need-edit-between-requires
-edit-between-requires c κs =
+row-crossed-requires : tie.Need-row-crossed-requires
+row-crossed-requires c κs =
     let s = c .before .before .before in
     let a = s .args in
     let p = s .pre in
-    row-room (p .0) (a .t .now) (p .1) (p .2) (st (a .head) (a .vt .now) (a .et .now)) (p .3) (a .u) (a .v) (p .4) (p .5) (p .6)
+    row-word (p .0) (a .t .now) (p .1) (p .2) _ (a .u) (p .4) (a .back) (p .3)
+
+row-at-requires : tie.Need-row-at-requires
+row-at-requires c κs =
+    let s = c .before .before .before .before in
+    let a = s .args in
+    let p = s .pre in
+    subst (λ (i : ℕ). 12 * i + 12 ≤ length (a .t .now)) (sym (c .row-crossed .ensures))
+    (row-room (p .0) (a .t .now) (p .1) (p .2) _ (a .u) (p .4) (a .back) (p .3))
 
 apply-edit-requires : tie.Need-apply-edit-requires
 apply-edit-requires c κs =
-    let e = c .before .before .edit-between in
-    let s = c .before .before .before .before .before .before in
+    let s = c .before .before .before .before .before .before .before in
     let a = s .args in
     let p = s .pre in
-    row-can (p .0) (a .t .now) (p .1) (p .2) (st (a .head) (a .vt .now) (a .et .now)) (p .3) (a .u) (a .v) (p .4) (p .5) (p .6) (e .result) (e .ensures .0) (e .ensures .1)
-
-same-length : tie.Need-same-length
-same-length c = search needs
-
-same-length-2 : tie.Need-same-length-2
-same-length-2 c = search needs
+    let e = edit-is (a .t .now) (a .back) (a .u) _ _ (c .before .before .before .row-crossed .ensures) (c .before .before .row-at .ensures) in
+    subst (λ (x : Edit). Can x (state (a .head) (a .vt .now) (a .et .now))) (sym e)
+    (row-can (p .0) (a .t .now) (p .1) (p .2) _ (a .u) (p .4) (a .back) (p .3))
 
 returns : tie.Need-returns
 returns c =
-    λ b g n to i d k.
-    let e = c .before .before .before .before .before .before .before .edit-between in
-    let a = c .before .before .before .before .before .before .before .before .before .before .before .args in
-    row-tape b (a .t .now) g n (st (a .head) (a .vt .now) (a .et .now)) to (a .u) (a .v) i d k (e .result) (e .ensures .0) (e .ensures .1) _ (c .before .before .before .before .apply-edit .ensures)
+    λ b g n h k.
+    let a = c .before .before .before .before .before .before .before .before .before .before .before .before .args in
+    let s₀ = state (a .head) (a .vt .now) (a .et .now) in
+    let e = edit-is (a .t .now) (a .back) (a .u) _ _ (c .before .before .before .before .before .before .before .before .row-crossed .ensures) (c .before .before .before .before .before .before .before .row-at .ensures) in
+    row-done b (a .t .now) g n s₀ (a .u) k (a .back) h _ (c .before .before .before .before .apply-edit .ensures ∙ ap (λ (x : Edit). applyS x s₀) e)
 
 pub replay-row-spec : {M : Type 1} → statement M
 replay-row-spec =
     tie.close
-    (tie.spec edit-between-requires apply-edit-requires same-length same-length-2 returns)
+    (tie.spec row-crossed-requires row-at-requires apply-edit-requires (λ c. search needs) (λ c. search needs) returns)

@@ -7,36 +7,6 @@ use borrow.Author.Needs.{needs}
 use Rattle.transcript.proofs.respond.Statement.{statement}
 use Rattle.transcript.proofs.respond.Tie as tie
 
-slice-aggregate-run : tie.Need-slice-aggregate-run
-slice-aggregate-run c = search needs
-
-slice-aggregate-run-2 : tie.Need-slice-aggregate-run-2
-slice-aggregate-run-2 c = search needs
-
-slice-aggregate-run-3 : tie.Need-slice-aggregate-run-3
-slice-aggregate-run-3 c = search needs
-
-slice-aggregate-run-4 : tie.Need-slice-aggregate-run-4
-slice-aggregate-run-4 c = search needs
-
-slice-aggregate-run-5 : tie.Need-slice-aggregate-run-5
-slice-aggregate-run-5 c = search needs
-
-slice-aggregate-run-6 : tie.Need-slice-aggregate-run-6
-slice-aggregate-run-6 c = search needs
-
-slice-aggregate-run-7 : tie.Need-slice-aggregate-run-7
-slice-aggregate-run-7 c = search needs
-
-run-requires : tie.Need-run-requires
-run-requires c κs = search needs
-
-slice-aggregate-shown : tie.Need-slice-aggregate-shown
-slice-aggregate-shown c = search needs
-
-slice-aggregate-shown-2 : tie.Need-slice-aggregate-shown-2
-slice-aggregate-shown-2 c = search needs
-
 ran-as : (c : tie.After-run) →
     Shows
     (c .before .before .before .before .before .before .before .before .before .args .calls .now)
@@ -65,15 +35,15 @@ pub respond-spec : {M : Type 1} → statement M
 respond-spec =
     tie.close
     (tie.spec
-    slice-aggregate-run
-    slice-aggregate-run-2
-    slice-aggregate-run-3
-    slice-aggregate-run-4
-    slice-aggregate-run-5
-    slice-aggregate-run-6
-    slice-aggregate-run-7
-    run-requires
-    slice-aggregate-shown
-    slice-aggregate-shown-2
+    (λ c. search needs)
+    (λ c. search needs)
+    (λ c. search needs)
+    (λ c. search needs)
+    (λ c. search needs)
+    (λ c. search needs)
+    (λ c. search needs)
+    (λ c κs. search needs)
+    (λ c. search needs)
+    (λ c. search needs)
     shown-requires
     returns)

@@ -9,17 +9,11 @@ use borrow.Author.Needs.{needs}
 use Rattle.transcript.proofs.shown.Statement.{statement}
 use Rattle.transcript.proofs.shown.Tie as tie
 
-mul-count : tie.Need-mul-count
-mul-count c = search needs
-
 slice-aggregate-write : tie.Need-slice-aggregate-write
 slice-aggregate-write c = sym (length-take-le _ _ (c .before .before .before .pre .0))
 
 slice-aggregate-write-2 : tie.Need-slice-aggregate-write-2
 slice-aggregate-write-2 c = sym (length-take-le _ _ (c .before .before .before .before .pre .1))
-
-write-requires : tie.Need-write-requires
-write-requires c κs = search needs
 
 returns : tie.Need-returns
 returns c =
@@ -29,4 +23,4 @@ returns c =
     written-as _ _ (c .write .result) _ _ (sym (bounded-whole _ _ (omega (arith, a, d .pre .2)) (omega (arith, b, d .pre .3)))) (c .write .ensures)
 
 pub shown-spec : {M : Type 1} → statement M
-shown-spec = tie.close (tie.spec mul-count slice-aggregate-write slice-aggregate-write-2 write-requires returns)
+shown-spec = tie.close (tie.spec (λ c. search needs) slice-aggregate-write slice-aggregate-write-2 (λ c κs. search needs) returns)

@@ -7,12 +7,6 @@ use borrow.Author.Needs.{needs}
 use Rattle.transcript.proofs.transcribe.Statement.{statement}
 use Rattle.transcript.proofs.transcribe.Tie as tie
 
-read-requires : tie.Need-read-requires
-read-requires c κs = search needs
-
-enum-known-verdict : tie.Need-enum-known-verdict
-enum-known-verdict c = search needs
-
 got : (c : tie.After-verdict) →
     CallsRead
     (c .before .before .before .before .before .args .bytes .now)
@@ -31,12 +25,6 @@ slice-aggregate-respond c = sym (length-take-le _ _ (got (c .before .before) .fi
 respond-requires : tie.Need-respond-requires
 respond-requires c κs = let k = got (c .before .before .before) in (k .whole, k .few)
 
-enum-known-verdict-2 : tie.Need-enum-known-verdict-2
-enum-known-verdict-2 c = search needs
-
-write-unreadable-requires : tie.Need-write-unreadable-requires
-write-unreadable-requires c κs = search needs
-
 returns : tie.Need-returns
 returns c = written-as _ _ (c .respond .result) _ _ (got (c .before .before .before .before) .text) (c .respond .ensures)
 
@@ -47,12 +35,12 @@ pub transcribe-spec : {M : Type 1} → statement M
 transcribe-spec =
     tie.close
     (tie.spec
-    read-requires
-    enum-known-verdict
+    (λ c κs. search needs)
+    (λ c. search needs)
     array-share-prefix-calls
     slice-aggregate-respond
     respond-requires
-    enum-known-verdict-2
-    write-unreadable-requires
+    (λ c. search needs)
+    (λ c κs. search needs)
     returns
     returns-2)

@@ -1,3 +1,4 @@
+-- `vectors::leads` meets its contract.
 use Prim.Native.Nat.{_-_}
 use lib.ListN.{length}
 use borrow.Author.Needs.{needs}
@@ -10,49 +11,19 @@ Inv-loop line name i₀ i = Unit {0}
 abbrev μ-loop : tie.MeasureT-loop
 μ-loop line name i₀ i = length name - i
 
-loop-holds : tie.Need-loop-holds Inv-loop μ-loop
-loop-holds c = search needs
-
-byte-requires : tie.Need-byte-requires Inv-loop μ-loop
-byte-requires c κs = search needs
-
-byte-requires-2 : tie.Need-byte-requires-2 Inv-loop μ-loop
-byte-requires-2 c κs = search needs
-
-returns : tie.Need-returns Inv-loop μ-loop
-returns c = search needs
-
-add-i : tie.Need-add-i Inv-loop μ-loop
-add-i c = search needs
-
-loop-less : tie.Need-loop-less Inv-loop μ-loop
-loop-less c = search needs
-
-loop-again : tie.Need-loop-again Inv-loop μ-loop
-loop-again c = search needs
-
-byte-requires-3 : tie.Need-byte-requires-3 Inv-loop μ-loop
-byte-requires-3 c κs = search needs
-
-returns-2 : tie.Need-returns-2 Inv-loop μ-loop
-returns-2 c = search needs
-
-returns-3 : tie.Need-returns-3 Inv-loop μ-loop
-returns-3 c = search needs
-
 pub leads-spec : {M : Type 1} → statement M
 leads-spec =
     tie.close
     (tie.spec
     Inv-loop
     μ-loop
-    loop-holds
-    byte-requires
-    byte-requires-2
-    returns
-    add-i
-    loop-less
-    loop-again
-    byte-requires-3
-    returns-2
-    returns-3)
+    (λ c. search needs)
+    (λ c κs. search needs)
+    (λ c κs. search needs)
+    (λ c. search needs)
+    (λ c. search needs)
+    (λ c. search needs)
+    (λ c. search needs)
+    (λ c κs. search needs)
+    (λ c. search needs)
+    (λ c. search needs))

@@ -2,11 +2,12 @@
 use Prim.Native.Nat.{_-_, _≤_}
 use mathlib.Core.Path.{_≡_, refl, _∙_}
 use native.Mathlib.Omega.{arith}
-use lib.ListN.{length, take, length-set, length-take, length-drop}
+use lib.ListN.{length, take, length-set}
 use borrow.Author.Needs.{needs}
 use Rattle.history.specs.Machine.{Machine}
 use Rattle.machine.specs.Calls.{Parameters}
 use Rattle.commands.specs.Calls.{callsOf}
+use Rattle.history_calls.specs.Memory.{memory}
 use Rattle.engine.specs.Running.{Running}
 use Rattle.engine.specs.Calls.{AfterCalls}
 use Rattle.engine.proofs.CallLaws.{after-calls-none, after-calls-more, after-calls-all}
@@ -14,49 +15,22 @@ use Rattle.engine.proofs.calls.each.Statement.{statement}
 use Rattle.engine.proofs.calls.each.Tie as tie
 
 abbrev Inv-loop : tie.InvT-loop
-Inv-loop vt₀ et₀ t₀ places₀ closed types calls answers₀ n y₀ k₀ vt et t places answers y k =
+Inv-loop vt₀ et₀ t₀ marks₀ closed types calls answers₀ n y₀ k₀ vt et t marks answers y k =
     (k ≤ n) × (length vt ≡ length vt₀) × (length et ≡ length et₀) × (length t ≡ length t₀) × (length answers ≡ length answers₀)
-    × ((w : Parameters) → (m : Machine) → Running w y₀ vt₀ et₀ t₀ places₀ closed types m
-    → AfterCalls w m (take k (callsOf calls)) y vt et t places closed types answers₀ answers)
+    × ((w : Parameters) → (m : Machine) → Running w y₀ (memory vt₀ et₀ t₀ marks₀) closed types m
+    → AfterCalls w m (take k (callsOf calls)) y (memory vt et t marks) closed types answers₀ answers)
 
 abbrev μ-loop : tie.MeasureT-loop
-μ-loop vt₀ et₀ t₀ places₀ closed types calls answers₀ n y₀ k₀ vt et t places answers y k = n - k
+μ-loop vt₀ et₀ t₀ marks₀ closed types calls answers₀ n y₀ k₀ vt et t marks answers y k = n - k
 
 loop-holds : tie.Need-loop-holds Inv-loop μ-loop
-loop-holds c = (omega arith, refl, refl, refl, refl, λ w m h. after-calls-none w m _ _ _ _ _ _ _ _ (c .before .before .before .before .before .args .answers .now) h)
-
-mul-decode : tie.Need-mul-decode Inv-loop μ-loop
-mul-decode c = search needs
-
-mul-decode-2 : tie.Need-mul-decode-2 Inv-loop μ-loop
-mul-decode-2 c = search needs
-
-add-decode : tie.Need-add-decode Inv-loop μ-loop
-add-decode c = search needs
-
-mul-decode-3 : tie.Need-mul-decode-3 Inv-loop μ-loop
-mul-decode-3 c = search needs
-
-sub-decode : tie.Need-sub-decode Inv-loop μ-loop
-sub-decode c = search needs
-
-part-decode-start : tie.Need-part-decode-start Inv-loop μ-loop
-part-decode-start c = search needs
-
-part-decode-end : tie.Need-part-decode-end Inv-loop μ-loop
-part-decode-end c = search needs
-
-decode-requires : tie.Need-decode-requires Inv-loop μ-loop
-decode-requires c κs = simp (length-take, length-drop) (omega arith)
+loop-holds c = (omega arith, refl, refl, refl, refl, λ w m h. after-calls-none w m _ _ _ _ _ (c .before .before .before .before .before .args .answers .now) h)
 
 step-requires : tie.Need-step-requires Inv-loop μ-loop
 step-requires c κs =
     let p = c .before .before .before .before .before .before .before .before .before .before .before .before .before .pre .0 in
     let g = c .before .before .before .before .before .before .before .loop .inv .5 (p .0) (p .1) (p .2) in
-    (p .0, _, g .stands)
-
-same-requires : tie.Need-same-requires Inv-loop μ-loop
-same-requires c κs = search needs
+    (p .0, _, g .after)
 
 mul-answers : tie.Need-mul-answers Inv-loop μ-loop
 mul-answers c = omega (arith, c .before .before .before .before .before .before .before .before .before .before .before .before .before .before)
@@ -82,9 +56,6 @@ slice-write-answers-2 c = simp length-set (omega (arith, c .before .before .befo
 add-k : tie.Need-add-k Inv-loop μ-loop
 add-k c = omega (arith, c .before .before .before .before .before .before .before .before .before .before .before .before .before .before)
 
-loop-less : tie.Need-loop-less Inv-loop μ-loop
-loop-less c = search needs
-
 loop-again : tie.Need-loop-again Inv-loop μ-loop
 loop-again c =
     let s = c .before .before .before .before .before .before .before .step in
@@ -96,7 +67,7 @@ loop-again c =
       s .kept .1 .1 .1 .0 ∙ l .inv .3,
       simp length-set (l .inv .4),
       λ w m h.
-          rw (c .same .ensures) (after-calls-more w m _ _ _ _ _ _ _ _ _ (a .calls .now) (l .k) _ (s .result) _ _ _ _ (l .inv .5 w m h) (c .before .before .before .before .before .before .before .before .before .before .before .before .decode .ensures) (s .ensures)
+          rw (c .same .ensures) (after-calls-more w m _ _ _ _ _ _ (a .calls .now) (l .k) _ (s .result) _ (l .inv .5 w m h) (c .before .before .before .before .before .before .before .before .before .before .before .before .decode .ensures) (s .ensures)
           (omega (arith, c .before .before .before .before .before .before .before .before .before .before .before .before .before .before)) (omega (arith, c .before .before .before .before .before .before .before .before .before .before .before .before .before .before))),
     )
 
@@ -115,7 +86,7 @@ same-length-4 c = c .before .loop .inv .4
 returns : tie.Need-returns Inv-loop μ-loop
 returns c =
     let l = c .before .loop in
-    λ w m h. after-calls-all w m _ _ _ _ _ _ _ _ _ (c .before .before .before .before .before .before .before .args .calls .now) (l .k) (omega arith) (l .inv .5 w m h)
+    λ w m h. after-calls-all w m _ _ _ _ _ _ (c .before .before .before .before .before .before .before .args .calls .now) (l .k) (omega arith) (l .inv .5 w m h)
 
 pub each-spec : {M : Type 1} → statement M
 each-spec =
@@ -124,16 +95,16 @@ each-spec =
     Inv-loop
     μ-loop
     loop-holds
-    mul-decode
-    mul-decode-2
-    add-decode
-    mul-decode-3
-    sub-decode
-    part-decode-start
-    part-decode-end
-    decode-requires
+    (λ c. search needs)
+    (λ c. search needs)
+    (λ c. search needs)
+    (λ c. search needs)
+    (λ c. search needs)
+    (λ c. search needs)
+    (λ c. search needs)
+    (λ c κs. search needs)
     step-requires
-    same-requires
+    (λ c κs. search needs)
     mul-answers
     mul-answers-2
     slice-write-answers
@@ -142,7 +113,7 @@ each-spec =
     mul-answers-4
     slice-write-answers-2
     add-k
-    loop-less
+    (λ c. search needs)
     loop-again
     same-length
     same-length-2

@@ -5,22 +5,13 @@ use borrow.Author.Tests.{not-true, not-false}
 use Rattle.engine.proofs.refusals.in_limits.Statement.{statement}
 use Rattle.engine.proofs.refusals.in_limits.Tie as tie
 
-at-most-requires : tie.Need-at-most-requires
-at-most-requires c κs = search needs
-
 returns : tie.Need-returns
 returns c = rw (sym (c .before .at-most .ensures) ∙ not-true (c .before .at-most .result) (c .if1 .taken))
-
-at-most-requires-2 : tie.Need-at-most-requires-2
-at-most-requires-2 c κs = search needs
 
 returns-2 : tie.Need-returns-2
 returns-2 c =
     let d = c .before .before in
     rw (sym (d .before .at-most .ensures) ∙ not-false (d .before .at-most .result) (d .if1 .left), sym (c .before .at-most2 .ensures) ∙ not-true (c .before .at-most2 .result) (c .if2 .taken))
-
-at-most-requires-3 : tie.Need-at-most-requires-3
-at-most-requires-3 c κs = search needs
 
 returns-3 : tie.Need-returns-3
 returns-3 c =
@@ -28,4 +19,4 @@ returns-3 c =
     rw (sym (d .before .at-most .ensures) ∙ not-false (d .before .at-most .result) (d .if1 .left), sym (c .before .before .at-most2 .ensures) ∙ not-false (c .before .before .at-most2 .result) (c .before .if2 .left)) (c .at-most3 .ensures)
 
 pub in-limits-spec : {M : Type 1} → statement M
-in-limits-spec = tie.close (tie.spec at-most-requires returns at-most-requires-2 returns-2 at-most-requires-3 returns-3)
+in-limits-spec = tie.close (tie.spec (λ c κs. search needs) returns (λ c κs. search needs) returns-2 (λ c κs. search needs) returns-3)

@@ -10,16 +10,10 @@ use Rattle.engine.proofs.refusals.lengths_code.Tie as tie
 returns : tie.Need-returns
 returns c = rw (ne-eqb (c .before .args .calls % 5) 0 (c .if1 .taken))
 
-mul-if2 : tie.Need-mul-if2
-mul-if2 c = search needs
-
 returns-2 : tie.Need-returns-2
 returns-2 c =
     let a = c .before .before .args in
     rw (eq-eqb (a .calls % 5) 0 (c .before .if1 .left), lt-ltb (a .answers) (2 * (a .calls / 5)) (omega arith))
-
-in-limits-requires : tie.Need-in-limits-requires
-in-limits-requires c κs = search needs
 
 returns-3 : tie.Need-returns-3
 returns-3 c =
@@ -42,4 +36,4 @@ returns-4 c =
     )
 
 pub lengths-code-spec : {M : Type 1} → statement M
-lengths-code-spec = tie.close (tie.spec returns mul-if2 returns-2 in-limits-requires returns-3 returns-4)
+lengths-code-spec = tie.close (tie.spec returns (λ c. search needs) returns-2 (λ c κs. search needs) returns-3 returns-4)

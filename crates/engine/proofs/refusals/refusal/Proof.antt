@@ -5,8 +5,8 @@ use Prim.Native.Nat.{_≤_, _/_}
 use native.Mathlib.Omega.{arith}
 use borrow.Author.Needs.{needs}
 use lib.ListN.{length}
-use Rattle.types.specs.Rows.{goodRows}
-use Rattle.types.proofs.RowLaws.{verdict-good, verdict-bad, good-facts}
+use Rattle.type_rows.specs.Rows.{goodRows}
+use Rattle.type_rows.proofs.RowLaws.{verdict-good, verdict-bad, good-facts}
 use Rattle.graph.specs.WellFormed.{Bounds}
 use Rattle.image.specs.Checks.{bounds, verdict}
 use Rattle.image.proofs.Headers.{checked-same}
@@ -30,20 +30,8 @@ rows-good c = verdict-good _ _ (c .before .before .check-rows .ensures) (c .enum
 
 -- ---- the needs
 
-lengths-code-requires : tie.Need-lengths-code-requires
-lengths-code-requires c κs = search needs
-
 returns : tie.Need-returns
 returns c = λ l h. lengths-refused l _ _ _ _ _ _ _ _ h _ (c .before .lengths-code .ensures) (c .if1 .taken)
-
-check-rows-requires : tie.Need-check-rows-requires
-check-rows-requires c κs = search needs
-
-enum-told : tie.Need-enum-told
-enum-told c = search needs
-
-enum-told-2 : tie.Need-enum-told-2
-enum-told-2 c = search needs
 
 returns-2 : tie.Need-returns-2
 returns-2 c =
@@ -58,9 +46,6 @@ cast-check-2 c = omega (arith, limits (c .before .before .before) .1)
 cast-check-3 : tie.Need-cast-check-3
 cast-check-3 c = omega (arith, good-facts (c .before .before .before .before .before .before .before .args .rows .now) (rows-good c) .few)
 
-check-requires : tie.Need-check-requires
-check-requires c κs = search needs
-
 -- capacities that 103 lets pass are checked as they are
 found : (c : tie.After-check) → let a = c .before .before .before .before .before .before .before .before .args in
     c .check .result ≡ verdict (bounds (a .vertices / 8) (a .edges / 12) (length (a .rows .now))) (a .start .now)
@@ -68,12 +53,6 @@ found c =
     let a = c .before .before .before .before .before .before .before .before .args in
     let l = limits (c .before .before .before .before) in
     c .check .ensures ∙ ap (λ (b : Bounds). verdict b (a .start .now)) (checked-same (a .vertices / 8) (a .edges / 12) (length (a .rows .now)) (l .0) (l .1))
-
-code-of-requires : tie.Need-code-of-requires
-code-of-requires c κs = search needs
-
-offset-of-requires : tie.Need-offset-of-requires
-offset-of-requires c κs = search needs
 
 returns-3 : tie.Need-returns-3
 returns-3 c =
@@ -106,18 +85,18 @@ pub refusal-spec : {M : Type 1} → statement M
 refusal-spec =
     tie.close
     (tie.spec
-    lengths-code-requires
+    (λ c κs. search needs)
     returns
-    check-rows-requires
-    enum-told
-    enum-told-2
+    (λ c κs. search needs)
+    (λ c. search needs)
+    (λ c. search needs)
     returns-2
     cast-check
     cast-check-2
     cast-check-3
-    check-requires
-    code-of-requires
-    offset-of-requires
+    (λ c κs. search needs)
+    (λ c κs. search needs)
+    (λ c κs. search needs)
     returns-3
     length-requires
     returns-4

@@ -19,12 +19,6 @@ told c =
     let a = c .before .before .before .before .before .before .before .before .before .args in
     c .refusal .ensures (given c) (lends (a .start .now) (a .rows .now) (a .calls .now) (a .vertices .now) (a .edges .now) (a .journal .now) (a .answers .now) (a .image .now))
 
-refusal-requires : tie.Need-refusal-requires
-refusal-requires c κs = search needs
-
-cast-t17 : tie.Need-cast-t17
-cast-t17 c = search needs
-
 returns : tie.Need-returns
 returns c =
     let d = c .before .before .before in
@@ -34,21 +28,6 @@ returns c =
 
 accepted-requires : tie.Need-accepted-requires
 accepted-requires c κs = sym (told (c .before .before .before .before .before .before .before) .0) ∙ c .before .before .before .before .before .if1 .left
-
-same-length : tie.Need-same-length
-same-length c = search needs
-
-same-length-2 : tie.Need-same-length-2
-same-length-2 c = search needs
-
-same-length-3 : tie.Need-same-length-3
-same-length-3 c = search needs
-
-same-length-4 : tie.Need-same-length-4
-same-length-4 c = search needs
-
-same-length-5 : tie.Need-same-length-5
-same-length-5 c = search needs
 
 returns-2 : tie.Need-returns-2
 returns-2 c =
@@ -61,13 +40,13 @@ pub run-spec : {M : Type 1} → statement M
 run-spec =
     tie.close
     (tie.spec
-    refusal-requires
-    cast-t17
+    (λ c κs. search needs)
+    (λ c. search needs)
     returns
     accepted-requires
-    same-length
-    same-length-2
-    same-length-3
-    same-length-4
-    same-length-5
+    (λ c. search needs)
+    (λ c. search needs)
+    (λ c. search needs)
+    (λ c. search needs)
+    (λ c. search needs)
     returns-2)

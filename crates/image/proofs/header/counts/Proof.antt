@@ -1,3 +1,4 @@
+-- `image::header::counts` meets its contract.
 use borrow.Author.Tests.{le-leb, lt-leb, eq-eqb, ne-eqb}
 use Rattle.image.specs.Checks.{soundCounts}
 use Rattle.image.proofs.header.counts.Statement.{statement}

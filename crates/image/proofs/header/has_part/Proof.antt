@@ -6,9 +6,6 @@ use Rattle.image.specs.Parts.{hasPart}
 use Rattle.image.proofs.header.has_part.Statement.{statement}
 use Rattle.image.proofs.header.has_part.Tie as tie
 
-sound-requires : tie.Need-sound-requires
-sound-requires c κs = search needs
-
 returns : tie.Need-returns
 unfolding hasPart
 returns c = rw (sym (c .before .sound .ensures) ∙ not-true (c .before .sound .result) (c .if1 .taken))
@@ -26,4 +23,4 @@ returns-3 c =
     rw (sym (d .before .sound .ensures) ∙ not-false (d .before .sound .result) (d .if1 .left)) (simp (le-leb _ _ (c .if2 .left)))
 
 pub has-part-spec : {M : Type 1} → statement M
-has-part-spec = tie.close (tie.spec sound-requires returns returns-2 returns-3)
+has-part-spec = tie.close (tie.spec (λ c κs. search needs) returns returns-2 returns-3)

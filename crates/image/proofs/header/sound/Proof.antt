@@ -5,18 +5,6 @@ use Rattle.image.proofs.Headers.{bad-2, bad-3, bad-4, bad-5, last}
 use Rattle.image.proofs.header.sound.Statement.{statement}
 use Rattle.image.proofs.header.sound.Tie as tie
 
-record-size-requires : tie.Need-record-size-requires
-record-size-requires c κs = search needs
-
-word-requires : tie.Need-word-requires
-word-requires c κs = search needs
-
-word-requires-2 : tie.Need-word-requires-2
-word-requires-2 c κs = search needs
-
-word-requires-3 : tie.Need-word-requires-3
-word-requires-3 c κs = search needs
-
 returns : tie.Need-returns
 returns c =
     let a = c .before in
@@ -25,12 +13,6 @@ returns c =
     let e = a .before .word2 in
     bad-2 (a .before .before .before .before .before .args .words .now) (s .result) (v .result) (e .result) (s .ensures .0) (v .ensures .0) (e .ensures .0)
     (λ x. c .if1 .taken (a .word3 .ensures .0 ∙ x))
-
-word-requires-4 : tie.Need-word-requires-4
-word-requires-4 c κs = search needs
-
-edge-offset-requires : tie.Need-edge-offset-requires
-edge-offset-requires c κs = search needs
 
 returns-2 : tie.Need-returns-2
 returns-2 c =
@@ -42,12 +24,6 @@ returns-2 c =
     bad-3 (a .before .before .before .before .before .args .words .now) (s .result) (v .result) (e .result) (s .ensures .0) (v .ensures .0) (e .ensures .0)
     (sym (a .word3 .ensures .0) ∙ f .if1 .left)
     (λ x. c .if2 .taken (c .before .before .word4 .ensures .0 ∙ x ∙ sym (c .before .edge-offset .ensures .0)))
-
-word-requires-5 : tie.Need-word-requires-5
-word-requires-5 c κs = search needs
-
-incidence-offset-requires : tie.Need-incidence-offset-requires
-incidence-offset-requires c κs = search needs
 
 returns-3 : tie.Need-returns-3
 returns-3 c =
@@ -61,12 +37,6 @@ returns-3 c =
     (sym (a .word3 .ensures .0) ∙ f .if1 .left)
     (sym (g .before .before .word4 .ensures .0) ∙ g .if2 .left ∙ g .before .edge-offset .ensures .0)
     (λ x. c .if3 .taken (c .before .before .word5 .ensures .0 ∙ x ∙ sym (c .before .incidence-offset .ensures .0)))
-
-length-requires : tie.Need-length-requires
-length-requires c κs = search needs
-
-word-requires-6 : tie.Need-word-requires-6
-word-requires-6 c κs = search needs
 
 returns-4 : tie.Need-returns-4
 returns-4 c =
@@ -104,18 +74,18 @@ pub sound-spec : {M : Type 1} → statement M
 sound-spec =
     tie.close
     (tie.spec
-    record-size-requires
-    word-requires
-    word-requires-2
-    word-requires-3
+    (λ c κs. search needs)
+    (λ c κs. search needs)
+    (λ c κs. search needs)
+    (λ c κs. search needs)
     returns
-    word-requires-4
-    edge-offset-requires
+    (λ c κs. search needs)
+    (λ c κs. search needs)
     returns-2
-    word-requires-5
-    incidence-offset-requires
+    (λ c κs. search needs)
+    (λ c κs. search needs)
     returns-3
-    length-requires
-    word-requires-6
+    (λ c κs. search needs)
+    (λ c κs. search needs)
     returns-4
     returns-5)

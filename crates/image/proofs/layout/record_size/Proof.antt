@@ -6,24 +6,12 @@ use Rattle.image.proofs.Sizes.{shows-new, shows-old, shows-none}
 use Rattle.image.proofs.layout.record_size.Statement.{statement}
 use Rattle.image.proofs.layout.record_size.Tie as tie
 
-word-requires : tie.Need-word-requires
-word-requires c κs = search needs
-
-word-requires-2 : tie.Need-word-requires-2
-word-requires-2 c κs = search needs
-
-edge-offset-requires : tie.Need-edge-offset-requires
-edge-offset-requires c κs = search needs
-
 returns : tie.Need-returns
 returns c =
     let ws = c .before .before .before .before .before .args .words .now in
     let v = c .before .before .before .word in
     let o = c .before .before .word2 in
     (shows-new ws (v .result) (o .result) (v .ensures .0) (o .ensures .0) (c .if1 .taken ∙ c .before .edge-offset .ensures .0), omega arith)
-
-edge-offset-requires-2 : tie.Need-edge-offset-requires-2
-edge-offset-requires-2 c κs = search needs
 
 returns-2 : tie.Need-returns-2
 returns-2 c =
@@ -50,4 +38,4 @@ returns-3 c =
 pub record-size-spec : {M : Type 1} → statement M
 record-size-spec =
     tie.close
-    (tie.spec word-requires word-requires-2 edge-offset-requires returns edge-offset-requires-2 returns-2 returns-3)
+    (tie.spec (λ c κs. search needs) (λ c κs. search needs) (λ c κs. search needs) returns (λ c κs. search needs) returns-2 returns-3)

@@ -12,35 +12,11 @@ use Rattle.image.proofs.ScratchPass.{pass-1, pass-2, pass-3, pass-4}
 use Rattle.image.proofs.passes.all.Statement.{statement}
 use Rattle.image.proofs.passes.all.Tie as tie
 
-slice-aggregate-vertices : tie.Need-slice-aggregate-vertices
-slice-aggregate-vertices c = search needs
-
-vertices-requires : tie.Need-vertices-requires
-vertices-requires c κs = search needs
-
-enum-told : tie.Need-enum-told
-enum-told c = search needs
-
 returns : tie.Need-returns
 returns c =
     let a = c .before .before .before .before .before .before .before .args in
     let p = c .before .before .vertices in
     pass-1 (replicate 1001 0) (replicate 8002 0) (bounds (a .vcap) (a .ecap) (a .types)) (a .size) (a .v) (a .e) (a .vs .now) (a .es .now) (a .is .now) (p .result) (p .ensures .0) (c .match .keys2)
-
-wide-requires : tie.Need-wide-requires
-wide-requires c κs = search needs
-
-edge-offset-requires : tie.Need-edge-offset-requires
-edge-offset-requires c κs = search needs
-
-cast-edges : tie.Need-cast-edges
-cast-edges c = search needs
-
-slice-aggregate-edges : tie.Need-slice-aggregate-edges
-slice-aggregate-edges c = search needs
-
-slice-aggregate-edges-2 : tie.Need-slice-aggregate-edges-2
-slice-aggregate-edges-2 c = search needs
 
 edges-requires : tie.Need-edges-requires
 edges-requires c κs =
@@ -64,9 +40,6 @@ second c =
     let from : o .result ≡ edgeOffset (a .size) (a .v) = o .ensures .0 ∙ ap (edgeOffset (a .size)) (c .before .before .before .before .wide .ensures .0) in
     c .edges .ensures .0 ∙ ap (λ (n : ℕ). edgeRun (a .ecap) (a .types) (c .before .before .before .before .before .before .before .before .vertices .last .1 .1 .1 .0) (replicate 8002 0) (a .e) (a .es .now) n) from
 
-enum-told-2 : tie.Need-enum-told-2
-enum-told-2 c = search needs
-
 returns-2 : tie.Need-returns-2
 returns-2 c =
     let a = c .before .before .before .before .before .before .before .before .before .before .before .before .before .before .before .before .args in
@@ -74,15 +47,6 @@ returns-2 c =
     let q = c .before .before .before .edges in
     let t = c .before .before .before .before .before .before .before .before .enum-told .given .1 in
     pass-2 (replicate 1001 0) (replicate 8002 0) (bounds (a .vcap) (a .ecap) (a .types)) (a .size) (a .v) (a .e) (a .vs .now) (a .es .now) (a .is .now) (p .result) (p .ensures .0) t (p .last .1 .1 .1 .0) (p .ensures .1 t) (q .result) (second (c .before .before .before)) (c .match2 .keys2)
-
-slice-aggregate-degrees : tie.Need-slice-aggregate-degrees
-slice-aggregate-degrees c = search needs
-
-degrees-requires : tie.Need-degrees-requires
-degrees-requires c κs = search needs
-
-enum-told-3 : tie.Need-enum-told-3
-enum-told-3 c = search needs
 
 returns-3 : tie.Need-returns-3
 returns-3 c =
@@ -94,24 +58,6 @@ returns-3 c =
     let u = c .before .before .before .enum-told2 .given .1 in
     pass-3 (replicate 1001 0) (replicate 8002 0) (bounds (a .vcap) (a .ecap) (a .types)) (a .size) (a .v) (a .e) (a .vs .now) (a .es .now) (a .is .now) (p .result) (p .ensures .0) t (p .last .1 .1 .1 .0) (p .ensures .1 t) (q .result) (second (c .before .before .before .before .before .before .before)) u
     (q .last .1 .1 .1 .0) (q .ensures .1 u .0) (y .result) (y .ensures) (c .match3 .keys2)
-
-wide-requires-2 : tie.Need-wide-requires-2
-wide-requires-2 c κs = search needs
-
-wide-requires-3 : tie.Need-wide-requires-3
-wide-requires-3 c κs = search needs
-
-incidence-offset-requires : tie.Need-incidence-offset-requires
-incidence-offset-requires c κs = search needs
-
-cast-incidences : tie.Need-cast-incidences
-cast-incidences c = search needs
-
-slice-aggregate-incidences : tie.Need-slice-aggregate-incidences
-slice-aggregate-incidences c = search needs
-
-slice-aggregate-incidences-2 : tie.Need-slice-aggregate-incidences-2
-slice-aggregate-incidences-2 c = search needs
 
 incidences-requires : tie.Need-incidences-requires
 incidences-requires c κs =
@@ -139,27 +85,27 @@ pub all-spec : {M : Type 1} → statement M
 all-spec =
     tie.close
     (tie.spec
-    slice-aggregate-vertices
-    vertices-requires
-    enum-told
+    (λ c. search needs)
+    (λ c κs. search needs)
+    (λ c. search needs)
     returns
-    wide-requires
-    edge-offset-requires
-    cast-edges
-    slice-aggregate-edges
-    slice-aggregate-edges-2
+    (λ c κs. search needs)
+    (λ c κs. search needs)
+    (λ c. search needs)
+    (λ c. search needs)
+    (λ c. search needs)
     edges-requires
-    enum-told-2
+    (λ c. search needs)
     returns-2
-    slice-aggregate-degrees
-    degrees-requires
-    enum-told-3
+    (λ c. search needs)
+    (λ c κs. search needs)
+    (λ c. search needs)
     returns-3
-    wide-requires-2
-    wide-requires-3
-    incidence-offset-requires
-    cast-incidences
-    slice-aggregate-incidences
-    slice-aggregate-incidences-2
+    (λ c κs. search needs)
+    (λ c κs. search needs)
+    (λ c κs. search needs)
+    (λ c. search needs)
+    (λ c. search needs)
+    (λ c. search needs)
     incidences-requires
     returns-4)

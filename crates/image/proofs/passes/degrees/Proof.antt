@@ -28,30 +28,6 @@ loop-holds c =
     let e : a .count - 0 ≡ a .count = omega arith in
     (omega arith, omega arith, rw e)
 
-word-requires : tie.Need-word-requires Inv-loop μ-loop
-word-requires c κs = search needs
-
-get-requires : tie.Need-get-requires Inv-loop μ-loop
-get-requires c κs = search needs
-
-less-one-requires : tie.Need-less-one-requires Inv-loop μ-loop
-less-one-requires c κs = search needs
-
-add-get : tie.Need-add-get Inv-loop μ-loop
-add-get c = omega arith
-
-get-requires-2 : tie.Need-get-requires-2 Inv-loop μ-loop
-get-requires-2 c κs = search needs
-
-cast-t12 : tie.Need-cast-t12 Inv-loop μ-loop
-cast-t12 c = omega arith
-
-add-t13 : tie.Need-add-t13 Inv-loop μ-loop
-add-t13 c = omega arith
-
-add-t14 : tie.Need-add-t14 Inv-loop μ-loop
-add-t14 c = omega arith
-
 returns-2 : tie.Need-returns-2 Inv-loop μ-loop
 returns-2 c =
     let s = c .before .before .before .before .before .before .before .before .before .before in
@@ -65,15 +41,6 @@ returns-2 c =
     let degree = degree-at (a .deg .now) (a .part .now) (l .at) (w .result) (g .result) (d .result) (w .ensures .0) (g .ensures) (d .ensures) in
     degree-stop (a .count) (l .i) (a .part .now) 6 (l .at) (omega (arith, c .before .before .before .before .before .loop-test)) (a .size) four (a .deg .now) (d .result) (x .result) degree (x .ensures) (c .if2 .taken)
     ∙ l .inv .2
-
-add-at : tie.Need-add-at Inv-loop μ-loop
-add-at c = omega arith
-
-add-i : tie.Need-add-i Inv-loop μ-loop
-add-i c = omega arith
-
-loop-less : tie.Need-loop-less Inv-loop μ-loop
-loop-less c = omega arith
 
 loop-again : tie.Need-loop-again Inv-loop μ-loop
 loop-again c =
@@ -106,17 +73,17 @@ degrees-spec =
     μ-loop
     returns
     loop-holds
-    word-requires
-    get-requires
-    less-one-requires
-    add-get
-    get-requires-2
-    cast-t12
-    add-t13
-    add-t14
+    (λ c κs. search needs)
+    (λ c κs. search needs)
+    (λ c κs. search needs)
+    (λ c. omega arith)
+    (λ c κs. search needs)
+    (λ c. omega arith)
+    (λ c. omega arith)
+    (λ c. omega arith)
     returns-2
-    add-at
-    add-i
-    loop-less
+    (λ c. omega arith)
+    (λ c. omega arith)
+    (λ c. omega arith)
     loop-again
     returns-3)

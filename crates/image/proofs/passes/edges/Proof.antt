@@ -5,7 +5,7 @@ use mathlib.Core.List.{List}
 use native.Mathlib.Omega.{arith}
 use borrow.Author.Needs.{needs}
 use lib.ListN.{length, drop}
-use Rattle.image.specs.Scratch.{Below, edgeRun, edgeDegrees, edgeOwners}
+use Rattle.image.specs.Scratch.{NoneAbove, edgeRun, edgeDegrees, edgeOwners}
 use Rattle.image.proofs.Turns.{edge-stop, edge-go, degrees-go, owners-go, edge-end, good-at, below-ends, below-more}
 use Rattle.image.proofs.passes.edges.Statement.{statement}
 use Rattle.image.proofs.passes.edges.Tie as tie
@@ -13,7 +13,7 @@ use Rattle.image.proofs.Verdicts.{record-not}
 
 abbrev Inv-loop : tie.InvT-loop
 Inv-loop part count from deg₀ own₀ cap types i₀ at₀ deg own i at =
-    (i ≤ count) × (at ≡ 6 * i) × (length deg ≡ length deg₀) × (length own ≡ length own₀) × Below (1 + at) deg
+    (i ≤ count) × (at ≡ 6 * i) × (length deg ≡ length deg₀) × (length own ≡ length own₀) × NoneAbove (1 + at) deg
     × (edgeRun cap types deg own (count - i) (drop at part) (from + at) ≡ edgeRun cap types deg₀ own₀ count part from)
     × (edgeDegrees deg (count - i) (drop at part) ≡ edgeDegrees deg₀ count part)
     × (edgeOwners own (count - i) (drop at part) ≡ edgeOwners own₀ count part)
@@ -27,24 +27,6 @@ loop-holds c =
     let e : a .count - 0 ≡ a .count = omega arith in
     let z : a .from + 0 ≡ a .from = omega arith in
     (omega arith, omega arith, refl, refl, c .before .before .before .pre .3, rw (e, z), rw e, rw e)
-
-edge-good-requires : tie.Need-edge-good-requires Inv-loop μ-loop
-edge-good-requires c κs = omega arith
-
-cast-t16 : tie.Need-cast-t16 Inv-loop μ-loop
-cast-t16 c = omega arith
-
-add-t17 : tie.Need-add-t17 Inv-loop μ-loop
-add-t17 c = omega arith
-
-add-t18 : tie.Need-add-t18 Inv-loop μ-loop
-add-t18 c = omega arith
-
-same-length : tie.Need-same-length Inv-loop μ-loop
-same-length c = search needs
-
-same-length-2 : tie.Need-same-length-2 Inv-loop μ-loop
-same-length-2 c = search needs
 
 returns : tie.Need-returns Inv-loop μ-loop
 returns c =
@@ -63,15 +45,6 @@ edge-enter-requires c κs =
       below-more (1 + l .at) 900000 (l .deg) (omega arith) (l .inv .4),
     )
 
-add-at : tie.Need-add-at Inv-loop μ-loop
-add-at c = omega arith
-
-add-i : tie.Need-add-i Inv-loop μ-loop
-add-i c = omega arith
-
-loop-less : tie.Need-loop-less Inv-loop μ-loop
-loop-less c = omega arith
-
 loop-again : tie.Need-loop-again Inv-loop μ-loop
 loop-again c =
     let a = c .before .before .before .before .before .before .before .before .before .before .before .before .before .before .before .before .args in
@@ -82,18 +55,12 @@ loop-again c =
       omega arith,
       omega (arith, e .kept),
       omega (arith, e .kept),
-      subst (λ (d : List ℕ). Below (1 + (l .at + 6)) d) (sym (e .ensures .0)) (below-ends (l .at) (l .deg) _ _ (l .inv .4)),
+      subst (λ (d : List ℕ). NoneAbove (1 + (l .at + 6)) d) (sym (e .ensures .0)) (below-ends (l .at) (l .deg) _ _ (l .inv .4)),
       rw (e .ensures .0, e .ensures .1)
           (edge-go (a .count) (l .i) (a .part .now) (a .from) (l .at) (omega arith) (a .cap) (a .types) (l .deg) (l .own) (g .result) (g .ensures) (c .before .before .before .before .before .before .before .if1 .left) ∙ l .inv .5),
       rw (e .ensures .0) (degrees-go (a .count) (l .i) (a .part .now) (a .from) (l .at) (omega arith) (l .deg) ∙ l .inv .6),
       rw (e .ensures .1) (owners-go (a .count) (l .i) (a .part .now) (a .from) (l .at) (omega arith) (l .own) ∙ l .inv .7),
     )
-
-same-length-3 : tie.Need-same-length-3 Inv-loop μ-loop
-same-length-3 c = search needs
-
-same-length-4 : tie.Need-same-length-4 Inv-loop μ-loop
-same-length-4 c = search needs
 
 returns-2 : tie.Need-returns-2 Inv-loop μ-loop
 returns-2 c =
@@ -109,18 +76,18 @@ edges-spec =
     Inv-loop
     μ-loop
     loop-holds
-    edge-good-requires
-    cast-t16
-    add-t17
-    add-t18
-    same-length
-    same-length-2
+    (λ c κs. omega arith)
+    (λ c. omega arith)
+    (λ c. omega arith)
+    (λ c. omega arith)
+    (λ c. search needs)
+    (λ c. search needs)
     returns
     edge-enter-requires
-    add-at
-    add-i
-    loop-less
+    (λ c. omega arith)
+    (λ c. omega arith)
+    (λ c. omega arith)
     loop-again
-    same-length-3
-    same-length-4
+    (λ c. search needs)
+    (λ c. search needs)
     returns-2)

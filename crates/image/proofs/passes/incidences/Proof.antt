@@ -24,27 +24,6 @@ loop-holds c =
     let z : a .from + 0 ≡ a .from = omega arith in
     (omega arith, omega arith, omega arith, refl, rw (e, z))
 
-get-requires : tie.Need-get-requires Inv-loop μ-loop
-get-requires c κs = search needs
-
-wide-requires : tie.Need-wide-requires Inv-loop μ-loop
-wide-requires c κs = search needs
-
-get-requires-2 : tie.Need-get-requires-2 Inv-loop μ-loop
-get-requires-2 c κs = search needs
-
-less-one-requires : tie.Need-less-one-requires Inv-loop μ-loop
-less-one-requires c κs = search needs
-
-list-requires : tie.Need-list-requires Inv-loop μ-loop
-list-requires c κs = search needs
-
-cast-t19 : tie.Need-cast-t19 Inv-loop μ-loop
-cast-t19 c = omega arith
-
-add-t20 : tie.Need-add-t20 Inv-loop μ-loop
-add-t20 c = omega arith
-
 add-t21 : tie.Need-add-t21 Inv-loop μ-loop
 add-t21 c =
     let a = c .before .before .before .before .before .before .before .before .before .before .before .before .before .before .before .args in
@@ -57,9 +36,6 @@ add-t21 c =
     let e = list-le (v .result) (d .result) (l .own) (drop (l .at) (a .part .now)) in
     let m = length-drop (l .at) (a .part .now) in
     omega (arith, f .ensures .0, e .1, m, l .inv .2, c .before .before .before .before .before .before .before .before .before .before .before .before .before .before .before .pre .2, c .before .before .before .before .before .before .before .before .before .before .before .before .before .before .before .pre .3)
-
-same-length : tie.Need-same-length Inv-loop μ-loop
-same-length c = search needs
 
 returns : tie.Need-returns Inv-loop μ-loop
 returns c =
@@ -75,9 +51,6 @@ returns c =
     incidence-stop (a .size) (a .deg .now) (l .own) (a .count) (l .i) (a .vs .now) (a .part .now) (a .from) (l .row) (l .at) (d .result) (f .result) (omega (arith, c .before .before .before .before .before .before .before .before .before .loop-test)) deg good (c .if1 .taken)
     ∙ l .inv .4
 
-wide-requires-2 : tie.Need-wide-requires-2 Inv-loop μ-loop
-wide-requires-2 c κs = search needs
-
 -- where the whole list is there, it is within the part
 add-at : tie.Need-add-at Inv-loop μ-loop
 add-at c =
@@ -91,15 +64,6 @@ add-at c =
     let e = list-le (v .result) (d .result) (l .own) (drop (l .at) (a .part .now)) in
     let m = length-drop (l .at) (a .part .now) in
     omega (arith, f .ensures .0, e .1, m, l .inv .2, c .before .before .before .before .before .before .before .before .before .before .before .before .before .before .before .before .pre .2, c .before .if1 .left, c .wide2 .ensures .0)
-
-add-row : tie.Need-add-row Inv-loop μ-loop
-add-row c = omega arith
-
-add-i : tie.Need-add-i Inv-loop μ-loop
-add-i c = omega arith
-
-loop-less : tie.Need-loop-less Inv-loop μ-loop
-loop-less c = omega arith
 
 loop-again : tie.Need-loop-again Inv-loop μ-loop
 loop-again c =
@@ -126,23 +90,11 @@ loop-again c =
       rw (u .ensures .0, f .ensures .1 full) (go ∙ l .inv .4),
     )
 
-cast-t24 : tie.Need-cast-t24 Inv-loop μ-loop
-cast-t24 c = omega arith
-
-add-t25 : tie.Need-add-t25 Inv-loop μ-loop
-add-t25 c = omega arith
-
-same-length-2 : tie.Need-same-length-2 Inv-loop μ-loop
-same-length-2 c = search needs
-
 returns-2 : tie.Need-returns-2 Inv-loop μ-loop
 returns-2 c =
     let a = c .before .before .before .before .before .before .before .args in
     let l = c .before .before .loop in
     incidence-more (a .size) (a .deg .now) (l .own) (a .count) (l .i) (drop (l .row) (a .vs .now)) (a .part .now) (l .at) (a .from + l .at) (omega arith) (c .if2 .taken) ∙ l .inv .4
-
-same-length-3 : tie.Need-same-length-3 Inv-loop μ-loop
-same-length-3 c = search needs
 
 returns-3 : tie.Need-returns-3 Inv-loop μ-loop
 returns-3 c =
@@ -157,25 +109,25 @@ incidences-spec =
     Inv-loop
     μ-loop
     loop-holds
-    get-requires
-    wide-requires
-    get-requires-2
-    less-one-requires
-    list-requires
-    cast-t19
-    add-t20
+    (λ c κs. search needs)
+    (λ c κs. search needs)
+    (λ c κs. search needs)
+    (λ c κs. search needs)
+    (λ c κs. search needs)
+    (λ c. omega arith)
+    (λ c. omega arith)
     add-t21
-    same-length
+    (λ c. search needs)
     returns
-    wide-requires-2
+    (λ c κs. search needs)
     add-at
-    add-row
-    add-i
-    loop-less
+    (λ c. omega arith)
+    (λ c. omega arith)
+    (λ c. omega arith)
     loop-again
-    cast-t24
-    add-t25
-    same-length-2
+    (λ c. omega arith)
+    (λ c. omega arith)
+    (λ c. search needs)
     returns-2
-    same-length-3
+    (λ c. search needs)
     returns-3)

@@ -23,23 +23,11 @@ loop-holds c =
     let e : c .before .before .args .d - 0 ≡ c .before .before .args .d = omega arith in
     (omega arith, omega arith, refl, rw e (omega arith), rw e)
 
-same-length : tie.Need-same-length Inv-loop μ-loop
-same-length c = search needs
-
 returns : tie.Need-returns Inv-loop μ-loop
 returns c =
     let a = c .before .before .before .before .before .args in
     let l = c .before .before .loop in
     (omega (arith, list-end (a .v) (a .d) (l .k) (l .i) (l .own) (a .part .now) (omega arith) (omega arith)), λ e. absurd (omega arith))
-
-word-requires : tie.Need-word-requires Inv-loop μ-loop
-word-requires c κs = search needs
-
-get-requires : tie.Need-get-requires Inv-loop μ-loop
-get-requires c κs = search needs
-
-same-length-2 : tie.Need-same-length-2 Inv-loop μ-loop
-same-length-2 c = search needs
 
 returns-2 : tie.Need-returns-2 Inv-loop μ-loop
 returns-2 c =
@@ -49,18 +37,6 @@ returns-2 c =
     let g = c .before .get in
     let o = own-by (l .own) (a .part .now) (l .i) (w .result) (g .result) (w .ensures .0) (g .ensures) in
     (omega (arith, list-miss (a .v) (a .d) (l .k) (l .i) (l .own) (a .part .now) (omega arith) (omega arith) (λ y. c .if2 .taken (sym o ∙ y))), λ e. absurd (omega arith))
-
-put-requires : tie.Need-put-requires Inv-loop μ-loop
-put-requires c κs = search needs
-
-add-k : tie.Need-add-k Inv-loop μ-loop
-add-k c = omega arith
-
-add-i : tie.Need-add-i Inv-loop μ-loop
-add-i c = omega arith
-
-loop-less : tie.Need-loop-less Inv-loop μ-loop
-loop-less c = omega arith
 
 loop-again : tie.Need-loop-again Inv-loop μ-loop
 loop-again c =
@@ -79,9 +55,6 @@ loop-again c =
       rw o (sym (list-owners (a .v) (a .d) (l .k) (l .i) (l .own) (a .part .now) (omega arith) (omega arith)) ∙ l .inv .4),
     )
 
-same-length-3 : tie.Need-same-length-3 Inv-loop μ-loop
-same-length-3 c = search needs
-
 returns-3 : tie.Need-returns-3 Inv-loop μ-loop
 returns-3 c =
     let a = c .before .before .before .before .args in
@@ -96,16 +69,16 @@ list-spec =
     Inv-loop
     μ-loop
     loop-holds
-    same-length
+    (λ c. search needs)
     returns
-    word-requires
-    get-requires
-    same-length-2
+    (λ c κs. search needs)
+    (λ c κs. search needs)
+    (λ c. search needs)
     returns-2
-    put-requires
-    add-k
-    add-i
-    loop-less
+    (λ c κs. search needs)
+    (λ c. omega arith)
+    (λ c. omega arith)
+    (λ c. omega arith)
     loop-again
-    same-length-3
+    (λ c. search needs)
     returns-3)

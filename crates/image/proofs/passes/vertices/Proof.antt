@@ -22,36 +22,6 @@ abbrev μ-loop : tie.MeasureT-loop
 loop-holds : tie.Need-loop-holds Inv-loop μ-loop
 loop-holds c = let e : c .before .before .args .count - 0 ≡ c .before .before .args .count = omega arith in (omega arith, omega arith, refl, rw e, rw e)
 
-get-requires : tie.Need-get-requires Inv-loop μ-loop
-get-requires c κs = search needs
-
-add-get : tie.Need-add-get Inv-loop μ-loop
-add-get c = omega arith
-
-get-requires-2 : tie.Need-get-requires-2 Inv-loop μ-loop
-get-requires-2 c κs = search needs
-
-wide-requires : tie.Need-wide-requires Inv-loop μ-loop
-wide-requires c κs = search needs
-
-get-requires-3 : tie.Need-get-requires-3 Inv-loop μ-loop
-get-requires-3 c κs = search needs
-
-good-vertex-requires : tie.Need-good-vertex-requires Inv-loop μ-loop
-good-vertex-requires c κs = search needs
-
-cast-t18 : tie.Need-cast-t18 Inv-loop μ-loop
-cast-t18 c = omega arith
-
-add-t19 : tie.Need-add-t19 Inv-loop μ-loop
-add-t19 c = omega arith
-
-add-t20 : tie.Need-add-t20 Inv-loop μ-loop
-add-t20 c = omega arith
-
-same-length : tie.Need-same-length Inv-loop μ-loop
-same-length c = search needs
-
 returns : tie.Need-returns Inv-loop μ-loop
 returns c =
     let a = c .before .before .before .before .before .before .before .before .before .before .before .args in
@@ -63,21 +33,6 @@ returns c =
     let g = c .before .good-vertex in
     let good = vertex-by (a .cap) (a .types) (l .deg) (a .part .now) (l .at) (n .result) (w .result) (f .result) (t .result) (g .result) (n .ensures) (w .ensures .0) (f .ensures) (t .ensures) (g .ensures) in
     (vertex-stop (a .count) (l .i) (a .part .now) 6 (l .at) (omega arith) (a .size) (a .cap) (a .types) (l .deg) (g .result) good (c .if1 .taken) ∙ l .inv .3, λ e. absurd (record-not e))
-
-wide-requires-2 : tie.Need-wide-requires-2 Inv-loop μ-loop
-wide-requires-2 c κs = search needs
-
-put-requires : tie.Need-put-requires Inv-loop μ-loop
-put-requires c κs = search needs
-
-add-at : tie.Need-add-at Inv-loop μ-loop
-add-at c = omega arith
-
-add-i : tie.Need-add-i Inv-loop μ-loop
-add-i c = omega arith
-
-loop-less : tie.Need-loop-less Inv-loop μ-loop
-loop-less c = omega arith
 
 loop-again : tie.Need-loop-again Inv-loop μ-loop
 loop-again c =
@@ -99,9 +54,6 @@ loop-again c =
       rw new (marks-go (a .count) (l .i) (a .part .now) 6 (l .at) (omega arith) (a .size) (l .deg) ∙ l .inv .4),
     )
 
-same-length-2 : tie.Need-same-length-2 Inv-loop μ-loop
-same-length-2 c = search needs
-
 returns-2 : tie.Need-returns-2 Inv-loop μ-loop
 returns-2 c =
     let a = c .before .before .before .before .args in
@@ -116,22 +68,22 @@ vertices-spec =
     Inv-loop
     μ-loop
     loop-holds
-    get-requires
-    add-get
-    get-requires-2
-    wide-requires
-    get-requires-3
-    good-vertex-requires
-    cast-t18
-    add-t19
-    add-t20
-    same-length
+    (λ c κs. search needs)
+    (λ c. omega arith)
+    (λ c κs. search needs)
+    (λ c κs. search needs)
+    (λ c κs. search needs)
+    (λ c κs. search needs)
+    (λ c. omega arith)
+    (λ c. omega arith)
+    (λ c. omega arith)
+    (λ c. search needs)
     returns
-    wide-requires-2
-    put-requires
-    add-at
-    add-i
-    loop-less
+    (λ c κs. search needs)
+    (λ c κs. search needs)
+    (λ c. omega arith)
+    (λ c. omega arith)
+    (λ c. omega arith)
     loop-again
-    same-length-2
+    (λ c. search needs)
     returns-2)

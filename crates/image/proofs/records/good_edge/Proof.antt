@@ -1,12 +1,10 @@
+-- `image::records::good_edge` meets its contract.
 use borrow.Author.Tests.{lt-ltb, le-ltb, le-leb, lt-leb, not-true, not-false}
 use mathlib.Core.Path.{sym}
 use Rattle.image.specs.Checks.{goodEdge}
 use borrow.Author.Needs.{needs}
 use Rattle.image.proofs.records.good_edge.Statement.{statement}
 use Rattle.image.proofs.records.good_edge.Tie as tie
-
-numbered-requires : tie.Need-numbered-requires
-numbered-requires c κs = search needs
 
 returns : tie.Need-returns
 unfolding goodEdge
@@ -71,9 +69,6 @@ returns-6 c =
       lt-leb _ _ (c .if6 .taken),
     )
 
-reading-requires : tie.Need-reading-requires
-reading-requires c κs = search needs
-
 returns-7 : tie.Need-returns-7
 unfolding goodEdge
 returns-7 c =
@@ -108,13 +103,13 @@ pub good-edge-spec : {M : Type 1} → statement M
 good-edge-spec =
     tie.close
     (tie.spec
-    numbered-requires
+    (λ c κs. search needs)
     returns
     returns-2
     returns-3
     returns-4
     returns-5
     returns-6
-    reading-requires
+    (λ c κs. search needs)
     returns-7
     returns-8)

@@ -1,12 +1,10 @@
+-- `image::records::good_vertex` meets its contract.
 use borrow.Author.Tests.{lt-ltb, le-ltb, not-true, not-false}
 use mathlib.Core.Path.{sym}
 use Rattle.image.specs.Checks.{goodVertex}
 use borrow.Author.Needs.{needs}
 use Rattle.image.proofs.records.good_vertex.Statement.{statement}
 use Rattle.image.proofs.records.good_vertex.Tie as tie
-
-numbered-requires : tie.Need-numbered-requires
-numbered-requires c κs = search needs
 
 returns : tie.Need-returns
 unfolding goodVertex
@@ -25,4 +23,4 @@ unfolding goodVertex
 returns-4 c = simp (sym (c .before .before .before .numbered .ensures), not-false (c .before .before .before .numbered .result) (c .before .before .if1 .left), not-false (c .before .before .before .before .args .fresh) (c .before .if2 .left), le-ltb _ _ (c .if3 .left))
 
 pub good-vertex-spec : {M : Type 1} → statement M
-good-vertex-spec = tie.close (tie.spec numbered-requires returns returns-2 returns-3 returns-4)
+good-vertex-spec = tie.close (tie.spec (λ c κs. search needs) returns returns-2 returns-3 returns-4)

@@ -1,3 +1,4 @@
+-- `image::records::numbered` meets its contract.
 use borrow.Author.Tests.{le-leb, lt-leb}
 use Rattle.image.proofs.records.numbered.Statement.{statement}
 use Rattle.image.proofs.records.numbered.Tie as tie

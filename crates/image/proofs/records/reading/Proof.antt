@@ -1,3 +1,4 @@
+-- `image::records::reading` meets its contract.
 use Rattle.image.proofs.Readings.{reading-low, reading-two, reading-none}
 use Rattle.image.proofs.records.reading.Statement.{statement}
 use Rattle.image.proofs.records.reading.Tie as tie

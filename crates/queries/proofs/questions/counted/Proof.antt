@@ -1,4 +1,5 @@
-use Rattle.lists.specs.Choice.{pick}
+-- `queries::questions::counted` meets its contract.
+use Rattle.lists.specs.Choice.{ifEqual}
 use Rattle.lists.proofs.Picks.{pick-yes, pick-no}
 use mathlib.Core.Path.{sym, _∙_}
 use borrow.Author.Needs.{needs}
@@ -8,21 +9,9 @@ use Rattle.queries.proofs.questions.counted.Tie as tie
 returns : tie.Need-returns
 returns c = sym (pick-yes _ _ _ _ (c .if1 .taken))
 
-sub-this : tie.Need-sub-this
-sub-this c = search needs
-
-this-requires : tie.Need-this-requires
-this-requires c κs = search needs
-
-this-requires-2 : tie.Need-this-requires-2
-this-requires-2 c κs = search needs
-
-choose-requires : tie.Need-choose-requires
-choose-requires c κs = search needs
-
 returns-2 : tie.Need-returns-2
-returns-2 c = c .choose .ensures ∙ (λ i. pick (c .before .before .this .ensures i) (c .before .this2 .ensures i) 0 1) ∙ sym (pick-no _ _ _ _ (c .before .before .before .if1 .left))
+returns-2 c = c .choose .ensures ∙ (λ i. ifEqual (c .before .before .this .ensures i) (c .before .this2 .ensures i) 0 1) ∙ sym (pick-no _ _ _ _ (c .before .before .before .if1 .left))
 
 pub counted-spec : {M : Type 1} → statement M
 counted-spec =
-    tie.close (tie.spec returns sub-this this-requires this-requires-2 choose-requires returns-2)
+    tie.close (tie.spec returns (λ c. search needs) (λ c κs. search needs) (λ c κs. search needs) (λ c κs. search needs) returns-2)

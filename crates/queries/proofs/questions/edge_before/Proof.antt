@@ -1,12 +1,10 @@
+-- `queries::questions::edge_before` meets its contract.
 use borrow.Author.Needs.{needs}
 use Rattle.queries.proofs.questions.edge_before.Statement.{statement}
 use Rattle.queries.proofs.questions.edge_before.Tie as tie
-
-before-requires : tie.Need-before-requires
-before-requires c κs = search needs
 
 returns : tie.Need-returns
 returns c = c .before2 .ensures
 
 pub edge-before-spec : {M : Type 1} → statement M
-edge-before-spec = tie.close (tie.spec before-requires returns)
+edge-before-spec = tie.close (tie.spec (λ c κs. search needs) returns)

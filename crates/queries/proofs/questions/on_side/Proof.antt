@@ -1,3 +1,4 @@
+-- `queries::questions::on_side` meets its contract.
 use Rattle.queries.proofs.Degrees.{side-all, side-out, side-in, side-none}
 use Rattle.queries.proofs.questions.on_side.Statement.{statement}
 use Rattle.queries.proofs.questions.on_side.Tie as tie

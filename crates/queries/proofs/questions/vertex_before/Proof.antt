@@ -1,12 +1,10 @@
+-- `queries::questions::vertex_before` meets its contract.
 use borrow.Author.Needs.{needs}
 use Rattle.queries.proofs.questions.vertex_before.Statement.{statement}
 use Rattle.queries.proofs.questions.vertex_before.Tie as tie
-
-before-requires : tie.Need-before-requires
-before-requires c κs = search needs
 
 returns : tie.Need-returns
 returns c = c .before2 .ensures
 
 pub vertex-before-spec : {M : Type 1} → statement M
-vertex-before-spec = tie.close (tie.spec before-requires returns)
+vertex-before-spec = tie.close (tie.spec (λ c κs. search needs) returns)

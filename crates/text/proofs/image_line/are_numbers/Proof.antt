@@ -3,7 +3,7 @@ use Prim.Native.Nat.{_-_, _≤_}
 use mathlib.Core.Path.{_≡_, refl, sym, ap, _∙_}
 use native.Mathlib.Omega.{arith}
 use lib.ListN.{length, drop}
-use Rattle.text.specs.Scan.{run, isValue}
+use Rattle.text.specs.Scan.{scan, isValue}
 use Rattle.text.specs.ImageLine.{fieldIn}
 use Rattle.text.proofs.Walks.{run-turn, run-end}
 use borrow.Author.Needs.{needs}
@@ -11,7 +11,7 @@ use Rattle.text.proofs.image_line.are_numbers.Statement.{statement}
 use Rattle.text.proofs.image_line.are_numbers.Tie as tie
 
 abbrev Inv-loop : tie.InvT-loop
-Inv-loop bytes n₀ i₀ n i = (i ≤ length bytes) × (run fieldIn n (drop i bytes) ≡ run fieldIn n₀ bytes)
+Inv-loop bytes n₀ i₀ n i = (i ≤ length bytes) × (scan fieldIn n (drop i bytes) ≡ scan fieldIn n₀ bytes)
 
 abbrev μ-loop : tie.MeasureT-loop
 μ-loop bytes n₀ i₀ n i = length bytes - i
@@ -19,26 +19,11 @@ abbrev μ-loop : tie.MeasureT-loop
 loop-holds : tie.Need-loop-holds Inv-loop μ-loop
 loop-holds c = (omega arith, refl)
 
-shared-slice-read-field-in : tie.Need-shared-slice-read-field-in Inv-loop μ-loop
-shared-slice-read-field-in c = search needs
-
-field-in-requires : tie.Need-field-in-requires Inv-loop μ-loop
-field-in-requires c κs = search needs
-
-add-i : tie.Need-add-i Inv-loop μ-loop
-add-i c = search needs
-
-loop-less : tie.Need-loop-less Inv-loop μ-loop
-loop-less c = search needs
-
 loop-again : tie.Need-loop-again Inv-loop μ-loop
 loop-again c =
     let l = c .before .before .before .loop in
     let bytes = c .before .before .before .before .before .args .bytes .now in
     (omega arith, run-turn fieldIn bytes (l .i) (l .n) (c .field-in .result) (omega arith) (c .field-in .ensures) ∙ l .inv .1)
-
-is-value-requires : tie.Need-is-value-requires Inv-loop μ-loop
-is-value-requires c κs = search needs
 
 returns : tie.Need-returns Inv-loop μ-loop
 returns c =
@@ -53,10 +38,10 @@ are-numbers-spec =
     Inv-loop
     μ-loop
     loop-holds
-    shared-slice-read-field-in
-    field-in-requires
-    add-i
-    loop-less
+    (λ c. search needs)
+    (λ c κs. search needs)
+    (λ c. search needs)
+    (λ c. search needs)
     loop-again
-    is-value-requires
+    (λ c κs. search needs)
     returns)

@@ -3,14 +3,14 @@ use Prim.Native.Nat.{_-_, _≤_, _<_}
 use mathlib.Core.Path.{_≡_, _∙_}
 use native.Mathlib.Omega.{arith}
 use lib.ListN.{length, take}
-use Rattle.lists.specs.Lists.{same}
+use Rattle.lists.specs.Lists.{equalLists}
 use Rattle.text.proofs.ImageLines.{left, left-all, left-same, left-differs, left-none}
 use borrow.Author.Needs.{needs}
 use Rattle.text.proofs.image_line.begins.Statement.{statement}
 use Rattle.text.proofs.image_line.begins.Tie as tie
 
 abbrev Inv-loop : tie.InvT-loop
-Inv-loop bytes word i₀ i = (i ≤ length word) × (left bytes word i ≡ same (take (length word) bytes) word)
+Inv-loop bytes word i₀ i = (i ≤ length word) × (left bytes word i ≡ equalLists (take (length word) bytes) word)
 
 abbrev μ-loop : tie.MeasureT-loop
 μ-loop bytes word i₀ i = length word - i
@@ -18,23 +18,11 @@ abbrev μ-loop : tie.MeasureT-loop
 loop-holds : tie.Need-loop-holds Inv-loop μ-loop
 loop-holds c = let a = c .args in (omega arith, left-all (a .bytes .now) (a .word .now))
 
-shared-slice-read-if1 : tie.Need-shared-slice-read-if1 Inv-loop μ-loop
-shared-slice-read-if1 c = search needs
-
-shared-slice-read-if1-2 : tie.Need-shared-slice-read-if1-2 Inv-loop μ-loop
-shared-slice-read-if1-2 c = search needs
-
 returns : tie.Need-returns Inv-loop μ-loop
 returns c =
     let l = c .before .before .before .before .loop in
     let s = c .before .before .before .before .before in
     left-differs (s .args .bytes .now) (s .args .word .now) (l .i) (omega arith) (s .pre) (c .if1 .taken) ∙ l .inv .1
-
-add-i : tie.Need-add-i Inv-loop μ-loop
-add-i c = search needs
-
-loop-less : tie.Need-loop-less Inv-loop μ-loop
-loop-less c = search needs
 
 loop-again : tie.Need-loop-again Inv-loop μ-loop
 loop-again c =
@@ -56,10 +44,10 @@ begins-spec =
     Inv-loop
     μ-loop
     loop-holds
-    shared-slice-read-if1
-    shared-slice-read-if1-2
+    (λ c. search needs)
+    (λ c. search needs)
     returns
-    add-i
-    loop-less
+    (λ c. search needs)
+    (λ c. search needs)
     loop-again
     returns-2)

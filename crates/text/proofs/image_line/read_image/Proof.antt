@@ -4,7 +4,7 @@ use mathlib.Core.Path.{_≡_, refl, sym, ap, _∙_}
 use mathlib.Core.List.{List, []}
 use native.Mathlib.Omega.{arith}
 use lib.ListN.{length, drop}
-use Rattle.lists.specs.Lists.{over}
+use Rattle.lists.specs.Lists.{overwritten}
 use Rattle.decimal.proofs.Stores.{rest-all}
 use Rattle.text.specs.Scan.{wordsFrom}
 use Rattle.text.specs.ImageLine.{image, readImage}
@@ -15,7 +15,7 @@ use borrow.Author.Tests.{not-true, not-false}
 use Rattle.text.proofs.image_line.read_image.Statement.{statement}
 use Rattle.text.proofs.image_line.read_image.Tie as tie
 
-in-frame : (c : tie.Else4) → Framed (c .before .before .before .before .before .before .before .before .before .args .bytes .now)
+in-frame : (c : tie.Else4) → Framed (c .before .before .before .before .before .before .before .before .args .bytes .now)
 in-frame c = record {
   least = c .before .before .before .before .before .before .if1 .left;
   most = c .before .before .before .before .before .if2 .left;
@@ -23,16 +23,16 @@ in-frame c = record {
   ended = c .if4 .left;
 }
 
-more-bytes : (c : tie.Else5) → 6 < length (c .before .before .before .before .before .before .before .before .before .before .args .bytes .now)
+more-bytes : (c : tie.Else5) → 6 < length (c .before .before .before .before .before .before .before .before .before .args .bytes .now)
 more-bytes c = omega (arith, in-frame (c .before) .least)
 
 record GoodLine (bytes : List ℕ) : Type 0 where
   pub read : readImage bytes ≡ image (wordsFrom Empty (drop 6 bytes))
   pub room : length (wordsFrom Empty (drop 6 bytes)) ≤ 200000
 
-good-line : (c : tie.Else7) → GoodLine (c .before .before .before .before .before .before .before .before .before .before .before .before .before .before .before .args .bytes .now)
+good-line : (c : tie.Else7) → GoodLine (c .before .before .before .before .before .before .before .before .before .before .before .before .before .before .args .bytes .now)
 good-line c =
-    let bytes = c .before .before .before .before .before .before .before .before .before .before .before .before .before .before .before .args .bytes .now in
+    let bytes = c .before .before .before .before .before .before .before .before .before .before .before .before .before .before .args .bytes .now in
     let e = c .before .before .before in
     let d = e .before .before in
     let n = c .before .are-numbers in
@@ -44,106 +44,64 @@ good-line c =
 
 returns : tie.Need-returns
 returns c =
-    let a = c .before .before .before .args in
+    let a = c .before .before .args in
     line-other (readImage (a .bytes .now)) (a .out .now) (short-other (a .bytes .now) (c .if1 .taken))
 
 returns-2 : tie.Need-returns-2
 returns-2 c =
-    let a = c .before .before .before .before .args in
+    let a = c .before .before .before .args in
     line-other (readImage (a .bytes .now)) (a .out .now) (long-other (a .bytes .now) (c .if2 .taken))
-
-slice-aggregate-begins : tie.Need-slice-aggregate-begins
-slice-aggregate-begins c = search needs
-
-begins-requires : tie.Need-begins-requires
-begins-requires c κs = search needs
 
 returns-3 : tie.Need-returns-3
 returns-3 c =
-    let a = c .before .before .before .before .before .before .before .args in
+    let a = c .before .before .before .before .before .before .args in
     line-other (readImage (a .bytes .now)) (a .out .now)
     (unnamed-other (a .bytes .now) (sym (not-true (c .before .begins .result) (c .if3 .taken)) ∙ c .before .begins .ensures))
 
-sub-if4 : tie.Need-sub-if4
-sub-if4 c = search needs
-
-shared-slice-read-if4 : tie.Need-shared-slice-read-if4
-shared-slice-read-if4 c = search needs
-
 returns-4 : tie.Need-returns-4
 returns-4 c =
-    let a = c .before .before .before .before .before .before .before .before .before .args in
+    let a = c .before .before .before .before .before .before .before .before .args in
     line-other (readImage (a .bytes .now)) (a .out .now) (unended-other (a .bytes .now) (c .if4 .taken))
 
 returns-5 : tie.Need-returns-5
 returns-5 c =
-    let a = c .before .before .before .before .before .before .before .before .before .before .args in
+    let a = c .before .before .before .before .before .before .before .before .before .args in
     line-image (readImage (a .bytes .now)) [] (a .out .now) (a .out .now) 0
     (no-words (a .bytes .now) (in-frame (c .before)) (c .if5 .taken))
     refl
     refl
 
-shared-slice-read-if6 : tie.Need-shared-slice-read-if6
-shared-slice-read-if6 c = search needs
-
 returns-6 : tie.Need-returns-6
 returns-6 c =
-    let a = c .before .before .before .before .before .before .before .before .before .before .before .before .args in
+    let a = c .before .before .before .before .before .before .before .before .before .before .before .args in
     let d = c .before .before in
     line-other (readImage (a .bytes .now)) (a .out .now)
     (unspaced-other (a .bytes .now) (in-frame (d .before)) (more-bytes d) (c .if6 .taken))
 
-sub-end : tie.Need-sub-end
-sub-end c = search needs
-
-sub-are-numbers : tie.Need-sub-are-numbers
-sub-are-numbers c = search needs
-
-part-are-numbers-start : tie.Need-part-are-numbers-start
-part-are-numbers-start c = search needs
-
-part-are-numbers-end : tie.Need-part-are-numbers-end
-part-are-numbers-end c = search needs
-
-are-numbers-requires : tie.Need-are-numbers-requires
-are-numbers-requires c κs = search needs
-
 returns-7 : tie.Need-returns-7
 returns-7 c =
-    let a = c .before .before .before .before .before .before .before .before .before .before .before .before .before .before .before .args in
+    let a = c .before .before .before .before .before .before .before .before .before .before .before .before .before .before .args in
     let e = c .before .before .before in
     let d = e .before .before in
     line-other (readImage (a .bytes .now)) (a .out .now)
     (numbers-other (a .bytes .now) (in-frame (d .before)) (more-bytes d) (e .if6 .left)
     (sym (c .before .are-numbers .ensures) ∙ not-true (c .before .are-numbers .result) (c .if7 .taken)))
 
-sub-words : tie.Need-sub-words
-sub-words c = search needs
-
-part-words-start : tie.Need-part-words-start
-part-words-start c = search needs
-
-part-words-end : tie.Need-part-words-end
-part-words-end c = search needs
-
 words-requires : tie.Need-words-requires
 words-requires c κs =
-    let s = c .before .before .before .before .before .before .before .before .before .before .before .before .before .before .before .before .before in
+    let s = c .before .before .before .before .before .before .before .before .before .before .before .before .before .before .before .before in
     let k = good-line (c .before .before) in
-    omega (arith, k .room, ap (λ (l : List ℕ). length (wordsFrom Empty l)) (rest-all (s .args .bytes .now) 6), s .pre)
-
-same-length : tie.Need-same-length
-same-length c = search needs
+    omega (arith, k .room, ap (λ (l : List ℕ). length (wordsFrom Empty l)) (rest-all (s .args .bytes .now) 6))
 
 returns-8 : tie.Need-returns-8
 returns-8 c =
-    let a = c .before .before .before .before .before .before .before .before .before .before .before .before .before .before .before .before .before .before .before .before .args in
+    let a = c .before .before .before .before .before .before .before .before .before .before .before .before .before .before .before .before .before .args in
     let bytes = a .bytes .now in
-    let w = c .before .before .words in
+    let w = c .words in
     line-image (readImage bytes) (wordsFrom Empty (drop 6 bytes)) (a .out .now) (w .last .1 .0) (w .result)
-    (good-line (c .before .before .before .before .before) .read)
+    (good-line (c .before .before .before) .read)
     (w .ensures .0 ∙ ap (λ (l : List ℕ). length (wordsFrom Empty l)) (rest-all bytes 6))
-    (w .ensures .1 ∙ ap (λ (l : List ℕ). over (wordsFrom Empty l) (a .out .now)) (rest-all bytes 6))
+    (w .ensures .1 ∙ ap (λ (l : List ℕ). overwritten (wordsFrom Empty l) (a .out .now)) (rest-all bytes 6))
 
 pub read-image-spec : {M : Type 1} → statement M
 read-image-spec =
@@ -151,24 +109,23 @@ read-image-spec =
     (tie.spec
     returns
     returns-2
-    slice-aggregate-begins
-    begins-requires
+    (λ c. search needs)
+    (λ c κs. search needs)
     returns-3
-    sub-if4
-    shared-slice-read-if4
+    (λ c. search needs)
+    (λ c. search needs)
     returns-4
     returns-5
-    shared-slice-read-if6
+    (λ c. search needs)
     returns-6
-    sub-end
-    sub-are-numbers
-    part-are-numbers-start
-    part-are-numbers-end
-    are-numbers-requires
+    (λ c. search needs)
+    (λ c. search needs)
+    (λ c. search needs)
+    (λ c. search needs)
+    (λ c κs. search needs)
     returns-7
-    sub-words
-    part-words-start
-    part-words-end
+    (λ c. search needs)
+    (λ c. search needs)
+    (λ c. search needs)
     words-requires
-    same-length
     returns-8)

@@ -1,3 +1,4 @@
+-- `text::reading::bad_after` meets its contract.
 use borrow.Author.Tests.{eq-eqb, ne-eqb}
 use Rattle.text.specs.Scan.{badAfter}
 use Rattle.text.proofs.reading.bad_after.Statement.{statement}

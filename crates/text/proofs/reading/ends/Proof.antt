@@ -1,3 +1,4 @@
+-- `text::reading::ends` meets its contract.
 use borrow.Author.Tests.{eq-eqb, ne-eqb}
 use Rattle.text.proofs.reading.ends.Statement.{statement}
 use Rattle.text.proofs.reading.ends.Tie as tie

@@ -1,3 +1,4 @@
+-- `text::reading::more_digit` meets its contract.
 use borrow.Author.Tests.{eq-eqb, ne-eqb, lt-ltb, le-ltb}
 use Rattle.text.specs.Scan.{moreDigit}
 use borrow.Author.Needs.{needs}
@@ -8,15 +9,6 @@ returns : tie.Need-returns
 unfolding moreDigit
 returns c = simp (eq-eqb _ _ (c .if1 .taken))
 
-mul-w : tie.Need-mul-w
-mul-w c = search needs
-
-add-w : tie.Need-add-w
-add-w c = search needs
-
-cast-t8 : tie.Need-cast-t8
-cast-t8 c = search needs
-
 returns-2 : tie.Need-returns-2
 unfolding moreDigit
 returns-2 c = simp (ne-eqb _ _ (c .before .if1 .left), lt-ltb _ _ (c .if2 .taken))
@@ -26,4 +18,4 @@ unfolding moreDigit
 returns-3 c = simp (ne-eqb _ _ (c .before .if1 .left), le-ltb _ _ (c .if2 .left))
 
 pub more-digit-spec : {M : Type 1} → statement M
-more-digit-spec = tie.close (tie.spec returns mul-w add-w cast-t8 returns-2 returns-3)
+more-digit-spec = tie.close (tie.spec returns (λ c. search needs) (λ c. search needs) (λ c. search needs) returns-2 returns-3)

@@ -1,3 +1,4 @@
+-- `text::reading::read` meets its contract.
 use native.Mathlib.Omega.{arith}
 use Rattle.text.specs.Reading.{readText}
 use Rattle.text.specs.Scan.{wordsFrom}
@@ -9,9 +10,6 @@ use Rattle.text.proofs.reading.read.Tie as tie
 
 returns : tie.Need-returns
 returns c = let a = c .before .before .args in refused (readText (a .bytes .now)) 0 (a .calls .now) (long (a .bytes .now) (c .if1 .taken))
-
-check-lines-requires : tie.Need-check-lines-requires
-check-lines-requires c κs = search needs
 
 returns-2 : tie.Need-returns-2
 returns-2 c =
@@ -39,4 +37,4 @@ returns-4 c =
     refused (readText (a .bytes .now)) (s .result .bad) (a .calls .now) (bad-line (a .bytes .now) (s .result) (c .before .before .before .if1 .left) (s .ensures) (c .before .if2 .left) (c .if3 .left))
 
 pub read-spec : {M : Type 1} → statement M
-read-spec = tie.close (tie.spec returns check-lines-requires returns-2 words-requires returns-3 returns-4)
+read-spec = tie.close (tie.spec returns (λ c κs. search needs) returns-2 words-requires returns-3 returns-4)

@@ -1,15 +1,10 @@
+-- `text::reading::space_in` meets its contract.
 use mathlib.Core.Path.{sym}
 use borrow.Author.Tests.{lt-ltb, le-ltb}
 use Rattle.text.specs.Scan.{spaceIn}
 use borrow.Author.Needs.{needs}
 use Rattle.text.proofs.reading.space_in.Statement.{statement}
 use Rattle.text.proofs.reading.space_in.Tie as tie
-
-is-value-requires : tie.Need-is-value-requires
-is-value-requires c κs = search needs
-
-add-t6 : tie.Need-add-t6
-add-t6 c = search needs
 
 returns : tie.Need-returns
 unfolding spaceIn
@@ -24,4 +19,4 @@ unfolding spaceIn
 returns-3 c = simp (sym (c .before .is-value .ensures), c .if1 .left)
 
 pub space-in-spec : {M : Type 1} → statement M
-space-in-spec = tie.close (tie.spec is-value-requires add-t6 returns returns-2 returns-3)
+space-in-spec = tie.close (tie.spec (λ c κs. search needs) (λ c. search needs) returns returns-2 returns-3)

@@ -1,3 +1,4 @@
+-- `text::reading::words` meets its contract.
 use Rattle.text.specs.declared.reading.Number.the-variants.{Empty}
 use Prim.Native.Nat.{_<_, _≤_, _-_, _+_}
 use borrow.Author.Needs.{needs}
@@ -20,23 +21,11 @@ abbrev μ-loop : tie.MeasureT-loop
 loop-holds : tie.Need-loop-holds Inv-loop μ-loop
 loop-holds c = (omega arith, refl, omega arith, refl)
 
-shared-slice-read-b : tie.Need-shared-slice-read-b Inv-loop μ-loop
-shared-slice-read-b c = search needs
-
 word-at-requires : tie.Need-word-at-requires Inv-loop μ-loop
 word-at-requires c κs =
     let l = c .before .before .before .loop in
     let a = c .before .before .before .before .before .before .args in
     omega (arith, words-length (a .bytes .now) (l .i) (l .n) _ (omega arith) refl, c .before .before .before .before .before .before .pre)
-
-number-after-requires : tie.Need-number-after-requires Inv-loop μ-loop
-number-after-requires c κs = search needs
-
-add-i : tie.Need-add-i Inv-loop μ-loop
-add-i c = search needs
-
-loop-less : tie.Need-loop-less Inv-loop μ-loop
-loop-less c = search needs
 
 loop-again : tie.Need-loop-again Inv-loop μ-loop
 loop-again c =
@@ -49,9 +38,6 @@ loop-again c =
       omega (arith, w .ensures .0, words-length (a .bytes .now) (l .i) (l .n) (c .number-after .result) h (c .number-after .ensures), l .inv .2),
       words-stores (a .bytes .now) (l .i) (l .n) (l .calls) (w .last .0) (l .k) (w .result) (c .number-after .result) h (c .number-after .ensures) (w .ensures .0) (w .ensures .1) ∙ l .inv .3,
     )
-
-same-length : tie.Need-same-length Inv-loop μ-loop
-same-length c = search needs
 
 returns : tie.Need-returns Inv-loop μ-loop
 returns c =
@@ -67,11 +53,11 @@ words-spec =
     Inv-loop
     μ-loop
     loop-holds
-    shared-slice-read-b
+    (λ c. search needs)
     word-at-requires
-    number-after-requires
-    add-i
-    loop-less
+    (λ c κs. search needs)
+    (λ c. search needs)
+    (λ c. search needs)
     loop-again
-    same-length
+    (λ c. search needs)
     returns)

@@ -1,3 +1,4 @@
+-- `text::writing::lines` meets its contract.
 use native.Mathlib.Omega.{arith}
 use Rattle.decimal.proofs.Stores.{stored-then, stored-as, stored-over}
 use Rattle.text.specs.Writing.{imageWord}
@@ -9,17 +10,11 @@ use Rattle.text.proofs.writing.lines.Tie as tie
 answers-requires : tie.Need-answers-requires
 answers-requires c κs = let a = c .before .before .before .before in omega (arith, answers-most (a .args .codes .now), a .pre)
 
-slice-aggregate-line : tie.Need-slice-aggregate-line
-slice-aggregate-line c = search needs
-
 line-requires : tie.Need-line-requires
 line-requires c κs =
     let a = c .before .before .before .before .before .before .before .before .before in
     let b = c .before .before .before .before .answers in
     omega (arith, answers-most (a .args .codes .now), line-most imageWord (a .args .image .now), a .pre, b .ensures .place, b .kept .0)
-
-same-length : tie.Need-same-length
-same-length c = search needs
 
 returns : tie.Need-returns
 returns c =
@@ -33,4 +28,4 @@ returns c =
 pub lines-spec : {M : Type 1} → statement M
 lines-spec =
     tie.close
-    (tie.spec answers-requires slice-aggregate-line line-requires same-length returns)
+    (tie.spec answers-requires (λ c. search needs) line-requires (λ c. search needs) returns)

@@ -1,10 +1,11 @@
+-- `text::writing::numbers` meets its contract.
 use mathlib.Core.Path.{_≡_, refl, sym, ap, _∙_}
 use native.Mathlib.Omega.{arith}
 use borrow.Author.Needs.{needs}
 use lib.ListN.{length, drop}
 use lib.Seq.{sets}
 use Prim.Native.Nat.{_+_, _-_, _≤_, _<_}
-use Rattle.lists.specs.Lists.{each}
+use Rattle.lists.specs.Lists.{concatMap}
 use Rattle.text.specs.Writing.{spaced}
 use Rattle.decimal.proofs.Stores.{stored-left}
 use Rattle.text.proofs.Texts.{numbers-length, numbers-turn, numbers-end}
@@ -12,7 +13,7 @@ use Rattle.text.proofs.writing.numbers.Statement.{statement}
 use Rattle.text.proofs.writing.numbers.Tie as tie
 
 abbrev Inv-loop : tie.InvT-loop
-Inv-loop out₀ at words p₀ k₀ out p k = (k ≤ length words) × (length out ≡ length out₀) × (p + length (each spaced (drop k words)) ≡ at + length (each spaced words)) × (sets out p (each spaced (drop k words)) ≡ sets out₀ at (each spaced words))
+Inv-loop out₀ at words p₀ k₀ out p k = (k ≤ length words) × (length out ≡ length out₀) × (p + length (concatMap spaced (drop k words)) ≡ at + length (concatMap spaced words)) × (sets out p (concatMap spaced (drop k words)) ≡ sets out₀ at (concatMap spaced words))
 
 abbrev μ-loop : tie.MeasureT-loop
 μ-loop out₀ at words p₀ k₀ out p k = length words - k
@@ -20,23 +21,11 @@ abbrev μ-loop : tie.MeasureT-loop
 loop-holds : tie.Need-loop-holds Inv-loop μ-loop
 loop-holds c = (omega arith, refl, refl, refl)
 
-mul-spaced : tie.Need-mul-spaced Inv-loop μ-loop
-mul-spaced c = search needs
-
-shared-slice-read-spaced : tie.Need-shared-slice-read-spaced Inv-loop μ-loop
-shared-slice-read-spaced c = search needs
-
 spaced-requires : tie.Need-spaced-requires Inv-loop μ-loop
 spaced-requires c κs =
     let l = c .before .before .before .loop in
     let a = c .before .before .before .before .before .before in
     omega (arith, numbers-length (a .args .words .now) (l .k) (omega arith), l .inv .2, a .pre)
-
-add-k : tie.Need-add-k Inv-loop μ-loop
-add-k c = search needs
-
-loop-less : tie.Need-loop-less Inv-loop μ-loop
-loop-less c = search needs
 
 loop-again : tie.Need-loop-again Inv-loop μ-loop
 loop-again c =
@@ -47,11 +36,8 @@ loop-again c =
       omega arith,
       d .kept .0 ∙ l .inv .1,
       omega (arith, d .ensures .place, numbers-length ws (l .k) h, l .inv .2),
-      stored-left (each spaced (drop (l .k + 1) ws)) (each spaced (drop (l .k) ws)) (d .ensures) (numbers-turn ws (l .k) h) ∙ l .inv .3,
+      stored-left (concatMap spaced (drop (l .k + 1) ws)) (concatMap spaced (drop (l .k) ws)) (d .ensures) (numbers-turn ws (l .k) h) ∙ l .inv .3,
     )
-
-same-length : tie.Need-same-length Inv-loop μ-loop
-same-length c = search needs
 
 returns : tie.Need-returns Inv-loop μ-loop
 returns c =
@@ -67,11 +53,11 @@ numbers-spec =
     Inv-loop
     μ-loop
     loop-holds
-    mul-spaced
-    shared-slice-read-spaced
+    (λ c. search needs)
+    (λ c. search needs)
     spaced-requires
-    add-k
-    loop-less
+    (λ c. search needs)
+    (λ c. search needs)
     loop-again
-    same-length
+    (λ c. search needs)
     returns)

@@ -1,3 +1,4 @@
+-- `text::writing::spaced` meets its contract.
 use mathlib.Core.Path.{refl, _∙_}
 use native.Mathlib.Omega.{arith}
 use lib.ListN.{length-set}
@@ -12,9 +13,6 @@ slice-write-out : tie.Need-slice-write-out
 unfolding spaced
 slice-write-out c = omega (arith, c .before .pre)
 
-add-digits : tie.Need-add-digits
-add-digits c = search needs
-
 digits-requires : tie.Need-digits-requires
 unfolding spaced
 digits-requires c κs = simp length-set (omega (arith, c .before .before .pre))
@@ -27,4 +25,4 @@ unfolding spaced
 returns c = let a = c .before .before .before .before .before .args in stored-then (stored-byte (a .out .now) _ (a .at) 32 (a .at + 1) refl refl) (c .before .before .digits .ensures)
 
 pub spaced-spec : {M : Type 1} → statement M
-spaced-spec = tie.close (tie.spec slice-write-out add-digits digits-requires same-length returns)
+spaced-spec = tie.close (tie.spec slice-write-out (λ c. search needs) digits-requires same-length returns)

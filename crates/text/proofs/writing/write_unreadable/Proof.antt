@@ -1,3 +1,4 @@
+-- `text::writing::write_unreadable` meets its contract.
 use native.Mathlib.Omega.{arith}
 use Rattle.text.specs.Writing.{unreadableText}
 use Rattle.decimal.proofs.Stores.{stored-over}
@@ -5,12 +6,6 @@ use Rattle.text.proofs.Texts.{unreadable-most}
 use borrow.Author.Needs.{needs}
 use Rattle.text.proofs.writing.write_unreadable.Statement.{statement}
 use Rattle.text.proofs.writing.write_unreadable.Tie as tie
-
-slice-aggregate-line : tie.Need-slice-aggregate-line
-slice-aggregate-line c = search needs
-
-slice-aggregate-line-2 : tie.Need-slice-aggregate-line-2
-slice-aggregate-line-2 c = search needs
 
 line-requires : tie.Need-line-requires
 unfolding unreadableText
@@ -21,4 +16,4 @@ unfolding unreadableText
 returns c = let a = c .before .before .before .before in stored-over (omega (arith, unreadable-most (a .args .n))) (c .line .ensures)
 
 pub write-unreadable-spec : {M : Type 1} → statement M
-write-unreadable-spec = tie.close (tie.spec slice-aggregate-line slice-aggregate-line-2 line-requires returns)
+write-unreadable-spec = tie.close (tie.spec (λ c. search needs) (λ c. search needs) line-requires returns)

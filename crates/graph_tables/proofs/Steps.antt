@@ -1,0 +1,116 @@
+-- What a caller makes of what each call ensures.
+use Prim.Native.Nat.{ℕ, _+_, _-_}
+use mathlib.Core.Path.{_≡_, ap, sym, subst, _∙_}
+use mathlib.Core.List.{List}
+use lib.ListN.{set}
+use Rattle.linked_lists.specs.declared.LinkLayout.{LinkLayout}
+use Rattle.linked_lists.specs.declared.Ends.{Ends}
+use Rattle.linked_lists.specs.Links.{unlinkT, unlinkE, insertT, insertE, CanUnlink, CanInsert}
+use Rattle.graph.specs.declared.Reading.{Reading}
+use Rattle.graph.specs.declared.Reading.the-variants.{Untested}
+use Rattle.graph.specs.declared.Edit.{Edit}
+use Rattle.graph.specs.Graph.{readingKind, decimetres}
+use Rattle.graph_tables.specs.declared.Head.{Head}
+use Rattle.graph_tables.specs.Tables.{State, state, vertexLinks, edgeLinks, incidenceLinks, vertexListEnds, edgeListEnds, endsAt, putEnds, withVertexEnds, withEdgeEnds, countV, countE, edgePlace, rowVT, rowET, thisET, moveT, moveE, detachS, CanDetach, attachS, CanAttach, moveVertexS, moveEdgeS, insertVertexS, removeVertexS, placeEdgeS, dropEdgeS, CanDropEdge}
+use Rattle.graph_tables.specs.Edits.{applyS, Can}
+
+pub unlink-by : (layout : LinkLayout) (t : List ℕ) {e e′ : Ends} (x : ℕ) → e ≡ e′ → CanUnlink layout t e′ x → CanUnlink layout t e x
+unlink-by layout t x q h = rw q h
+
+pub insert-by : (layout : LinkLayout) {t t′ : List ℕ} {e e′ : Ends} (p x : ℕ) → t ≡ t′ → e ≡ e′ → CanInsert layout t′ e′ p x → CanInsert layout t e p x
+insert-by layout p x q r h = rw (q, r) h
+
+pub attach-by : (v p w : ℕ) {s s′ : State} → s ≡ s′ → CanAttach v p w s′ → CanAttach v p w s
+attach-by v p w q h = rw q h
+
+pub detach-by : (v w : ℕ) {s s′ : State} → s ≡ s′ → CanDetach v w s′ → CanDetach v w s
+detach-by v w q h = rw q h
+
+-- three steps in a row
+pub three : {A : Type 0} (f g h : A → A) {a b c d : A} → b ≡ f a → c ≡ g b → d ≡ h c → d ≡ h (g (f a))
+three f g h p q r = r ∙ ap h (q ∙ ap g p)
+
+pub drop-by : (n : ℕ) {s s′ : State} → s ≡ s′ → CanDropEdge n s′ → CanDropEdge n s
+drop-by n q h = rw q h
+
+pub two : {A : Type 0} (g : A → A) {a b c : A} → b ≡ a → c ≡ g b → c ≡ g a
+two g p q = q ∙ ap g p
+
+-- an arm of the match on an edit
+pub can-by : (s : State) {e e′ : Edit} → e ≡ e′ → Can e s → Can e′ s
+can-by s q h = subst (λ (x : Edit). Can x s) q h
+
+pub did-by : (s : State) {s′ : State} {e e′ : Edit} → e ≡ e′ → s′ ≡ applyS e′ s → s′ ≡ applyS e s
+did-by s q h = h ∙ ap (λ (x : Edit). applyS x s) (sym q)
+
+-- ---- what the calls of a step leave, as one equation of states
+
+module _ (layout : LinkLayout) (n p : ℕ) (t : List ℕ) (e : Ends) where
+  pub moved : {t′ t″ : List ℕ} {o r : Ends} →
+      (t′ ≡ unlinkT layout t e n) × (o ≡ unlinkE layout t e n) → (t″ ≡ insertT layout t′ o p n) × (r ≡ insertE layout t′ o p n) →
+      (t″ ≡ moveT layout n p t e) × (r ≡ moveE layout n p t e)
+  unfolding moveT moveE
+  moved a b = (b .0 ∙ (λ i. insertT layout (a .0 i) (a .1 i) p n), b .1 ∙ (λ i. insertE layout (a .0 i) (a .1 i) p n))
+
+module _ (h : Head) (vt et : List ℕ) where
+  pub detached : (v w : ℕ) {e r : Ends} {vt′ et′ : List ℕ} → e ≡ endsAt vt v → (et′ ≡ unlinkT incidenceLinks et e w) × (r ≡ unlinkE incidenceLinks et e w) → vt′ ≡ putEnds v r vt →
+      state h vt′ et′ ≡ detachS v w (state h vt et)
+  unfolding detachS
+  detached v w {vt′ = vt′} {et′ = et′} a b c =
+      let x : et′ ≡ unlinkT incidenceLinks et (endsAt vt v) w = b .0 ∙ (λ i. unlinkT incidenceLinks et (a i) w) in
+      let y : vt′ ≡ putEnds v (unlinkE incidenceLinks et (endsAt vt v) w) vt = c ∙ (λ i. putEnds v (b .1 i) vt) ∙ (λ i. putEnds v (unlinkE incidenceLinks et (a i) w) vt) in
+      λ i. state h (y i) (x i)
+
+  pub attached : (v p w : ℕ) {e r : Ends} {vt′ et′ : List ℕ} → e ≡ endsAt vt v → (et′ ≡ insertT incidenceLinks et e p w) × (r ≡ insertE incidenceLinks et e p w) → vt′ ≡ putEnds v r vt →
+      state h vt′ et′ ≡ attachS v p w (state h vt et)
+  unfolding attachS
+  attached v p w {vt′ = vt′} {et′ = et′} a b c =
+      let x : et′ ≡ insertT incidenceLinks et (endsAt vt v) p w = b .0 ∙ (λ i. insertT incidenceLinks et (a i) p w) in
+      let y : vt′ ≡ putEnds v (insertE incidenceLinks et (endsAt vt v) p w) vt = c ∙ (λ i. putEnds v (b .1 i) vt) ∙ (λ i. putEnds v (insertE incidenceLinks et (a i) p w) vt) in
+      λ i. state h (y i) (x i)
+
+  pub vertex-moved : (n p : ℕ) {vt′ : List ℕ} {e : Ends} → (vt′ ≡ moveT vertexLinks n p vt (vertexListEnds h)) × (e ≡ moveE vertexLinks n p vt (vertexListEnds h)) → state (withVertexEnds e h) vt′ et ≡ moveVertexS n p (state h vt et)
+  unfolding moveVertexS
+  vertex-moved n p a = λ i. state (withVertexEnds (a .1 i) h) (a .0 i) et
+
+  pub edge-moved : (n p : ℕ) {et′ : List ℕ} {e : Ends} → (et′ ≡ moveT edgeLinks n p et (edgeListEnds h)) × (e ≡ moveE edgeLinks n p et (edgeListEnds h)) → state (withEdgeEnds e h) vt et′ ≡ moveEdgeS n p (state h vt et)
+  unfolding moveEdgeS
+  edge-moved n p a = λ i. state (withEdgeEnds (a .1 i) h) vt (a .0 i)
+
+  pub vertex-inserted : (n t x p : ℕ) {vt′ vt″ : List ℕ} {e : Ends} →
+      (vt′ ≡ insertT vertexLinks vt (vertexListEnds h) p n) × (e ≡ insertE vertexLinks vt (vertexListEnds h) p n) → vt″ ≡ rowVT n 1 t x vt′ →
+      state (countV (h .vertices + 1) (withVertexEnds e h)) vt″ et ≡ insertVertexS n t x p (state h vt et)
+  unfolding insertVertexS
+  vertex-inserted n t x p {vt″ = vt″} a b =
+      let y : vt″ ≡ rowVT n 1 t x (insertT vertexLinks vt (vertexListEnds h) p n) = b ∙ (λ i. rowVT n 1 t x (a .0 i)) in
+      λ i. state (countV (h .vertices + 1) (withVertexEnds (a .1 i) h)) (y i) et
+
+  pub vertex-removed : (n : ℕ) {vt′ vt″ : List ℕ} {e : Ends} →
+      (vt′ ≡ unlinkT vertexLinks vt (vertexListEnds h) n) × (e ≡ unlinkE vertexLinks vt (vertexListEnds h) n) → vt″ ≡ rowVT n 0 0 0 vt′ →
+      state (countV (h .vertices - 1) (withVertexEnds e h)) vt″ et ≡ removeVertexS n (state h vt et)
+  unfolding removeVertexS
+  vertex-removed n {vt″ = vt″} a b =
+      let y : vt″ ≡ rowVT n 0 0 0 (unlinkT vertexLinks vt (vertexListEnds h) n) = b ∙ (λ i. rowVT n 0 0 0 (a .0 i)) in
+      λ i. state (countV (h .vertices - 1) (withVertexEnds (a .1 i) h)) (y i) et
+
+  pub edge-placed : (n a z t : ℕ) (r : Reading) (p : ℕ) {t₁ t₂ t₃ : List ℕ} {e : Ends} →
+      (t₁ ≡ insertT edgeLinks et (edgeListEnds h) p n) × (e ≡ insertE edgeLinks et (edgeListEnds h) p n) → t₂ ≡ rowET n 1 t r t₁ → t₃ ≡ thisET n a z t₂ →
+      state (countE (h .edges + 1) (withEdgeEnds e h)) vt t₃ ≡ placeEdgeS n a z t r p (state h vt et)
+  unfolding placeEdgeS
+  edge-placed n a z t r p {t₃ = t₃} b c d =
+      let y : t₃ ≡ thisET n a z (rowET n 1 t r (insertT edgeLinks et (edgeListEnds h) p n)) = d ∙ (λ i. thisET n a z (c i)) ∙ (λ i. thisET n a z (rowET n 1 t r (b .0 i))) in
+      λ i. state (countE (h .edges + 1) (withEdgeEnds (b .1 i) h)) vt (y i)
+
+  pub edge-dropped : (n : ℕ) {t₁ t₂ t₃ : List ℕ} {e : Ends} →
+      (t₁ ≡ unlinkT edgeLinks et (edgeListEnds h) n) × (e ≡ unlinkE edgeLinks et (edgeListEnds h) n) → t₂ ≡ rowET n 0 0 Untested t₁ → t₃ ≡ thisET n 0 0 t₂ →
+      state (countE (h .edges - 1) (withEdgeEnds e h)) vt t₃ ≡ dropEdgeS n (state h vt et)
+  unfolding dropEdgeS
+  edge-dropped n {t₃ = t₃} b c d =
+      let y : t₃ ≡ thisET n 0 0 (rowET n 0 0 Untested (unlinkT edgeLinks et (edgeListEnds h) n)) = d ∙ (λ i. thisET n 0 0 (c i)) ∙ (λ i. thisET n 0 0 (rowET n 0 0 Untested (b .0 i))) in
+      λ i. state (countE (h .edges - 1) (withEdgeEnds (b .1 i) h)) vt (y i)
+
+-- the words of a reading
+pub edge-row-by : (e live t : ℕ) (r : Reading) (et : List ℕ) {k d : ℕ} → k ≡ readingKind r → d ≡ decimetres r →
+    set (set (set (set et (edgePlace 3 e) live) (edgePlace 4 e) t) (edgePlace 5 e) k) (edgePlace 9 e) d ≡ rowET e live t r et
+unfolding rowET
+edge-row-by e live t r et p q = λ i. set (set (set (set et (edgePlace 3 e) live) (edgePlace 4 e) t) (edgePlace 5 e) (p i)) (edgePlace 9 e) (q i)

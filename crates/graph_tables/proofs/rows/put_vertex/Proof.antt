@@ -1,0 +1,36 @@
+-- `graph_tables::rows::put_vertex` meets its contract.
+use Rattle.graph_tables.specs.Tables.{rowVT}
+use mathlib.Core.Path.{refl}
+use native.Mathlib.Omega.{arith}
+use lib.ListN.{length-set}
+use borrow.Author.Needs.{needs}
+use Rattle.graph_tables.proofs.rows.put_vertex.Statement.{statement}
+use Rattle.graph_tables.proofs.rows.put_vertex.Tie as tie
+
+slice-write-vt-2 : tie.Need-slice-write-vt-2
+slice-write-vt-2 c = simp length-set (omega arith)
+
+slice-write-vt-3 : tie.Need-slice-write-vt-3
+slice-write-vt-3 c = simp length-set (omega arith)
+
+returns : tie.Need-returns
+unfolding rowVT
+returns c = refl
+
+pub put-vertex-spec : {M : Type 1} → statement M
+put-vertex-spec =
+    tie.close
+    (tie.spec
+    (λ c. search needs)
+    (λ c. search needs)
+    (λ c. search needs)
+    (λ c. search needs)
+    (λ c. search needs)
+    (λ c. search needs)
+    (λ c. search needs)
+    slice-write-vt-2
+    (λ c. search needs)
+    (λ c. search needs)
+    slice-write-vt-3
+    (λ c. search needs)
+    returns)

@@ -1,0 +1,321 @@
+-- The tables (REFERENCE 13.1, 13.2): where each word stands, and what each step does to the words.
+use Prim.Native.Nat.{ℕ, _+_, _-_, _*_, _^_, _≤_, _<_}
+use mathlib.Core.Path.{_≡_}
+use mathlib.Core.List.{List}
+use lib.ListN.{length, getD, set, replicate}
+use Rattle.linked_lists.specs.declared.LinkLayout.{LinkLayout}
+use Rattle.linked_lists.specs.declared.Ends.{Ends}
+use Rattle.linked_lists.specs.Links.{unlinkT, unlinkE, insertT, insertE, CanUnlink, CanInsert}
+use Rattle.graph.specs.declared.Reading.{Reading}
+use Rattle.graph.specs.declared.Reading.the-variants.{Untested}
+use lib.Dec.{ltb}
+use Rattle.lists.specs.Choice.{_⇒_else_, _==_}
+use Rattle.graph.specs.Graph.{readingKind, decimetres, readingOf}
+use Rattle.graph_tables.specs.declared.Head.{Head}
+use Rattle.graph_tables.specs.declared.Lookup.{Lookup}
+use Rattle.graph_tables.specs.declared.Lookup.the-variants.{Found, Missing}
+
+-- the links of Vseq, of Eseq and of the incidence lists
+abbrev pub vertexLinks : LinkLayout
+vertexLinks = record { stride = 8; offset = 2 }
+
+abbrev pub edgeLinks : LinkLayout
+edgeLinks = record { stride = 12; offset = 2 }
+
+abbrev pub incidenceLinks : LinkLayout
+incidenceLinks = record { stride = 6; offset = 12 }
+
+-- word f of vertex v: 0 live, 1 type, 2 value, 3 first, 4 last, 5 spare, 6 prev, 7 next
+abbrev pub vertexPlace : ℕ → ℕ → ℕ
+vertexPlace f v = 8 * v - 8 + f
+
+-- word f of edge e: 3 live, 4 type, 5 reading kind, 9 decimetres, 10 prev, 11 next; the rest is in its halves
+abbrev pub edgePlace : ℕ → ℕ → ℕ
+edgePlace f e = 12 * e - 12 + f
+
+-- word f of the oriented word w: 0 prev, 1 next, 2 this
+abbrev pub halfPlace : ℕ → ℕ → ℕ
+halfPlace f w = 6 * w - 12 + f
+
+-- the words by name
+abbrev pub vtype : List ℕ → ℕ → ℕ
+vtype vt v = getD vt (vertexPlace 1 v) 0
+
+abbrev pub vvalue : List ℕ → ℕ → ℕ
+vvalue vt v = getD vt (vertexPlace 2 v) 0
+
+abbrev pub vfirst : List ℕ → ℕ → ℕ
+vfirst vt v = getD vt (vertexPlace 3 v) 0
+
+abbrev pub vlast : List ℕ → ℕ → ℕ
+vlast vt v = getD vt (vertexPlace 4 v) 0
+
+abbrev pub vprev : List ℕ → ℕ → ℕ
+vprev vt v = getD vt (vertexPlace 6 v) 0
+
+abbrev pub vnext : List ℕ → ℕ → ℕ
+vnext vt v = getD vt (vertexPlace 7 v) 0
+
+abbrev pub etype : List ℕ → ℕ → ℕ
+etype et e = getD et (edgePlace 4 e) 0
+
+abbrev pub ekind : List ℕ → ℕ → ℕ
+ekind et e = getD et (edgePlace 5 e) 0
+
+abbrev pub edecimetres : List ℕ → ℕ → ℕ
+edecimetres et e = getD et (edgePlace 9 e) 0
+
+abbrev pub eprev : List ℕ → ℕ → ℕ
+eprev et e = getD et (edgePlace 10 e) 0
+
+abbrev pub enext : List ℕ → ℕ → ℕ
+enext et e = getD et (edgePlace 11 e) 0
+
+abbrev pub wprev : List ℕ → ℕ → ℕ
+wprev et w = getD et (halfPlace 0 w) 0
+
+abbrev pub wnext : List ℕ → ℕ → ℕ
+wnext et w = getD et (halfPlace 1 w) 0
+
+abbrev pub wthis : List ℕ → ℕ → ℕ
+wthis et w = getD et (halfPlace 2 w) 0
+
+-- the reading of edge e
+abbrev pub readingAt : List ℕ → ℕ → Reading
+readingAt et e = readingOf (ekind et e) (edecimetres et e)
+
+-- the head and the two tables
+pub record State : Type 0 where
+  pub head : Head
+  pub vt : List ℕ
+  pub et : List ℕ
+
+abbrev pub state : Head → List ℕ → List ℕ → State
+state h vt et = record { head = h; vt = vt; et = et }
+
+abbrev pub vertexListEnds : Head → Ends
+vertexListEnds h = record { first = h .vfirst; last = h .vlast }
+
+abbrev pub edgeListEnds : Head → Ends
+edgeListEnds h = record { first = h .efirst; last = h .elast }
+
+abbrev pub withVertexEnds : Ends → Head → Head
+withVertexEnds e h = record {
+  vfirst = e .first;
+  vlast = e .last;
+  efirst = h .efirst;
+  elast = h .elast;
+  vertices = h .vertices;
+  edges = h .edges;
+}
+
+abbrev pub withEdgeEnds : Ends → Head → Head
+withEdgeEnds e h = record {
+  vfirst = h .vfirst;
+  vlast = h .vlast;
+  efirst = e .first;
+  elast = e .last;
+  vertices = h .vertices;
+  edges = h .edges;
+}
+
+-- vertex v's row is in the table; edge e's
+abbrev pub VertexRowIn : List ℕ → ℕ → Type 0
+VertexRowIn vt v = (1 ≤ v) × (8 * v ≤ length vt)
+
+abbrev pub EdgeRowIn : List ℕ → ℕ → Type 0
+EdgeRowIn et e = (1 ≤ e) × (12 * e ≤ length et)
+
+abbrev pub HalfRowIn : List ℕ → ℕ → Type 0
+HalfRowIn et w = (2 ≤ w) × (6 * w ≤ length et + 6)
+
+-- the ends of v's incidence list
+abbrev pub endsAt : List ℕ → ℕ → Ends
+endsAt vt v = record { first = getD vt (vertexPlace 3 v) 0; last = getD vt (vertexPlace 4 v) 0 }
+
+unfoldable pub putEnds : ℕ → Ends → List ℕ → List ℕ
+putEnds v e vt = set (set vt (vertexPlace 3 v) (e .first)) (vertexPlace 4 v) (e .last)
+
+-- ---- nothing held
+
+abbrev pub noHead : Head
+noHead = record { vfirst = 0; vlast = 0; efirst = 0; elast = 0; vertices = 0; edges = 0 }
+
+-- tables of as many words, all 0
+unfoldable pub cleared : List ℕ → List ℕ → State
+cleared vt et = state noHead (replicate (length vt) 0) (replicate (length et) 0)
+
+-- ---- the steps
+
+-- a node taken out and put in after p
+unfoldable pub moveT : LinkLayout → ℕ → ℕ → List ℕ → Ends → List ℕ
+moveT layout n p t e = insertT layout (unlinkT layout t e n) (unlinkE layout t e n) p n
+
+unfoldable pub moveE : LinkLayout → ℕ → ℕ → List ℕ → Ends → Ends
+moveE layout n p t e = insertE layout (unlinkT layout t e n) (unlinkE layout t e n) p n
+
+pub record CanMove (layout : LinkLayout) (n p : ℕ) (t : List ℕ) (e : Ends) : Type 0 where
+  pub out : CanUnlink layout t e n
+  pub back : CanInsert layout (unlinkT layout t e n) (unlinkE layout t e n) p n
+
+unfoldable pub moveVertexS : ℕ → ℕ → State → State
+moveVertexS n p s = state (withVertexEnds (moveE vertexLinks n p (s .vt) (vertexListEnds (s .head))) (s .head))
+    (moveT vertexLinks n p (s .vt) (vertexListEnds (s .head))) (s .et)
+
+-- word w out of v's list, and into it after p
+unfoldable pub detachS : ℕ → ℕ → State → State
+detachS v w s = state (s .head) (putEnds v (unlinkE incidenceLinks (s .et) (endsAt (s .vt) v) w) (s .vt))
+    (unlinkT incidenceLinks (s .et) (endsAt (s .vt) v) w)
+
+pub record CanDetach (v w : ℕ) (s : State) : Type 0 where
+  pub row : VertexRowIn (s .vt) v
+  pub out : CanUnlink incidenceLinks (s .et) (endsAt (s .vt) v) w
+
+unfoldable pub attachS : ℕ → ℕ → ℕ → State → State
+attachS v p w s = state (s .head) (putEnds v (insertE incidenceLinks (s .et) (endsAt (s .vt) v) p w) (s .vt))
+    (insertT incidenceLinks (s .et) (endsAt (s .vt) v) p w)
+
+pub record CanAttach (v p w : ℕ) (s : State) : Type 0 where
+  pub row : VertexRowIn (s .vt) v
+  pub back : CanInsert incidenceLinks (s .et) (endsAt (s .vt) v) p w
+
+-- this of w
+unfoldable pub setThisS : ℕ → ℕ → State → State
+setThisS w u s = state (s .head) (s .vt) (set (s .et) (halfPlace 2 w) u)
+
+unfoldable pub moveWordS : ℕ → ℕ → ℕ → ℕ → State → State
+moveWordS w v u p s = setThisS w u (attachS u p w (detachS v w s))
+
+pub record CanMoveWord (w v u p : ℕ) (s : State) : Type 0 where
+  pub here : HalfRowIn (s .et) w
+  pub this : getD (s .et) (halfPlace 2 w) 0 ≡ v
+  pub out : CanDetach v w s
+  pub back : CanAttach u p w (detachS v w s)
+
+-- ---- rows
+
+unfoldable pub rowVT : ℕ → ℕ → ℕ → ℕ → List ℕ → List ℕ
+rowVT v live t x vt = set (set (set vt (vertexPlace 0 v) live) (vertexPlace 1 v) t) (vertexPlace 2 v) x
+
+unfoldable pub rowET : ℕ → ℕ → ℕ → Reading → List ℕ → List ℕ
+rowET e live t r et = set (set (set (set et (edgePlace 3 e) live) (edgePlace 4 e) t) (edgePlace 5 e) (readingKind r))
+    (edgePlace 9 e)
+    (decimetres r)
+
+unfoldable pub thisET : ℕ → ℕ → ℕ → List ℕ → List ℕ
+thisET e a z et = set (set et (halfPlace 2 (2 * e)) a) (halfPlace 2 (2 * e + 1)) z
+
+abbrev pub countV : ℕ → Head → Head
+countV n h = record {
+  vfirst = h .vfirst;
+  vlast = h .vlast;
+  efirst = h .efirst;
+  elast = h .elast;
+  vertices = n;
+  edges = h .edges;
+}
+
+abbrev pub countE : ℕ → Head → Head
+countE n h = record {
+  vfirst = h .vfirst;
+  vlast = h .vlast;
+  efirst = h .efirst;
+  elast = h .elast;
+  vertices = h .vertices;
+  edges = n;
+}
+
+-- ---- vertices
+
+unfoldable pub setVertexS : ℕ → ℕ → ℕ → State → State
+setVertexS v t x s = state (s .head) (rowVT v 1 t x (s .vt)) (s .et)
+
+unfoldable pub insertVertexS : ℕ → ℕ → ℕ → ℕ → State → State
+insertVertexS n t x p s =
+    state (countV (s .head .vertices + 1) (withVertexEnds (insertE vertexLinks (s .vt) (vertexListEnds
+    (s .head)) p n) (s .head)))
+    (rowVT n 1 t x (insertT vertexLinks (s .vt) (vertexListEnds (s .head)) p n)) (s .et)
+
+pub record CanInsertVertex (n p : ℕ) (s : State) : Type 0 where
+  pub row : VertexRowIn (s .vt) n
+  pub room : s .head .vertices + 1 < 2 ^ 32
+  pub back : CanInsert vertexLinks (s .vt) (vertexListEnds (s .head)) p n
+
+unfoldable pub removeVertexS : ℕ → State → State
+removeVertexS n s =
+    state (countV (s .head .vertices - 1) (withVertexEnds (unlinkE vertexLinks (s .vt) (vertexListEnds (s .head)) n)
+    (s .head)))
+    (rowVT n 0 0 0 (unlinkT vertexLinks (s .vt) (vertexListEnds (s .head)) n)) (s .et)
+
+pub record CanRemoveVertex (n : ℕ) (s : State) : Type 0 where
+  pub row : VertexRowIn (s .vt) n
+  pub some : 1 ≤ s .head .vertices
+  pub out : CanUnlink vertexLinks (s .vt) (vertexListEnds (s .head)) n
+
+-- ---- edges
+
+unfoldable pub setEdgeS : ℕ → ℕ → Reading → State → State
+setEdgeS e t r s = state (s .head) (s .vt) (rowET e 1 t r (s .et))
+
+unfoldable pub moveEdgeS : ℕ → ℕ → State → State
+moveEdgeS n p s = state (withEdgeEnds (moveE edgeLinks n p (s .et) (edgeListEnds (s .head))) (s .head)) (s .vt)
+    (moveT edgeLinks n p (s .et) (edgeListEnds (s .head)))
+
+-- an edge's row and its place in eseq, without its words in the lists
+unfoldable pub placeEdgeS : ℕ → ℕ → ℕ → ℕ → Reading → ℕ → State → State
+placeEdgeS n a z t r p s =
+    state (countE (s .head .edges + 1) (withEdgeEnds (insertE edgeLinks (s .et) (edgeListEnds (s .head)) p n)
+    (s .head))) (s .vt)
+    (thisET n a z (rowET n 1 t r (insertT edgeLinks (s .et) (edgeListEnds (s .head)) p n)))
+
+pub record CanPlaceEdge (n p : ℕ) (s : State) : Type 0 where
+  pub row : EdgeRowIn (s .et) n
+  pub room : s .head .edges + 1 < 2 ^ 32
+  pub back : CanInsert edgeLinks (s .et) (edgeListEnds (s .head)) p n
+
+unfoldable pub dropEdgeS : ℕ → State → State
+dropEdgeS n s =
+    state (countE (s .head .edges - 1) (withEdgeEnds (unlinkE edgeLinks (s .et) (edgeListEnds (s .head)) n)
+    (s .head))) (s .vt)
+    (thisET n 0 0 (rowET n 0 0 Untested (unlinkT edgeLinks (s .et) (edgeListEnds (s .head)) n)))
+
+pub record CanDropEdge (n : ℕ) (s : State) : Type 0 where
+  pub row : EdgeRowIn (s .et) n
+  pub some : 1 ≤ s .head .edges
+  pub out : CanUnlink edgeLinks (s .et) (edgeListEnds (s .head)) n
+
+unfoldable pub insertEdgeS : ℕ → ℕ → ℕ → ℕ → Reading → ℕ → ℕ → ℕ → State → State
+insertEdgeS n a z t r p o i s = attachS z i (2 * n + 1) (attachS a o (2 * n) (placeEdgeS n a z t r p s))
+
+pub record CanInsertEdge (n a z t : ℕ) (r : Reading) (p o i : ℕ) (s : State) : Type 0 where
+  pub place : CanPlaceEdge n p s
+  pub out : CanAttach a o (2 * n) (placeEdgeS n a z t r p s)
+  pub into : CanAttach z i (2 * n + 1) (attachS a o (2 * n) (placeEdgeS n a z t r p s))
+
+unfoldable pub removeEdgeS : ℕ → ℕ → ℕ → State → State
+removeEdgeS n a z s = dropEdgeS n (detachS a (2 * n) (detachS z (2 * n + 1) s))
+
+pub record CanRemoveEdge (n a z : ℕ) (s : State) : Type 0 where
+  pub into : CanDetach z (2 * n + 1) s
+  pub out : CanDetach a (2 * n) (detachS z (2 * n + 1) s)
+  pub row : CanDropEdge n (detachS a (2 * n) (detachS z (2 * n + 1) s))
+
+-- ---- look-ups
+
+unfoldable pub foundV : List ℕ → ℕ → Lookup
+foundV vt v = (v == 0) ⇒ Missing else ltb (length vt) (8 * v) ⇒ Missing else
+    (getD vt (vertexPlace 0 v) 0 == 0) ⇒ Missing else Found (8 * v - 8)
+
+unfoldable pub foundE : List ℕ → ℕ → Lookup
+foundE et e = (e == 0) ⇒ Missing else ltb (length et) (12 * e) ⇒ Missing else
+    (getD et (edgePlace 3 e) 0 == 0) ⇒ Missing else Found (12 * e - 12)
+
+-- the code of a look-up that fails: REFERENCE 7.4
+abbrev pub vertexCode : Lookup → ℕ
+vertexCode (Found at) = 0
+vertexCode Missing = 4
+
+-- REFERENCE 7.5
+abbrev pub edgeCode : Lookup → ℕ
+edgeCode (Found at) = 0
+edgeCode Missing = 5

@@ -1,0 +1,269 @@
+-- What each call makes of the relation with the machine.
+use Prim.Native.Nat.{ℕ, _+_, _-_, _*_, _≤_, _<_}
+use mathlib.Core.Path.{_≡_, refl, sym, ap, subst, _∙_}
+use mathlib.Core.Logic.{_≢_}
+use mathlib.Core.Bool.{Bool, true, false, not, _&&_}
+use mathlib.Core.List.{List}
+use native.Mathlib.Omega.{arith}
+use borrow.Author.Tests.{eq-eqb, ne-eqb, lt-ltb, le-ltb, ltb-false}
+use lib.Dec.{ltb}
+use lib.ListN.{length, set}
+use Rattle.lists.specs.Choice.{_⇒_else_}
+use Rattle.lists.proofs.Bools.{and-both}
+use Rattle.lists.proofs.Picks.{same, differ, same?}
+use Rattle.graph.specs.Graph.{Graph}
+use Rattle.graph.specs.WellFormed.{Bounds}
+use Rattle.graph.specs.declared.Change.{Change}
+use Rattle.graph.specs.declared.Change.the-variants.{DeleteVertex}
+use Rattle.graph.specs.Changes.{cost, Allowed}
+use Rattle.graph.specs.Same.{alters}
+use Rattle.history.specs.Machine.{MarkPlace, gone, at, Machine, begun, placed, extended, freeOf, distance, noMarks, stands, placeOr, marked, cut, cutMarks, present, movedTo}
+use Rattle.history.proofs.Timelines.{length-cut}
+use Rattle.history.specs.Machine.{stepOf}
+use Rattle.machine.specs.Rules.{steps, nothing, effected, Deed, deed, changeDeed, changeRule, historyRule}
+use Rattle.commands.specs.declared.HistoryCall.{HistoryCall}
+use Rattle.commands.specs.declared.HistoryCall.the-variants.{SetMark, DropMark, Commit, Between, Standing as StandingMarks, Free}
+use Rattle.marks.specs.Marked.{placeIn, withMark, withoutMark, Marked}
+use Rattle.marks.proofs.MarkLaws.{marked-same, marked-other, in-marks, in-set, place-is, with-is, without-is, mark-put, mark-gone, none-marked, count-is}
+use Rattle.journal.specs.Written.{Written}
+use Rattle.queries.specs.Plans.{planS, OneEdit}
+use Rattle.queries.proofs.PlanLaws.{one-edit}
+use Rattle.graph_tables.specs.declared.Head.{Head}
+use Rattle.graph_tables.specs.Tables.{state}
+use Rattle.timeline.specs.Current.{afterStep}
+use Rattle.timeline.specs.Steps.{Journal}
+use Rattle.timeline.proofs.Steps.{journal-free, journal-commit, at-record}
+use Rattle.vertex_deletion.proofs.Made.{single-step}
+use Rattle.history_calls.specs.declared.Store.{Store}
+use Rattle.history_calls.specs.declared.Called.{Called}
+use Rattle.history_calls.specs.Memory.{Memory, memory, capacityOf, tablesOf}
+use Rattle.history_calls.specs.Represents.{Represents, Follows}
+use Rattle.history_calls.specs.Outcomes.{noMark, standingCode, newCode, pairCode, done, markSet, placesSet, markDropped, committed, betweenMarks, marksStanding, changesFree}
+use Rattle.history_calls.proofs.Codes.{Mark, standing-none, new-none, standing-is, new-is, both-is, both-none}
+use Rattle.history_calls.proofs.Following.{refused, accepted, follows-by}
+use Rattle.history_calls.proofs.OutcomeLaws.{with-kept, without-kept}
+
+-- ---- no step and no mark
+
+none-at : (k q : ℕ) → noMarks k ≡ at q → ⊥
+none-at k q e = let z : _≡_ {A = ℕ} 0 1 = cc in omega arith
+
+pub begun-represents : (b : Bounds) (x : Store) (mem : Memory) (g : Graph) → Journal b (x .current .position) (tablesOf x mem) (mem .journal) (begun g) → x .set ≡ 0 → length (mem .marks) ≡ 64
+    → Represents b x mem (record { line = begun g; marks = noMarks })
+begun-represents b x mem g j e r = record { journal = j; marks = rw e (none-marked (mem .marks) r); inside = λ k q e. absurd (none-at k q e) }
+
+-- ---- a mark that is set or dropped
+
+set-inside : (ms : ℕ → MarkPlace) (a p n : ℕ) → p ≤ n → ((k q : ℕ) → ms k ≡ at q → q ≤ n) → (k q : ℕ) → marked a (at p) ms k ≡ at q → q ≤ n
+set-inside ms a p n h f k q e = elim (same? k a) [
+  | same u v ↦
+      let w : at p ≡ at q = sym (marked-same a (at p) ms) ∙ ap (λ (j : ℕ). marked a (at p) ms j) v ∙ e in
+      let z : p ≡ q = cc in
+      omega arith
+  | differ u v ↦ f k q (sym (marked-other a k (at p) ms u) ∙ e)
+]
+
+drop-inside : (ms : ℕ → MarkPlace) (a n : ℕ) → ((k q : ℕ) → ms k ≡ at q → q ≤ n) → (k q : ℕ) → marked a gone ms k ≡ at q → q ≤ n
+drop-inside ms a n f k q e = elim (same? k a) [
+  | same u v ↦
+      let w : gone ≡ at q = sym (marked-same a gone ms) ∙ ap (λ (j : ℕ). marked a gone ms j) v ∙ e in
+      let z : _≡_ {A = ℕ} 0 1 = cc in
+      absurd (omega arith)
+  | differ u v ↦ f k q (sym (marked-other a k gone ms u) ∙ e)
+]
+
+-- ---- a change cuts the marks above its place
+
+-- what is left has a place up to p
+left-low : (p q : ℕ) (s : MarkPlace) → cut p s ≡ at q → q ≤ p
+left-low p q gone e = let z : _≡_ {A = ℕ} 0 1 = cc in absurd (omega arith)
+left-low p q (at r) e = go (ltb p r) refl e
+  where
+    go : (t : Bool) → ltb p r ≡ t → (t ⇒ gone else at r) ≡ at q → q ≤ p
+    go true l f = let z : _≡_ {A = ℕ} 0 1 = cc in absurd (omega arith)
+    go false l f = let z : r ≡ q = cc in omega (arith, ltb-false p r l)
+
+-- where no mark is above p, none is cut
+cut-none : (p : ℕ) (ms : ℕ → MarkPlace) → ((k q : ℕ) → ms k ≡ at q → q ≤ p) → cutMarks p ms ≡ ms
+cut-none p ms f i k = go (ms k) refl i
+  where
+    go : (s : MarkPlace) → ms k ≡ s → cut p (ms k) ≡ ms k
+    go gone e = ap (cut p) e ∙ sym e
+    go (at q) e = ap (cut p) e ∙ ap (λ (t : Bool). t ⇒ gone else at q) (le-ltb p q (f k q e)) ∙ sym e
+
+pub cut-nothing : (p n set : ℕ) (places : List ℕ) (ms : ℕ → MarkPlace) → p ≡ n → Marked ms set places → ((k q : ℕ) → ms k ≡ at q → q ≤ n) → Marked (cutMarks p ms) set places
+cut-nothing p n set places ms e h f =
+    subst (λ (g : ℕ → MarkPlace). Marked g set places) (sym (cut-none p ms (λ k q i. omega (arith, f k q i, e)))) h
+
+pub deletion-alters : (a : ℕ) (g : Graph) → alters (DeleteVertex a) g ≡ true
+unfolding alters
+deletion-alters a g = refl
+
+module _ (b : Bounds) (x : Store) (mem : Memory) (m : Machine) (h : Represents b x mem m) where
+  -- ---- 1 to 16, where they alter the graph
+
+  module _ (c : Change) (n free : ℕ) (e : n ≡ cost c (present m)) (capacity : ℕ) (q : capacity ≡ capacityOf (mem .journal)) (f : free ≡ freeOf capacity (m .line)) (u : alters c (present m) ≡ true) where
+    altering : changeDeed c m ≡ deed (cost c (present m)) (steps (stepOf c (present m)))
+    altering = ap (λ (p : Bool). p ⇒ deed (cost c (present m)) (steps (stepOf c (present m))) else deed 0 nothing) u
+
+    free-is : freeOf (capacityOf (mem .journal)) (m .line) ≡ free
+    free-is = ap (λ (k : ℕ). freeOf k (m .line)) (sym q) ∙ sym f
+
+    pub change-refused : free < n → Follows (changeRule (capacityOf (mem .journal)) c) m b (done x 10 0) mem
+    change-refused l = refused (changeRule (capacityOf (mem .journal)) c) m b x mem 10
+        (sym (ap (λ (t : Bool). t ⇒ 10 else 0) (and-both _ _ (lt-ltb (freeOf (capacityOf (mem .journal)) (m .line)) (cost c (present m)) (omega (arith, free-is, e, l))) u))) (λ z. omega arith) h
+
+    -- there are rows for it
+    pub change-room : n ≤ free → 12 * (x .current .position .used + n) ≤ length (mem .journal)
+    change-room l =
+        omega (arith, f, l, q, h .journal .rows .within, h .journal .rows .upto, journal-free b (x .current .position) (tablesOf x mem) (mem .journal) (m .line) capacity (h .journal))
+
+    pub change-done : n ≤ free → (x′ : Store) (vt′ et′ t′ : List ℕ) → Journal b (x′ .current .position) (state (x′ .current .head) vt′ et′) t′ (extended (stepOf c (present m)) (m .line))
+        → Marked (cutMarks (x .current .position .place) (m .marks)) (x′ .set) (mem .marks) → Follows (changeRule (capacityOf (mem .journal)) c) m b (done x′ 0 n) (memory vt′ et′ t′ (mem .marks))
+    change-done l x′ vt′ et′ t′ j k = accepted (changeRule (capacityOf (mem .journal)) c) m b x′ (memory vt′ et′ t′ (mem .marks)) n
+        (ap (λ (t : Bool). (t && alters c (present m)) ⇒ 10 else 0) (le-ltb (freeOf (capacityOf (mem .journal)) (m .line)) (cost c (present m)) (omega (arith, free-is, e, l))))
+        (e ∙ sym (ap (λ (d : Deed). d .number) altering))
+        (subst (λ (d : Deed). Represents b x′ (memory vt′ et′ t′ (mem .marks)) (effected (d .effect) m)) (sym altering) (record {
+          journal = j;
+          marks = subst (λ (p : ℕ). Marked (cutMarks p (m .marks)) (x′ .set) (mem .marks)) (h .journal .place) k;
+          inside = λ i p y. omega (arith, left-low (m .line .place) p (m .marks i) y, length-cut (m .line .place) (m .line .steps) (stepOf c (present m)) (h .journal .inside));
+        }))
+
+  -- a change of one edit that was written down and carried out
+  pub change-made : (c : Change) (n : ℕ) → n ≡ 1 → OneEdit c → Allowed b (present m) c → alters c (present m) ≡ true → x .current .position .used + 1 ≤ capacityOf (mem .journal) → (head : Head) (vt′ et′ t′ : List ℕ)
+      → Written (planS c (tablesOf x mem)) 1 (x .current .position .used) (tablesOf x mem) (mem .journal) (state head vt′ et′) t′
+      → (x′ : Store) → x′ .current ≡ afterStep (x .current .position) head n → Marked (cutMarks (x .current .position .place) (m .marks)) (x′ .set) (mem .marks)
+      → Follows (changeRule (capacityOf (mem .journal)) c) m b (done x′ 0 n) (memory vt′ et′ t′ (mem .marks))
+  change-made c n q o a u r head vt′ et′ t′ w x′ y k =
+      let s = tablesOf x mem in
+      let t = mem .journal in
+      let e : n ≡ cost c (present m) = q ∙ sym (one-edit c o (present m) .1) in
+      let f = journal-free b (x .current .position) s t (m .line) (capacityOf t) (h .journal) in
+      let p = afterStep (x .current .position) head n .position in
+      let j = single-step c b (x .current .position) s t (m .line) (h .journal) a o (omega (arith, r)) (state head vt′ et′) t′ w p refl refl (omega (arith, q)) in
+      change-done c n (freeOf (capacityOf t) (m .line)) e (capacityOf t) refl refl u (omega (arith, q, r, f)) x′ vt′ et′ t′ (at-record b (x′ .current) _ vt′ et′ t′ _ y j) k
+
+  pub mark-steps : (k q : ℕ) → m .marks k ≡ at q → q ≤ x .current .position .steps
+  mark-steps k q y = omega (arith, h .inside k q y, h .journal .steps)
+
+  pub rows-fit : x .current .position .used ≤ capacityOf (mem .journal)
+  rows-fit = omega (arith, h .journal .rows .within, h .journal .rows .upto)
+
+  -- ---- history calls
+
+  abbrev ByRule : HistoryCall → Called → Memory → Type 0
+  ByRule c d mem′ = Follows (historyRule (capacityOf (mem .journal)) c) m b d mem′
+
+  kept : (c : HistoryCall) (code : ℕ) → code ≡ historyRule (capacityOf (mem .journal)) c .code m → code ≢ 0 → ByRule c (done x code 0) mem
+  kept c code e n = refused (historyRule (capacityOf (mem .journal)) c) m b x mem code e n h
+
+  told : (c : HistoryCall) (number : ℕ) → historyRule (capacityOf (mem .journal)) c .code m ≡ 0 → number ≡ historyRule (capacityOf (mem .journal)) c .deed m .number
+      → effected (historyRule (capacityOf (mem .journal)) c .deed m .effect) m ≡ m → ByRule c (done x 0 number) mem
+  told c number e f i = accepted (historyRule (capacityOf (mem .journal)) c) m b x mem number e f (rw i h)
+
+  pub moved-to : (x′ : Store) (vt′ et′ : List ℕ) (p : ℕ) → x′ .set ≡ x .set → Journal b (x′ .current .position) (state (x′ .current .head) vt′ et′) (mem .journal) (placed p (m .line))
+      → Represents b x′ (memory vt′ et′ (mem .journal) (mem .marks)) (movedTo p m)
+  moved-to x′ vt′ et′ p e j = record {
+    journal = j;
+    marks = subst (λ (s : ℕ). Marked (m .marks) s (mem .marks)) (sym e) (h .marks);
+    inside = h .inside;
+  }
+
+  -- 18 and 21: a mark that must stand
+
+  module _ (a : ℕ) where
+    pub code-is : standingCode (x .set) a ≡ (noMark a ⇒ 11 else not (stands (m .marks a)) ⇒ 13 else 0)
+    code-is = standing-is m (x .set) (mem .marks) (h .marks) a
+
+    module _ (z : standingCode (x .set) a ≡ 0) where
+      mark : Mark (x .set) a true
+      mark = standing-none (x .set) a _ refl z
+
+      mark-stands : stands (m .marks a) ≡ true
+      mark-stands = sym (in-set (m .marks) (x .set) (mem .marks) (h .marks) a (mark .low) (mark .high)) ∙ mark .stands
+
+      pub mark-place : (other : ℕ) → placeIn (mem .marks) a ≡ placeOr other (m .marks a)
+      mark-place other = place-is (m .marks) (x .set) (mem .marks) (h .marks) a (mark .low) (mark .high) other mark-stands
+
+      pub mark-inside : placeIn (mem .marks) a ≤ x .current .position .steps
+      mark-inside = go (m .marks a) refl mark-stands
+        where
+          go : (s : MarkPlace) → m .marks a ≡ s → stands s ≡ true → placeIn (mem .marks) a ≤ x .current .position .steps
+          go gone f t = absurd (let z : _≡_ {A = ℕ} 0 1 = cc in omega arith)
+          go (at q) f t = omega (arith, mark-place 0 ∙ ap (placeOr 0) f, mark-steps a q f)
+
+    pub drop-follows : ByRule (DropMark a) (markDropped x a) mem
+    drop-follows = elim (same? (standingCode (x .set) a) 0) [
+      | same z y ↦
+          let k = mark z in
+          let s = without-is (x .set) a _ (k .stands) refl in
+          follows-by _ m b mem (λ i. done (record { current = x .current; set = withoutMark a (x .set) }) (z i) 0)
+          (accepted (historyRule (capacityOf (mem .journal)) (DropMark a)) m b _ mem 0 (sym code-is ∙ z) refl (record {
+            journal = h .journal;
+            marks = subst (λ (n : ℕ). Marked (marked a gone (m .marks)) n (mem .marks)) s (mark-gone (m .marks) (x .set) (mem .marks) (h .marks) a (k .low) (k .high) _ (mark-stands z) refl);
+            inside = drop-inside (m .marks) a (length (m .line .steps)) (h .inside);
+          }))
+      | differ n y ↦
+          follows-by _ m b mem (λ i. done (record { current = x .current; set = without-kept (x .set) a n i }) (standingCode (x .set) a) 0)
+          (kept (DropMark a) _ code-is n)
+    ]
+
+    -- 17: a mark that must not stand
+
+    set-code : newCode (x .set) a ≡ (noMark a ⇒ 11 else stands (m .marks a) ⇒ 12 else 0)
+    set-code = new-is m (x .set) (mem .marks) (h .marks) a
+
+    abbrev marksAfter : Memory
+    marksAfter = memory (mem .vertices) (mem .edges) (mem .journal) (placesSet x a (mem .marks))
+
+    pub set-follows : ByRule (SetMark a) (markSet x a) marksAfter
+    set-follows = elim (same? (newCode (x .set) a) 0) [
+      | same z y ↦
+          let k = new-none (x .set) a _ refl z in
+          let w = in-marks a (k .low) (k .high) in
+          let p = x .current .position .place in
+          let s = with-is (x .set) a _ w refl in
+          let stood = sym (in-set (m .marks) (x .set) (mem .marks) (h .marks) a (k .low) (k .high)) ∙ k .stands in
+          let put : set (mem .marks) (a - 1) p ≡ placesSet x a (mem .marks) = rw (eq-eqb (newCode (x .set) a) 0 z) in
+          let d = subst (λ (n : ℕ). Marked (marked a (at p) (m .marks)) n (set (mem .marks) (a - 1) p)) s (mark-put (m .marks) (x .set) (mem .marks) (h .marks) a (k .low) (k .high) p _ stood refl) in
+          let e = subst (λ (l : List ℕ). Marked (marked a (at p) (m .marks)) (withMark a (x .set)) l) put d in
+          follows-by _ m b marksAfter (λ i. done (record { current = x .current; set = withMark a (x .set) }) (z i) 0)
+          (accepted (historyRule (capacityOf (mem .journal)) (SetMark a)) m b _ marksAfter 0 (sym set-code ∙ z) refl (record {
+            journal = h .journal;
+            marks = subst (λ (i : ℕ). Marked (marked a (at i) (m .marks)) (withMark a (x .set)) (placesSet x a (mem .marks))) (h .journal .place) e;
+            inside = set-inside (m .marks) a (m .line .place) (length (m .line .steps)) (h .journal .inside) (h .inside);
+          }))
+      | differ n y ↦
+          let stay : mem .marks ≡ placesSet x a (mem .marks) = rw (ne-eqb (newCode (x .set) a) 0 n) in
+          follows-by _ m b marksAfter (λ i. done (record { current = x .current; set = with-kept (x .set) a n i }) (newCode (x .set) a) 0)
+          (subst (λ (l : List ℕ). ByRule (SetMark a) (done x (newCode (x .set) a) 0) (memory (mem .vertices) (mem .edges) (mem .journal) l)) stay (kept (SetMark a) _ set-code n))
+    ]
+
+  -- 22
+
+  pub commit-follows : ByRule Commit (committed x) mem
+  commit-follows = accepted (historyRule (capacityOf (mem .journal)) Commit) m b _ mem _ refl (h .journal .place)
+      (begun-represents b (committed x .store) mem (present m) (journal-commit b (x .current .position) _ (tablesOf x mem) (mem .journal) (m .line) (h .journal) refl refl refl) refl (h .marks .room))
+
+  -- 49, 50 and 51
+
+  pub between-follows : (a c : ℕ) → ByRule (Between a c) (betweenMarks x (mem .marks) a c) mem
+  between-follows a c = elim (same? (pairCode x a c) 0) [
+    | same z y ↦
+        let s = both-none (x .set) a c z in
+        follows-by _ m b mem (λ i. record { store = x; answer = record { code = z i; number = ap (λ (t : Bool). t ⇒ distance (placeIn (mem .marks) a) (placeIn (mem .marks) c) else 0) (eq-eqb (pairCode x a c) 0 z) i } })
+        (told (Between a c) _ (sym code ∙ z)
+        (ap (λ (k : ℕ). distance k (placeIn (mem .marks) c)) (mark-place a (s .0) 0) ∙ ap (distance (placeOr 0 (m .marks a))) (mark-place c (s .1) 0)) refl)
+    | differ n y ↦
+        follows-by _ m b mem (λ i. record { store = x; answer = record { code = pairCode x a c; number = ap (λ (t : Bool). t ⇒ distance (placeIn (mem .marks) a) (placeIn (mem .marks) c) else 0) (ne-eqb (pairCode x a c) 0 n) i } })
+        (kept (Between a c) _ code n)
+  ]
+    where
+      code : pairCode x a c ≡ historyRule (capacityOf (mem .journal)) (Between a c) .code m
+      code = both-is m (x .set) (mem .marks) (h .marks) a c
+
+  pub count-follows : ByRule StandingMarks (marksStanding x) mem
+  count-follows = told StandingMarks _ refl (count-is (m .marks) (x .set) (mem .marks) (h .marks)) refl
+
+  pub free-follows : ByRule Free (changesFree x (mem .journal)) mem
+  free-follows = told Free _ refl (journal-free b (x .current .position) (tablesOf x mem) (mem .journal) (m .line) (capacityOf (mem .journal)) (h .journal)) refl

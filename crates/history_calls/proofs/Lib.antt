@@ -1,0 +1,6 @@
+pub mod Codes
+pub mod Following
+pub mod Calls
+pub mod Present
+pub mod OutcomeLaws
+pub mod Ways

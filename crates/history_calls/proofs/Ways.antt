@@ -1,0 +1,145 @@
+-- The calls that lead to another place: the way read off the position and the marks is the machine's.
+use Prim.Native.Nat.{ℕ, suc, _+_, _≤_}
+use mathlib.Core.Path.{_≡_, refl, sym, ap, subst, _∙_}
+use mathlib.Core.Logic.{_≢_}
+use mathlib.Core.Bool.{Bool, true, false}
+use mathlib.Core.List.{List, [], _∷_}
+use native.Mathlib.Omega.{arith}
+use types.Run.{OneOf, miss}
+use denote.Enum.Declared.{tagOf}
+use borrow.Author.Tests.{eqb-false, ltb-true, ltb-false}
+use lib.Dec.{ltb}
+use Rattle.lists.specs.Choice.{_==_, _⇒_else_}
+use Rattle.graph.specs.WellFormed.{Bounds}
+use Rattle.history.specs.Machine.{Machine, placed, placeOr, distance}
+use Rattle.commands.proofs.HistoryCall.{the-type}
+use Rattle.commands.specs.declared.HistoryCall.{HistoryCall}
+use Rattle.commands.specs.declared.HistoryCall.the-variants.{SetMark, DropMark, Undo, Redo, GoTo, Commit, Between, Standing, Free}
+use Rattle.machine.specs.Rules.{goes, effected, Deed, deed, historyDeed, historyRule}
+use Rattle.marks.specs.Marked.{placeIn}
+use Rattle.graph_tables.specs.Tables.{state}
+use Rattle.timeline.specs.JournalRows.{shifted, Reach}
+use Rattle.timeline.specs.Steps.{Journal}
+use Rattle.history_calls.specs.declared.Store.{Store}
+use Rattle.history_calls.specs.declared.Way.{Way}
+use Rattle.history_calls.specs.Memory.{Memory, memory, capacityOf}
+use Rattle.history_calls.specs.Represents.{Represents, Follows}
+use Rattle.history_calls.specs.Outcomes.{done, Leads, nowhere, wayOf}
+use Rattle.history_calls.proofs.Calls.{code-is, mark-place, mark-inside, moved-to}
+use Rattle.history_calls.proofs.Following.{refused, accepted}
+
+-- ---- which calls they are
+
+pub leads-by : (c : HistoryCall) → OneOf (2 ∷ 3 ∷ 4 ∷ []) (tagOf the-type c) → Leads c
+leads-by (SetMark a) i = miss (2 ∷ 3 ∷ 4 ∷ []) 0 tt i
+leads-by (DropMark a) i = miss (2 ∷ 3 ∷ 4 ∷ []) 1 tt i
+leads-by Undo i = tt
+leads-by Redo i = tt
+leads-by (GoTo a) i = tt
+leads-by Commit i = miss (2 ∷ 3 ∷ 4 ∷ []) 5 tt i
+leads-by (Between a d) i = miss (2 ∷ 3 ∷ 4 ∷ []) 6 tt i
+leads-by Standing i = miss (2 ∷ 3 ∷ 4 ∷ []) 7 tt i
+leads-by Free i = miss (2 ∷ 3 ∷ 4 ∷ []) 8 tt i
+
+abbrev pub others : List ℕ
+others = 0 ∷ 1 ∷ 5 ∷ 6 ∷ 7 ∷ 8 ∷ []
+
+pub no-way : (x : Store) (places : List ℕ) (c : HistoryCall) → OneOf others (tagOf the-type c) → nowhere ≡ wayOf x places c
+no-way x places (SetMark a) i = refl
+no-way x places (DropMark a) i = refl
+no-way x places Undo i = absurd (miss others 2 tt i)
+no-way x places Redo i = absurd (miss others 3 tt i)
+no-way x places (GoTo a) i = absurd (miss others 4 tt i)
+no-way x places Commit i = refl
+no-way x places (Between a d) i = refl
+no-way x places Standing i = refl
+no-way x places Free i = refl
+
+-- ---- numbers
+
+not-end : (p e : ℕ) → _≡_ {A = ℕ} ((p == e) ⇒ 14 else 0) 0 → p ≢ e
+not-end p e z = go (p == e) refl z
+  where
+    go : (t : Bool) → (p == e) ≡ t → _≡_ {A = ℕ} (t ⇒ 14 else 0) 0 → p ≢ e
+    go true f z = absurd (omega arith)
+    go false f z = eqb-false p e f
+
+-- q from p, as the direction and the distance
+module _ (p q : ℕ) where
+  distance-reach : (n : ℕ) → p ≤ n → q ≤ n → Reach (ltb q p) (distance p q) p n
+  distance-reach n i j = go (ltb q p) refl
+    where
+      go : (t : Bool) → ltb q p ≡ t → Reach t (distance p q) p n
+      go true f = omega (arith, ltb-true q p f)
+      go false f = omega (arith, ltb-false q p f)
+
+  distance-shifts : q ≡ shifted (ltb q p) (distance p q) p
+  distance-shifts = go (ltb q p) refl
+    where
+      go : (t : Bool) → ltb q p ≡ t → q ≡ shifted t (distance p q) p
+      go true f = omega (arith, ltb-true q p f)
+      go false f = omega (arith, ltb-false q p f)
+
+-- ---- the way
+
+module _ (b : Bounds) (x : Store) (mem : Memory) (m : Machine) (h : Represents b x mem m) where
+  record Led (c : HistoryCall) (w : Way) : Type 0 where
+    coded : w .code ≡ historyRule (capacityOf (mem .journal)) c .code m
+    reach : w .code ≡ 0 → Reach (w .back) (w .steps) (x .current .position .place) (x .current .position .steps)
+    deeds : w .code ≡ 0 → historyDeed (capacityOf (mem .journal)) c m ≡ deed (w .steps) (goes (shifted (w .back) (w .steps) (m .line .place)))
+
+  inside : x .current .position .place ≤ x .current .position .steps
+  inside = omega (arith, h .journal .place, h .journal .steps, h .journal .inside)
+
+  led : (c : HistoryCall) → Leads c → Led c (wayOf x (mem .marks) c)
+  led (SetMark a) l = absurd l
+  led (DropMark a) l = absurd l
+  led Undo l = record {
+    coded = ap (λ (p : ℕ). (p == 0) ⇒ 14 else 0) (h .journal .place);
+    reach = λ z. let n = not-end (x .current .position .place) 0 z in omega (arith, n);
+    deeds = λ z. refl;
+  }
+  led Redo l =
+      let p = h .journal .place in
+      let e = h .journal .steps in
+      let s : suc (m .line .place) ≡ m .line .place + 1 = omega arith in
+      record {
+        coded = λ i. (p i == e i) ⇒ 14 else 0;
+        reach = λ z. let n = not-end (x .current .position .place) (x .current .position .steps) z in omega (arith, n, inside);
+        deeds = λ z. ap (λ (k : ℕ). deed 1 (goes k)) s;
+      }
+  led (GoTo a) l =
+      let p = x .current .position .place in
+      let q = placeIn (mem .marks) a in
+      let e = h .journal .place in
+      record {
+        coded = code-is b x mem m h a;
+        reach = λ z. distance-reach p q (x .current .position .steps) inside (mark-inside b x mem m h a z);
+        deeds = λ z.
+            let f : placeOr (m .line .place) (m .marks a) ≡ q = sym (mark-place b x mem m h a z (m .line .place)) in
+            let g : q ≡ shifted (ltb q p) (distance p q) (m .line .place) = distance-shifts p q ∙ ap (shifted (ltb q p) (distance p q)) e in
+            λ i. deed (distance (sym e i) (f i)) (goes ((f ∙ g) i));
+      }
+  led Commit l = absurd l
+  led (Between a d) l = absurd l
+  led Standing l = absurd l
+  led Free l = absurd l
+
+  module _ (c : HistoryCall) (l : Leads c) (w : Way) (e : w ≡ wayOf x (mem .marks) c) where
+    this : Led c w
+    this = subst (Led c) (sym e) (led c l)
+
+    pub way-refused : w .code ≢ 0 → Follows (historyRule (capacityOf (mem .journal)) c) m b (done x (w .code) 0) mem
+    way-refused n = refused (historyRule (capacityOf (mem .journal)) c) m b x mem (w .code) (this .coded) n h
+
+    pub way-reach : w .code ≡ 0 → Reach (w .back) (w .steps) (x .current .position .place) (x .current .position .steps)
+    way-reach z = this .reach z
+
+    pub way-done : w .code ≡ 0 → (x′ : Store) (vt′ et′ : List ℕ) → x′ .set ≡ x .set
+        → Journal b (x′ .current .position) (state (x′ .current .head) vt′ et′) (mem .journal) (placed (shifted (w .back) (w .steps) (m .line .place)) (m .line))
+        → Follows (historyRule (capacityOf (mem .journal)) c) m b (done x′ 0 (w .steps)) (memory vt′ et′ (mem .journal) (mem .marks))
+    way-done z x′ vt′ et′ s j =
+        let d = this .deeds z in
+        accepted (historyRule (capacityOf (mem .journal)) c) m b x′ (memory vt′ et′ (mem .journal) (mem .marks)) (w .steps) (sym (this .coded) ∙ z) (sym (ap (λ (y : Deed). y .number) d))
+        (subst (λ (y : Deed). Represents b x′ (memory vt′ et′ (mem .journal) (mem .marks)) (effected (y .effect) m)) (sym d)
+        (moved-to b x mem m h x′ vt′ et′ _ s j))

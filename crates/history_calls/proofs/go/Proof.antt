@@ -1,0 +1,44 @@
+-- `history_calls::go` meets its contract.
+use mathlib.Core.Path.{refl, ap}
+use Rattle.history_calls.specs.declared.Called.{Called}
+use Rattle.history_calls.specs.Memory.{memory}
+use Rattle.history_calls.proofs.Following.{follows-by}
+use Rattle.history_calls.proofs.Ways.{way-refused, way-reach, way-done}
+use borrow.Author.Needs.{needs}
+use Rattle.history_calls.proofs.go.Statement.{statement}
+use Rattle.history_calls.proofs.go.Tie as tie
+
+returns : tie.Need-returns
+returns c =
+    let s = c .before .before .before .before .before .before .before in
+    let a = s .args in (
+      λ n. (ap (λ (d : Called). d .store) (c .stay .ensures), refl),
+      λ b m h. follows-by _ m b _ (c .stay .ensures) (way-refused b (a .x) (memory (a .vertices .now) (a .edges .now) (a .journal .now) (a .marks .now)) m h (a .call) (s .pre .0) _ (c .before .before .before .way-of .ensures) (c .before .if1 .taken)),
+    )
+
+go-requires : tie.Need-go-requires
+go-requires c κs =
+    let s = c .before .before .before .before .before .before .before .before in
+    let a = s .args in
+    let p = s .pre .1 in
+    (way-reach (p .0) (a .x) (memory (a .vertices .now) (a .edges .now) (a .journal .now) (a .marks .now)) (p .1) (p .2) (a .call) (s .pre .0) _ (c .before .before .before .before .way-of .ensures) (c .before .before .if1 .left), (p .0, p .1 .line, p .2 .journal))
+
+returns-2 : tie.Need-returns-2
+returns-2 c =
+    let s = c .before .before .before .before .before .before .before .before .before .before .before .before .before in
+    let a = s .args in (
+      λ n. absurd (n refl),
+      λ b m h. way-done b (a .x) (memory (a .vertices .now) (a .edges .now) (a .journal .now) (a .marks .now)) m h (a .call) (s .pre .0) _ (c .before .before .before .before .before .before .before .before .before .way-of .ensures) (c .before .before .before .before .before .before .before .if1 .left) _ _ _ refl (c .before .before .before .before .go .ensures b (m .line) (h .journal)),
+    )
+
+pub go-spec : {M : Type 1} → statement M
+go-spec =
+    tie.close
+    (tie.spec
+    (λ c κs. search needs)
+    (λ c κs. search needs)
+    returns
+    go-requires
+    (λ c. search needs)
+    (λ c. search needs)
+    returns-2)

@@ -1,0 +1,130 @@
+-- What the history calls return, where nothing is left open, and what a refused one leaves.
+use Prim.Native.Nat.{ℕ, _-_}
+use mathlib.Core.Path.{_≡_}
+use mathlib.Core.Bool.{Bool, true, false, not}
+use mathlib.Core.Logic.{_≢_}
+use mathlib.Core.List.{List}
+use lib.Count.{ones}
+use lib.Dec.{ltb}
+use lib.ListN.{set as setAt}
+use Rattle.lists.specs.Choice.{_⇒_else_, _==_, within}
+use Rattle.commands.specs.declared.HistoryCall.{HistoryCall}
+use Rattle.commands.specs.declared.HistoryCall.the-variants.{
+  SetMark,
+  DropMark,
+  Undo,
+  Redo,
+  GoTo,
+  Commit,
+  Between,
+  Standing,
+  Free,
+}
+use Rattle.commands.specs.Answers.{answerOf}
+use Rattle.history.specs.Machine.{distance}
+use Rattle.marks.specs.Marked.{inSet, placeIn, withMark, withoutMark}
+use Rattle.graph_tables.specs.declared.Head.{Head}
+use Rattle.timeline.specs.Current.{noSteps}
+use Rattle.history_calls.specs.declared.Store.{Store}
+use Rattle.history_calls.specs.declared.Called.{Called}
+use Rattle.history_calls.specs.declared.Way.{Way}
+use Rattle.history_calls.specs.Memory.{Memory, capacityOf}
+
+-- ---- codes, read off the set
+
+-- REFERENCE 7.11
+abbrev pub noMark : ℕ → Bool
+noMark a = not (within 1 64 a)
+
+-- for a mark that must stand: 11, 13
+abbrev pub standingCode : ℕ → ℕ → ℕ
+standingCode set a = noMark a ⇒ 11 else not (inSet set a) ⇒ 13 else 0
+
+-- for a mark that is set: 11, 12
+abbrev pub newCode : ℕ → ℕ → ℕ
+newCode set a = noMark a ⇒ 11 else inSet set a ⇒ 12 else 0
+
+-- the code of two marks that must stand, from the code of each: the lowest that applies
+abbrev pub bothCode : ℕ → ℕ → ℕ
+bothCode c d = (c == 11) ⇒ 11 else (d == 11) ⇒ 11 else (c == 13) ⇒ 13 else d
+
+abbrev pub pairCode : Store → ℕ → ℕ → ℕ
+pairCode x a c = bothCode (standingCode (x .set) a) (standingCode (x .set) c)
+
+-- ---- what is returned
+
+abbrev pub done : Store → ℕ → ℕ → Called
+done x code number = record { store = x; answer = record { code = code; number = number } }
+
+-- a graph with this head, no step and no mark
+abbrev pub begunAt : Head → Store
+begunAt h = record { current = record { head = h; position = noSteps }; set = 0 }
+
+-- mark a is set, and its place; a mark that stands, or that is no mark, is refused and changes neither
+abbrev pub markSet : Store → ℕ → Called
+markSet x a = done (record { current = x .current; set = withMark a (x .set) }) (newCode (x .set) a) 0
+
+abbrev pub placesSet : Store → ℕ → List ℕ → List ℕ
+placesSet x a marks = (newCode (x .set) a == 0) ⇒ setAt marks (a - 1) (x .current .position .place) else marks
+
+-- mark a is dropped; one that does not stand is refused
+abbrev pub markDropped : Store → ℕ → Called
+markDropped x a = done (record { current = x .current; set = withoutMark a (x .set) }) (standingCode (x .set) a) 0
+
+abbrev pub committed : Store → Called
+committed x = done (begunAt (x .current .head)) 0 (x .current .position .place)
+
+-- the code of marks a and c, and the steps between their places
+abbrev pub betweenMarks : Store → List ℕ → ℕ → ℕ → Called
+betweenMarks x marks a c = record {
+  store = x;
+  answer = answerOf (pairCode x a c) (distance (placeIn marks a) (placeIn marks c));
+}
+
+abbrev pub marksStanding : Store → Called
+marksStanding x = done x 0 (ones (x .set))
+
+abbrev pub changesFree : Store → List ℕ → Called
+changesFree x journal = done x 0 (capacityOf journal - x .current .position .used)
+
+-- ---- the calls that lead to another place
+
+abbrev pub Leads : HistoryCall → Type 0
+Leads (SetMark a) = ⊥
+Leads (DropMark a) = ⊥
+Leads Undo = Unit {0}
+Leads Redo = Unit {0}
+Leads (GoTo a) = Unit {0}
+Leads Commit = ⊥
+Leads (Between a c) = ⊥
+Leads Standing = ⊥
+Leads Free = ⊥
+
+abbrev pub nowhere : Way
+nowhere = record { code = 0; back = false; steps = 0 }
+
+-- one step back or on, where the place is not at that end; to the place of a mark that stands
+abbrev pub wayOf : Store → List ℕ → HistoryCall → Way
+wayOf x marks (SetMark a) = nowhere
+wayOf x marks (DropMark a) = nowhere
+wayOf x marks Undo = record { code = (x .current .position .place == 0) ⇒ 14 else 0; back = true; steps = 1 }
+wayOf x marks Redo = record {
+  code = (x .current .position .place == x .current .position .steps) ⇒ 14 else 0;
+  back = false;
+  steps = 1;
+}
+wayOf x marks (GoTo a) = record {
+  code = standingCode (x .set) a;
+  back = ltb (placeIn marks a) (x .current .position .place);
+  steps = distance (x .current .position .place) (placeIn marks a);
+}
+wayOf x marks Commit = nowhere
+wayOf x marks (Between a c) = nowhere
+wayOf x marks Standing = nowhere
+wayOf x marks Free = nowhere
+
+-- ---- what a refused call leaves
+
+-- where the code is not 0, the store and the lent words are as they were
+abbrev pub Leaves : Store → Memory → Called → Memory → Type 0
+Leaves x mem d mem′ = d .answer .code ≢ 0 → (d .store ≡ x) × (mem′ ≡ mem)

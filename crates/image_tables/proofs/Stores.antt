@@ -1,0 +1,44 @@
+-- Stores in a row.
+use Prim.Native.Nat.{ℕ, suc, _+_, _*_, _≤_, _<_}
+use mathlib.Core.Path.{_≡_, refl, ap, ap₂, _∙_}
+use mathlib.Core.List.{List, [], _∷_, _++_}
+use native.Mathlib.Omega.{arith}
+use lib.ListN.{length, set}
+use lib.Seq.{sets, set-comm}
+use Rattle.graph.specs.declared.Reading.{Reading}
+use Rattle.graph.specs.Graph.{readingKind, decimetres}
+use Rattle.graph_tables.specs.Tables.{etype, wthis, readingAt}
+use Rattle.image_tables.specs.Words.{edgeWords}
+use Rattle.lists.proofs.Stores.{sets-append}
+
+pub three-by : (l : List ℕ) (at a b c : ℕ) → set (set (set l at a) (at + 1) b) (at + 2) c ≡ sets l at (a ∷ b ∷ c ∷ [])
+three-by l at a b c =
+    let e : at + 1 ≡ suc at = omega arith in
+    let f : at + 2 ≡ suc (suc at) = omega arith in
+    rw (e, f)
+
+pub then-by : (l : List ℕ) {l₁ l₂ : List ℕ} (i j : ℕ) (us vs : List ℕ) → l₁ ≡ sets l i us → j ≡ i + length us → l₂ ≡ sets l₁ j vs → l₂ ≡ sets l i (us ++ vs)
+then-by l i j us vs p q r = r ∙ ap₂ (λ (m : List ℕ) (k : ℕ). sets m k vs) p q ∙ sets-append l us vs i
+
+-- the two halves of an edge's record
+pub six-by : (l : List ℕ) {l₁ l₂ : List ℕ} (et : List ℕ) (at e : ℕ) {a z t k d : ℕ} {r : Reading} →
+    l₁ ≡ sets l at (e ∷ a ∷ z ∷ []) → l₂ ≡ sets l₁ (at + 3) (t ∷ k ∷ d ∷ []) →
+    a ≡ wthis et (2 * e) → z ≡ wthis et (2 * e + 1) → t ≡ etype et e → r ≡ readingAt et e → k ≡ readingKind r → d ≡ decimetres r →
+    l₂ ≡ sets l at (edgeWords et e)
+six-by l et at e {a} {z} {t} {k} {d} {r} p q ea ez et′ er ek ed =
+    then-by l at (at + 3) (e ∷ a ∷ z ∷ []) (t ∷ k ∷ d ∷ []) p refl q
+    ∙ (λ i. sets l at (e ∷ ea i ∷ ez i ∷ et′ i ∷ (ek ∙ ap readingKind er) i ∷ (ed ∙ ap decimetres er) i ∷ []))
+
+-- ---- stores at different places
+
+set-apart : (l : List ℕ) (i a to : ℕ) (vs : List ℕ) → i < to → sets (set l i a) to vs ≡ set (sets l to vs) i a
+set-apart l i a to [] h = refl
+set-apart l i a to (v ∷ vs) h = ap (λ (k : List ℕ). sets k (suc to) vs) (set-comm l i to a v (λ e. omega arith)) ∙ set-apart (set l to v) i a (suc to) vs (omega arith)
+
+pub sets-apart : (l : List ℕ) (at to : ℕ) (us vs : List ℕ) → at + length us ≤ to → sets (sets l at us) to vs ≡ sets (sets l to vs) at us
+sets-apart l at to [] vs h = refl
+sets-apart l at to (u ∷ us) vs h =
+    sets-apart (set l at u) (suc at) to us vs (omega arith) ∙ ap (λ (k : List ℕ). sets k (suc at) us) (set-apart l at u to vs (omega arith))
+
+pub four-by : (l : List ℕ) {l₁ : List ℕ} (at a b c d : ℕ) → l₁ ≡ sets l at (a ∷ b ∷ c ∷ []) → set l₁ (at + 3) d ≡ sets l at (a ∷ b ∷ c ∷ d ∷ [])
+four-by l at a b c d e = let f : at + 3 ≡ suc (suc (suc at)) = omega arith in rw (e, f)

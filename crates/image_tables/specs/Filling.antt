@@ -1,0 +1,52 @@
+-- A graph on its way into the tables: its vertices without lists, then its edges, then each word at the end of the list
+-- of its vertex.
+use Prim.Native.Nat.{ℕ, _+_}
+use mathlib.Core.Path.{_≡_}
+use mathlib.Core.Bool.{true}
+use mathlib.Core.List.{List, []}
+use lib.ListN.{getD}
+use Rattle.lists.specs.Choice.{_==_}
+use Rattle.lists.specs.Lists.{filter}
+use Rattle.graph.specs.Graph.{Vertex, Edge, thisIn, readingOf}
+use Rattle.graph.specs.WellFormed.{Bounds}
+use Rattle.image.specs.Image.{loadable}
+use Rattle.graph_tables.specs.Tables.{State, state, noHead, HalfRowIn, vlast, wthis, insertVertexS, placeEdgeS, attachS}
+use Rattle.graph_tables.specs.Tables.{CanAttach}
+use Rattle.graph_tables.specs.Capacities.{Sized}
+
+-- the vertex without a list; with the words of ws that are seen from it, in their order
+abbrev pub withoutList : Vertex → Vertex
+withoutList v = record { number = v .number; type = v .type; value = v .value; incidences = [] }
+
+abbrev pub filled : List Edge → List ℕ → Vertex → Vertex
+filled es ws v = record {
+  number = v .number;
+  type = v .type;
+  value = v .value;
+  incidences = filter
+      (λ w. thisIn es w == v .number) ws;
+}
+
+-- the vertex, the edge whose record stands at `at`, last in its order
+unfoldable pub vertexS : List ℕ → ℕ → State → State
+vertexS part at s = insertVertexS (getD part at 0) (getD part (at + 1) 0) (getD part (at + 2) 0) (s .head .vlast) s
+
+unfoldable pub edgeS : List ℕ → ℕ → State → State
+edgeS part at s =
+    placeEdgeS (getD part at 0) (getD part (at + 1) 0) (getD part (at + 2) 0) (getD part (at + 3) 0)
+    (readingOf (getD part (at + 4) 0) (getD part (at + 5) 0)) (s .head .elast) s
+
+-- word w, last in the list of the vertex that it is seen from
+unfoldable pub wordS : ℕ → State → State
+wordS w s = attachS (wthis (s .et) w) (vlast (s .vt) (wthis (s .et) w)) w s
+
+pub record CanWord (w : ℕ) (s : State) : Type 0 where
+  pub word : HalfRowIn (s .et) w
+  pub back : CanAttach (wthis (s .et) w) (vlast (s .vt) (wthis (s .et) w)) w s
+
+-- what is loaded: REFERENCE 10.6
+-- What loading asks: the words are such words, for the capacities of the tables and some number of types.
+pub record CanLoad (words vt et : List ℕ) : Type 0 where
+  pub bounds : Bounds
+  pub sized : Sized bounds (state noHead vt et)
+  pub sound : loadable bounds words ≡ true

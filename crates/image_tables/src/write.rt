@@ -1,0 +1,167 @@
+// The parts of an image, from the tables: each function writes words from a place on.
+// A caller has tables that hold a graph and room for its image, as 106 saw to.
+use graph_tables::Head;
+use graph_tables::rows::decimetres_of;
+use graph_tables::rows::edge_type;
+use graph_tables::rows::ends_of;
+use graph_tables::rows::kind_of;
+use graph_tables::rows::reading_at;
+use graph_tables::rows::this;
+use graph_tables::rows::vertex_type;
+use graph_tables::rows::vertex_value;
+use image::layout::EDGE;
+use image::layout::HEADER;
+use image::layout::VERTEX;
+use image::layout::edge_offset;
+use image::layout::incidence_offset;
+use linked_lists::Ends;
+use linked_lists::LinkLayout;
+ghost use mathlib.Core.Path.{_≡_};
+ghost use mathlib.Core.List.{[], _∷_};
+ghost use Prim.Native.Nat.{ℕ, _+_, _≤_, _<_, _^_};
+ghost use lib.ListN.{length};
+ghost use lib.Seq.{sets};
+ghost use Rattle.image.specs.Image.{vertexSize, headerOf};
+ghost use Rattle.graph_tables.specs.Tables.{VertexRowIn, EdgeRowIn, vertexLinks, edgeLinks, incidenceLinks};
+ghost use Rattle.graph_tables.specs.Tables.{vertexListEnds, edgeListEnds, endsAt};
+ghost use Rattle.image_tables.specs.Words.{vertexWords, edgeWords, listWords, vertexPartOf, edgePartOf};
+ghost use Rattle.image_tables.specs.Words.{incidencePartOf};
+ghost use Rattle.image_tables.specs.Words.{HasRoom, HoldsSome};
+
+fn three(out: &mut [u32], at: usize, a: u32, b: u32, c: u32)
+    requires { ⌜ at + 3 ≤ length (now out) ⌝ }
+    ensures { λ _. ⌜ now (out .exit) ≡ sets (now (out .entry)) at (a ∷ b ∷ c ∷ []) ⌝ }
+{
+    out[at] = a;
+    out[at + 1] = b;
+    out[at + 2] = c;
+}
+
+// V, E, the three offsets, the total.
+pub fn header(out: &mut [u32], v: u32, e: u32)
+    requires { ⌜ (v ≤ 1000) × (e ≤ 4000) × (6 ≤ length (now out)) ⌝ }
+    ensures { λ _. ⌜ now (out .exit) ≡ sets (now (out .entry)) 0 (headerOf vertexSize v e) ⌝ }
+{
+    let edges = edge_offset(VERTEX, v as usize);
+    let lists = incidence_offset(VERTEX, v as usize, e as usize);
+    let total = image::layout::length(VERTEX, v as usize, e as usize);
+    three(out, 0, v, e, HEADER as u32);
+    three(out, 3, edges as u32, lists as u32, total as u32);
+}
+
+// The record of edge e.
+fn edge(et: &[u32], e: u32, out: &mut [u32], at: usize)
+    requires { ⌜ EdgeRowIn (now et) e × (e < 2 ^ 31) × HasRoom at (edgeWords (now et) e) (now out) ⌝ }
+    ensures { λ _. ⌜ now (out .exit) ≡ sets (now (out .entry)) at (edgeWords (now (et .entry)) e) ⌝ }
+{
+    let a = this(et, 2 * e);
+    let z = this(et, 2 * e + 1);
+    let t = edge_type(et, e);
+    let r = reading_at(et, e);
+    let k = kind_of(r);
+    let d = decimetres_of(r);
+    three(out, at, e, a, z);
+    three(out, at + 3, t, k, d);
+}
+
+// The edge part.
+pub fn edges(head: Head, et: &[u32], out: &mut [u32], from: usize)
+    requires { ⌜ HoldsSome edgeLinks (now et) (edgeListEnds head) × (length (now et) < 2 ^ 31)
+        × HasRoom from (edgePartOf head (now et)) (now out) ⌝ }
+    ensures { λ _. ⌜ now (out .exit) ≡ sets (now (out .entry)) from (edgePartOf head (now (et .entry))) ⌝ }
+{
+    let layout = LinkLayout {
+        stride: 12,
+        offset: 2,
+    };
+    let ends = Ends {
+        first: head.efirst,
+        last: head.elast,
+    };
+    let mut at = from;
+    let mut e = linked_lists::next(et, layout, ends, 0);
+    while e != 0 {
+        edge(et, e, out, at);
+        at += EDGE;
+        e = linked_lists::next(et, layout, ends, e);
+    }
+}
+
+// The incidence list of v.
+fn list(vt: &[u32], et: &[u32], v: u32, out: &mut [u32], from: usize) -> usize
+    requires { ⌜ VertexRowIn (now vt) v × HoldsSome incidenceLinks (now et) (endsAt (now vt) v)
+        × HasRoom from (listWords (now vt) (now et) v) (now out) ⌝ }
+    ensures { λ r. ⌜ (now (out .exit) ≡ sets (now (out .entry)) from (listWords (now (vt .entry)) (now (et .entry)) v))
+        × (r ≡ from + length (listWords (now (vt .entry)) (now (et .entry)) v)) ⌝ }
+{
+    let layout = LinkLayout {
+        stride: 6,
+        offset: 12,
+    };
+    let ends = ends_of(vt, v);
+    let mut at = from;
+    let mut w = linked_lists::next(et, layout, ends, 0);
+    while w != 0 {
+        out[at] = w;
+        at += 1;
+        w = linked_lists::next(et, layout, ends, w);
+    }
+    at
+}
+
+// The record of vertex v at `at`, and its list at `to`, behind the records: the list comes first, and its length is the
+// degree. Tells the place behind the list.
+fn vertex(vt: &[u32], et: &[u32], v: u32, out: &mut [u32], at: usize, to: usize) -> usize
+    requires { ⌜ VertexRowIn (now vt) v × HoldsSome incidenceLinks (now et) (endsAt (now vt) v) × (at + 4 ≤ to)
+        × HasRoom to (listWords (now vt) (now et) v) (now out) × (length (listWords (now vt) (now et) v) < 2 ^ 32) ⌝ }
+    ensures { λ r. ⌜ (now (out .exit)
+        ≡ sets (sets (now (out .entry)) to (listWords (now (vt .entry)) (now (et .entry)) v))
+        at (vertexWords (now (vt .entry)) (now (et .entry)) v))
+        × (r ≡ to + length (listWords (now (vt .entry)) (now (et .entry)) v)) ⌝ }
+{
+    let end = list(vt, et, v, out, to);
+    let t = vertex_type(vt, v);
+    let x = vertex_value(vt, v);
+    three(out, at, v, t, x);
+    out[at + 3] = (end - to) as u32;
+    end
+}
+
+// The vertex part from `from` on and the incidence part from `behind` on, vertex by vertex on one walk. Tells the place
+// behind the lists.
+pub fn vertices(
+    head: Head,
+    vt: &[u32],
+    et: &[u32],
+    out: &mut [u32],
+    from: usize,
+    behind: usize,
+) -> usize
+    requires { ⌜ HoldsSome vertexLinks (now vt) (vertexListEnds head) × ((v : ℕ) → 1 ≤ v
+        → HoldsSome incidenceLinks (now et) (endsAt (now vt) v))
+        × (from + length (vertexPartOf head (now vt) (now et)) ≤ behind)
+        × HasRoom behind (incidencePartOf head (now vt) (now et)) (now out)
+        × (length (incidencePartOf head (now vt) (now et)) < 2 ^ 32) ⌝ }
+    ensures { λ r. ⌜ (now (out .exit)
+        ≡ sets (sets (now (out .entry)) from (vertexPartOf head (now (vt .entry)) (now (et .entry))))
+        behind (incidencePartOf head (now (vt .entry)) (now (et .entry))))
+        × (r ≡ behind + length (incidencePartOf head (now (vt .entry)) (now (et .entry)))) ⌝ }
+{
+    let layout = LinkLayout {
+        stride: 8,
+        offset: 2,
+    };
+    let ends = Ends {
+        first: head.vfirst,
+        last: head.vlast,
+    };
+    let mut at = from;
+    let mut to = behind;
+    let mut v = linked_lists::next(vt, layout, ends, 0);
+    while v != 0 {
+        to = vertex(vt, et, v, out, at, to);
+        at += VERTEX;
+        v = linked_lists::next(vt, layout, ends, v);
+    }
+    to
+}

@@ -1,0 +1,89 @@
+-- The invariant: the way so far, after what is ahead, is the way after the whole list. The measure is the length of what is ahead.
+use Prim.Native.Nat.{ℕ}
+use mathlib.Core.Path.{_≡_, refl, sym, ap, _∙_}
+use mathlib.Core.List.{List}
+use borrow.Author.Needs.{needs}
+use Rattle.linked_lists.specs.Links.{nodes}
+use Rattle.graph.specs.declared.Reading.{Reading}
+use Rattle.graph_tables.specs.Tables.{incidenceLinks, endsAt, vfirst, wnext}
+use Rattle.queries.proofs.ListWalks.{Along, along-left, along-start, along-row, along-in, along-link, along-less, along-on, first-link}
+use Rattle.graph.specs.declared.Reading.the-variants.{Untested}
+use Rattle.prices.specs.Prices.{later, lastTested}
+use Rattle.price_calls.specs.Ways.{readingTo, wayAt}
+use Rattle.price_calls.proofs.Passes.{ahead, ahead-end, ahead-on}
+use Rattle.price_calls.proofs.one_way.Statement.{statement}
+use Rattle.price_calls.proofs.one_way.Tie as tie
+
+-- it adds no numbers up
+abbrev Stands : List ℕ → List ℕ → ℕ → ℕ → Type 0
+Stands vt et a w = Along (λ x. 0) vt et a w 0
+
+-- what is ahead of word w in the list of a
+abbrev rest : List ℕ → List ℕ → ℕ → ℕ → List ℕ
+rest vt et a w = ahead incidenceLinks et (endsAt vt a) w
+
+abbrev Inv-loop : tie.InvT-loop
+Inv-loop vt et a b way₀ w₀ way w = Stands vt et a w × (lastTested (readingTo et b) way (rest vt et a w) ≡ wayAt vt et a b)
+
+abbrev μ-loop : tie.MeasureT-loop
+μ-loop vt et a b way₀ w₀ way w = along-left vt et a w
+
+start : (vt et : List ℕ) (a b w : ℕ) → w ≡ vfirst vt a → lastTested (readingTo et b) Untested (rest vt et a w) ≡ wayAt vt et a b
+unfolding wayAt nodes
+start vt et a b w q = ap (λ (x : ℕ). lastTested (readingTo et b) Untested (rest vt et a x)) (q ∙ first-link vt et a)
+
+on : (vt et : List ℕ) (a b w : ℕ) → Stands vt et a w → (w ≡ 0 → ⊥) → (way way′ r : Reading) (y : ℕ) → r ≡ readingTo et b w → way′ ≡ later way r → y ≡ wnext et w →
+    lastTested (readingTo et b) way (rest vt et a w) ≡ wayAt vt et a b →
+    lastTested (readingTo et b) way′ (rest vt et a y) ≡ wayAt vt et a b
+on vt et a b w k z way way′ r y p q n h =
+    ap (λ (x : Reading). lastTested (readingTo et b) x (rest vt et a y)) (q ∙ ap (later way) p)
+    ∙ sym (ap (lastTested (readingTo et b) way) (ahead-on _ _ incidenceLinks et (endsAt vt a) w 0 _ (k .walk) z y (along-link _ vt et a w 0 k z y n)))
+    ∙ h
+
+first-word-requires : tie.Need-first-word-requires Inv-loop μ-loop
+first-word-requires c κs = c .before .before .pre .row
+
+loop-holds : tie.Need-loop-holds Inv-loop μ-loop
+loop-holds c =
+    let s = c .before .before .before in
+    (along-start _ _ _ _ (s .pre) _ (c .first-word .ensures), start _ _ _ _ _ (c .first-word .ensures))
+
+reading-to-requires : tie.Need-reading-to-requires Inv-loop μ-loop
+reading-to-requires c κs = along-row _ _ _ _ _ _ (c .before .loop .inv .0) (c .loop-test .taken)
+
+following-requires : tie.Need-following-requires Inv-loop μ-loop
+following-requires c κs = along-in _ _ _ _ _ _ (c .before .before .before .loop .inv .0) (c .before .before .loop-test .taken)
+
+loop-less : tie.Need-loop-less Inv-loop μ-loop
+loop-less c =
+    along-less _ _ _ _ _ _ (c .before .before .before .before .loop .inv .0) (c .before .before .before .loop-test .taken) _ (c .following .ensures)
+
+loop-again : tie.Need-loop-again Inv-loop μ-loop
+loop-again c =
+    let l = c .before .before .before .before .loop in
+    let z = c .before .before .before .loop-test .taken in (
+      along-on _ _ _ _ _ _ (l .inv .0) z _ (c .following .ensures) 0 refl,
+      on _ _ _ _ _ (l .inv .0) z (l .way) _ _ _ (c .before .before .reading-to .ensures) (c .before .with-reading .ensures) (c .following .ensures) (l .inv .1),
+    )
+
+returns : tie.Need-returns Inv-loop μ-loop
+returns c =
+    let l = c .before .loop in
+    let a = c .before .before .before .before .before .args in
+    sym (ap (lastTested (readingTo (a .et .now) (a .b)) (l .way)) (ahead-end (λ x. 0) (λ x. ℕ) incidenceLinks (a .et .now) (endsAt (a .vt .now) (a .a)) (l .w) 0 0 (c .loop-test .left)))
+    ∙ l .inv .1
+
+pub one-way-spec : {M : Type 1} → statement M
+one-way-spec =
+    tie.close
+    (tie.spec
+    Inv-loop
+    μ-loop
+    first-word-requires
+    loop-holds
+    reading-to-requires
+    (λ c κs. search needs)
+    following-requires
+    loop-less
+    loop-again
+    returns)

@@ -1,1 +1,0 @@
-// The price list layer. Its definitions are in specs/.

@@ -1,0 +1,254 @@
+// The answers to questions. Where a name is missing, the look-up says so and the function leaves with the code.
+// A caller has tables that hold a graph; the words of the question may be any.
+use commands::Answer;
+use commands::Question;
+use commands::accepted;
+use commands::refused;
+use graph_tables::Head;
+use graph_tables::Lookup;
+use graph_tables::lookups::find_edge;
+use graph_tables::lookups::find_vertex;
+use graph_tables::lookups::find_word;
+use graph_tables::rows::this;
+use queries::questions::degree;
+use queries::questions::edge_before;
+use queries::questions::vertex_before;
+use queries::questions::word_before;
+use type_rows::is_below;
+ghost use mathlib.Core.Path.{_≡_};
+ghost use mathlib.Core.List.{List};
+ghost use Prim.Native.Nat.{ℕ, _<_};
+ghost use Rattle.graph.specs.Graph.{Graph};
+ghost use mathlib.Core.Bool.{true};
+ghost use Rattle.lists.specs.Choice.{toBit};
+ghost use Rattle.type_rows.specs.Rows.{goodRows};
+ghost use Rattle.type_rows.specs.Closure.{closureWords};
+ghost use Rattle.graph.specs.WellFormed.{Bounds};
+ghost use Rattle.graph_tables.specs.Capacities.{Sized};
+ghost use Rattle.graph_tables.specs.declared.Head.{Head};
+ghost use Rattle.graph_tables.specs.Tables.{state};
+ghost use Rattle.graph_tables.specs.Holds.{Holds};
+ghost use Rattle.commands.specs.declared.Question.the-variants as ask;
+ghost use Rattle.commands.specs.Answers.{answerOf};
+ghost use Rattle.machine.specs.Codes.{questionCode};
+ghost use Rattle.machine.specs.Machine.{questionNumber};
+ghost use Rattle.question_calls.specs.Words.{vertexWord, edgeWord, halfWord, thatWord};
+
+// Where the words of a row stand (REFERENCE 13.1, 13.2).
+const VERTEX_TYPE: usize = 1;
+
+const VERTEX_VALUE: usize = 2;
+
+const VERTEX_FIRST: usize = 3;
+
+const VERTEX_NEXT: usize = 7;
+
+const EDGE_ALPHA: usize = 2;
+
+const EDGE_TYPE: usize = 4;
+
+const EDGE_KIND: usize = 5;
+
+const EDGE_OMEGA: usize = 8;
+
+const EDGE_DECIMETRES: usize = 9;
+
+const EDGE_NEXT: usize = 11;
+
+const HALF_NEXT: usize = 1;
+
+const HALF_THIS: usize = 2;
+
+// A word of the row of vertex a.
+fn vertex_word(vt: &[u32], a: u32, field: usize) -> Answer
+    requires { ⌜ field < 8 ⌝ }
+    ensures { λ r. ⌜ r ≡ vertexWord (now (vt .entry)) a field ⌝ }
+{
+    let f = find_vertex(vt, a);
+    let Lookup::Found(at) = f else {
+        return refused(4);
+    };
+    accepted(vt[at + field])
+}
+
+// A word of the row of edge a.
+fn edge_word(et: &[u32], a: u32, field: usize) -> Answer
+    requires { ⌜ field < 12 ⌝ }
+    ensures { λ r. ⌜ r ≡ edgeWord (now (et .entry)) a field ⌝ }
+{
+    let f = find_edge(et, a);
+    let Lookup::Found(at) = f else {
+        return refused(5);
+    };
+    accepted(et[at + field])
+}
+
+// A word of the half of oriented word w.
+fn half_word(et: &[u32], w: u32, field: usize) -> Answer
+    requires { ⌜ field < 6 ⌝ }
+    ensures { λ r. ⌜ r ≡ halfWord (now (et .entry)) w field ⌝ }
+{
+    edge_word(et, w / 2, 6 * (w % 2) as usize + field)
+}
+
+// The vertex that the other half is seen from.
+fn that_word(et: &[u32], w: u32) -> Answer
+    ensures { λ r. ⌜ r ≡ thatWord (now (et .entry)) w ⌝ }
+{
+    edge_word(et, w / 2, EDGE_OMEGA - 6 * (w % 2) as usize)
+}
+
+// 1 for true, 0 for false.
+fn as_number(b: bool) -> u32
+    ensures { λ r. ⌜ r ≡ toBit b ⌝ }
+{
+    if b {
+        return 1;
+    }
+    0
+}
+
+// Kind 46.
+fn order_of_vertices(head: Head, vt: &[u32], a: u32, b: u32) -> Answer
+    requires { ⌜ ((et : List ℕ) × (g : Graph) × Holds (state head (now vt) et) g) ⌝ }
+    ensures { λ r. ⌜ ((g : Graph) → (n : ℕ) → (rows et : List ℕ) → Holds (state head (now (vt .entry)) et) g
+        → r ≡ answerOf (questionCode n g (ask.VertexOrder a b)) (questionNumber rows g (ask.VertexOrder a b))) ⌝ }
+{
+    let f = find_vertex(vt, a);
+    let Lookup::Found(_) = f else {
+        return refused(4);
+    };
+    let h = find_vertex(vt, b);
+    let Lookup::Found(_) = h else {
+        return refused(4);
+    };
+    let before = vertex_before(head, vt, a, b);
+    accepted(as_number(before))
+}
+
+// Kind 47.
+fn order_of_edges(head: Head, et: &[u32], a: u32, b: u32) -> Answer
+    requires { ⌜ ((vt : List ℕ) × (g : Graph) × Holds (state head vt (now et)) g) ⌝ }
+    ensures { λ r. ⌜ ((g : Graph) → (n : ℕ) → (rows vt : List ℕ) → Holds (state head vt (now (et .entry))) g
+        → r ≡ answerOf (questionCode n g (ask.EdgeOrder a b)) (questionNumber rows g (ask.EdgeOrder a b))) ⌝ }
+{
+    let f = find_edge(et, a);
+    let Lookup::Found(_) = f else {
+        return refused(5);
+    };
+    let h = find_edge(et, b);
+    let Lookup::Found(_) = h else {
+        return refused(5);
+    };
+    let before = edge_before(head, et, a, b);
+    accepted(as_number(before))
+}
+
+// Kind 48.
+fn order_of_words(vt: &[u32], et: &[u32], a: u32, b: u32) -> Answer
+    requires { ⌜ ((head : Head) × (g : Graph) × Holds (state head (now vt) (now et)) g) ⌝ }
+    ensures { λ r. ⌜ ((g : Graph) → (n : ℕ) → (rows : List ℕ) → (head : Head)
+        → Holds (state head (now (vt .entry)) (now (et .entry))) g
+        → r ≡ answerOf (questionCode n g (ask.WordOrder a b)) (questionNumber rows g (ask.WordOrder a b))) ⌝ }
+{
+    let f = find_word(et, a);
+    let Lookup::Found(_) = f else {
+        return refused(5);
+    };
+    let h = find_word(et, b);
+    let Lookup::Found(_) = h else {
+        return refused(5);
+    };
+    if this(et, a) != this(et, b) {
+        return refused(8);
+    }
+    let before = word_before(vt, et, a, b);
+    accepted(as_number(before))
+}
+
+// Kind 45.
+fn degree_of(
+    closed: &[u64; 64],
+    vt: &[u32],
+    et: &[u32],
+    types: u32,
+    a: u32,
+    t: u32,
+    c: u32,
+) -> Answer
+    requires { ⌜ ((b : Bounds) × (head : Head) × (g : Graph) × Sized b (state head (now vt) (now et))
+        × Holds (state head (now vt) (now et)) g) ⌝ }
+    ensures { λ r. ⌜ ((g : Graph) → (rows : List ℕ) → (b : Bounds) → (head : Head)
+        → Sized b (state head (now (vt .entry)) (now (et .entry)))
+        → Holds (state head (now (vt .entry)) (now (et .entry))) g
+        → goodRows rows ≡ true → now (closed .entry) ≡ closureWords rows
+        → r ≡ answerOf (questionCode types g (ask.Degree a t c)) (questionNumber rows g (ask.Degree a t c))) ⌝ }
+{
+    let f = find_vertex(vt, a);
+    let Lookup::Found(_) = f else {
+        return refused(4);
+    };
+    if types <= t {
+        return refused(6);
+    }
+    if 2 < c {
+        return refused(15);
+    }
+    accepted(degree(closed, vt, et, a, t, c))
+}
+
+// Kind 52.
+fn below_of(closed: &[u64; 64], types: u32, s: u32, t: u32) -> Answer
+    ensures { λ r. ⌜ ((g : Graph) → (rows : List ℕ) → goodRows rows ≡ true → now (closed .entry) ≡ closureWords rows
+        → r ≡ answerOf (questionCode types g (ask.Below s t)) (questionNumber rows g (ask.Below s t))) ⌝ }
+{
+    if types <= s {
+        return refused(6);
+    }
+    if types <= t {
+        return refused(6);
+    }
+    let below = is_below(closed, s, t);
+    accepted(as_number(below))
+}
+
+// The answer to a question; types is their number, closed the closure of their rows.
+pub fn reply(
+    head: Head,
+    vt: &[u32],
+    et: &[u32],
+    closed: &[u64; 64],
+    types: u32,
+    question: Question,
+) -> Answer
+    requires { ⌜ ((b : Bounds) × (g : Graph) × Sized b (state head (now vt) (now et))
+        × Holds (state head (now vt) (now et)) g) ⌝ }
+    ensures { λ r. ⌜ ((g : Graph) → (rows : List ℕ) → (b : Bounds)
+        → Sized b (state head (now (vt .entry)) (now (et .entry)))
+        → Holds (state head (now (vt .entry)) (now (et .entry))) g
+        → goodRows rows ≡ true → now (closed .entry) ≡ closureWords rows
+        → r ≡ answerOf (questionCode types g question) (questionNumber rows g question)) ⌝ }
+{
+    match question {
+        Question::FirstVertex => accepted(head.vfirst),
+        Question::NextVertex(a) => vertex_word(vt, a, VERTEX_NEXT),
+        Question::FirstEdge => accepted(head.efirst),
+        Question::NextEdge(a) => edge_word(et, a, EDGE_NEXT),
+        Question::FirstWord(a) => vertex_word(vt, a, VERTEX_FIRST),
+        Question::NextWord(a) => half_word(et, a, HALF_NEXT),
+        Question::Alpha(a) => edge_word(et, a, EDGE_ALPHA),
+        Question::Omega(a) => edge_word(et, a, EDGE_OMEGA),
+        Question::This(a) => half_word(et, a, HALF_THIS),
+        Question::That(a) => that_word(et, a),
+        Question::VertexType(a) => vertex_word(vt, a, VERTEX_TYPE),
+        Question::EdgeType(a) => edge_word(et, a, EDGE_TYPE),
+        Question::Value(a) => vertex_word(vt, a, VERTEX_VALUE),
+        Question::ReadingKind(a) => edge_word(et, a, EDGE_KIND),
+        Question::Decimetres(a) => edge_word(et, a, EDGE_DECIMETRES),
+        Question::Degree(a, t, c) => degree_of(closed, vt, et, types, a, t, c),
+        Question::VertexOrder(a, b) => order_of_vertices(head, vt, a, b),
+        Question::EdgeOrder(a, b) => order_of_edges(head, et, a, b),
+        Question::WordOrder(a, b) => order_of_words(vt, et, a, b),
+        Question::Below(s, t) => below_of(closed, types, s, t),
+    }
+}

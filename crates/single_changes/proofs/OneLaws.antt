@@ -1,0 +1,220 @@
+-- A change that is refused, one that is tried, and what it takes to make it.
+use Prim.Native.Nat.{ℕ, _+_, _*_, _≤_}
+use mathlib.Core.Path.{_≡_, refl, sym, ap, subst, _∙_}
+use mathlib.Core.Logic.{_≢_}
+use mathlib.Core.Bool.{Bool, true, false, _&&_}
+use mathlib.Core.List.{List}
+use native.Mathlib.Omega.{arith}
+use lib.ListN.{length}
+use borrow.Author.Tests.{eqb-true, eqb-false, ne-eqb}
+use Rattle.lists.specs.Choice.{_==_, _⇒_else_}
+use denote.Enum.Declared.{tagOf}
+use Rattle.graph.proofs.Change.{the-type}
+use Rattle.graph.specs.declared.Change.{Change}
+use Rattle.graph.specs.declared.Change.the-variants.{CreateVertex, DeleteVertex, CreateEdge, DeleteEdge, RetypeVertex, RetypeEdge, SetValue, SetReading, SetAlpha, SetOmega, VertexBefore, VertexAfter, EdgeBefore, EdgeAfter, WordBefore, WordAfter}
+use Rattle.graph.specs.declared.Edit.{Edit}
+use Rattle.graph.specs.declared.Edit.the-variants.{InsertEdge, SetVertex, SetEdge, MoveVertex, MoveEdge, MoveWord}
+use Rattle.graph.specs.declared.Reading.the-variants.{Untested}
+use Rattle.graph.specs.Graph.{Graph, readingKind, decimetres, readingOf}
+use Rattle.graph.specs.WellFormed.{Bounds}
+use Rattle.graph.specs.Changes.{EdgeThere, Allowed}
+use Rattle.graph.specs.Plans.{plan}
+use Rattle.graph.specs.Same.{idle}
+use Rattle.graph.proofs.Readings.{reading-words}
+use Rattle.graph.proofs.PlanLaws.{plan-applies}
+use Rattle.graph_tables.specs.declared.Head.{Head}
+use Rattle.graph_tables.specs.Tables.{State, state, ekind, edecimetres}
+use Rattle.graph_tables.specs.Edits.{Can, Room}
+use Rattle.graph_tables.specs.Holds.{Holds}
+use Rattle.graph_tables.specs.Capacities.{Sized, boundsOf}
+use Rattle.graph_tables.proofs.Callers.{small, vertex-in, edge-in}
+use Rattle.graph_tables.proofs.Refines.{can-edit}
+use Rattle.journal.specs.Rows.{IsWords}
+use Rattle.journal.specs.Written.{Written}
+use Rattle.queries.specs.Plans.{planS, OneEdit}
+use Rattle.queries.proofs.Answers.{reading-at, reading-kind, reading-decimetres}
+use Rattle.queries.proofs.PlanLaws.{can-plan, plan-is, one-edit}
+use Rattle.machine.specs.Codes.{changeCode}
+use Rattle.change_codes.specs.Held.{HoldsVE}
+use Rattle.commands.specs.Fits.{ChangeFits}
+use Rattle.machine.proofs.Allows.{allows}
+use Rattle.single_changes.specs.declared.Made.{Made}
+use Rattle.single_changes.specs.One.{HoldsGraph, ReadingWords, ReadyFor, tried, Tries, One, withRoom}
+
+pub no-code : (keeps : Bool) (free c : ℕ) → withRoom keeps free c ≡ 0 → c ≡ 0
+no-code keeps free c e = go (c == 0) refl e
+  where
+    go : (p : Bool) → (c == 0) ≡ p → (p ⇒ tried keeps free else c) ≡ 0 → c ≡ 0
+    go true q z = eqb-true c 0 q
+    go false q z = z
+
+pub some-room : (free c : ℕ) → withRoom false free c ≡ 0 → free ≢ 0
+some-room free c e = go (c == 0) refl (free == 0) refl e
+  where
+    go : (p : Bool) → (c == 0) ≡ p → (r : Bool) → (free == 0) ≡ r → _≡_ {A = ℕ} (p ⇒ (r ⇒ 10 else 0) else c) 0 → free ≢ 0
+    go true q true k z = absurd (omega arith)
+    go true q false k z = eqb-false free 0 k
+    go false q r k z = absurd (eqb-false c 0 q z)
+
+-- ---- what is allowed can be made
+
+module _ (b : Bounds) (s : State) (z : Sized b s) (g : Graph) (h : Holds s g) where
+  edge-words : (n : ℕ) → EdgeThere g n → IsWords (ekind (s .et) n) (edecimetres (s .et) n)
+  edge-words n c =
+      let r = reading-at s g h n c in
+      (ap readingKind r ∙ sym (reading-kind s g h n c), ap decimetres r ∙ sym (reading-decimetres s g h n c))
+
+  reads-words : (c : Change) → Allowed b g c → ReadingWords c s
+  reads-words (CreateVertex n t x) a = tt
+  reads-words (DeleteVertex v) a = tt
+  reads-words (CreateEdge n x o t) a = tt
+  reads-words (DeleteEdge n) a = edge-words n a
+  reads-words (RetypeVertex v t) a = tt
+  reads-words (RetypeEdge e t) a = edge-words e (a .0)
+  reads-words (SetValue v x) a = tt
+  reads-words (SetReading e k d) a = (edge-words e (a .0), reading-words k d (a .1))
+  reads-words (SetAlpha e v) a = tt
+  reads-words (SetOmega e v) a = tt
+  reads-words (VertexBefore x y) a = tt
+  reads-words (VertexAfter x y) a = tt
+  reads-words (EdgeBefore x y) a = tt
+  reads-words (EdgeAfter x y) a = tt
+  reads-words (WordBefore x y) a = tt
+  reads-words (WordAfter x y) a = tt
+
+  has-room : (c : Change) → Allowed b g c → Room (planS c s) s
+  has-room (CreateVertex n t x) a = vertex-in b s z n (a .0) (a .1)
+  has-room (DeleteVertex v) a = tt
+  has-room (CreateEdge n x o t) a = edge-in b s z n (a .0) (a .1)
+  has-room (DeleteEdge n) a = tt
+  has-room (RetypeVertex v t) a = tt
+  has-room (RetypeEdge e t) a = tt
+  has-room (SetValue v x) a = tt
+  has-room (SetReading e k d) a = tt
+  has-room (SetAlpha e v) a = tt
+  has-room (SetOmega e v) a = tt
+  has-room (VertexBefore x y) a = tt
+  has-room (VertexAfter x y) a = tt
+  has-room (EdgeBefore x y) a = tt
+  has-room (EdgeAfter x y) a = tt
+  has-room (WordBefore x y) a = tt
+  has-room (WordAfter x y) a = tt
+
+  ready : (c : Change) → OneEdit c → Allowed b g c → ReadyFor c s
+  ready c k a =
+      let e = plan-is s g h b c a in
+      let r = subst (λ (x : Edit). Room x s) e (has-room c a) in
+      let i = can-edit s g h (small b s z) (plan c g) (plan-applies b g (h .sound) c a (one-edit c k g .0)) r in
+      (can-plan b s z g h c a, subst (λ (x : Edit). Can x s) (sym e) i, reads-words c a)
+
+-- ---- one change
+
+module _ (x : Change) (types i free : ℕ) (h : Head) (vt et t : List ℕ) (f : ChangeFits x) (c : ℕ)
+    (e : (g : Graph) → HoldsVE vt et g → c ≡ changeCode (boundsOf vt et types) g x) where
+  pub one-refused : c ≢ 0 → {r : Made} → r ≡ record { head = h; code = c; cost = 0 } → One x types i free (state h vt et) t (r .code) (r .cost) (state (r .head) vt et) t
+  one-refused n q = subst (λ (y : Made). One x types i free (state h vt et) t (y .code) (y .cost) (state (y .head) vt et) t) (sym q) (record {
+    fits = f;
+    answers = λ g y. ap (λ (p : Bool). p ⇒ tried (idle (planS x (state h vt et))) free else c) (sym (ne-eqb c 0 n)) ∙ ap (withRoom (idle (planS x (state h vt et))) free) (e g y);
+    stays = λ _. (refl, refl);
+    keeps = λ _ z. absurd (n z);
+    made = λ d. absurd (d refl);
+  })
+
+  -- and no code: it can be tried, and there is a row for it where there is room
+  pub one-can : c ≡ 0 → OneEdit x → HoldsGraph types (state h vt et) × (free ≢ 0 → 12 * i + 12 ≤ length t) → ReadyFor x (state h vt et) × (free ≢ 0 → 12 * i + 12 ≤ length t)
+  one-can z k p =
+      let y = p .0 in
+      let a = allows (boundsOf vt et types) (y .graph) (y .holds .sound) x f (sym (e (y .graph) (h, y .holds)) ∙ z) in
+      (ready (boundsOf vt et types) (state h vt et) (y .sized) (y .graph) (y .holds) x k a, p .1)
+
+  pub one-tried : c ≡ 0 → (k n : ℕ) (s′ : State) (t′ : List ℕ) → Tries (planS x (state h vt et)) i free (state h vt et) t k n s′ t′ → One x types i free (state h vt et) t k n s′ t′
+  one-tried z k n s′ t′ m = record {
+    fits = f;
+    answers = λ g y. m .coded ∙ ap (withRoom (idle (planS x (state h vt et))) free) (sym z ∙ e g y);
+    stays = m .stays;
+    keeps = m .keeps;
+    made = m .made;
+  }
+
+-- in an arm of the match
+pub one-by : {x y : Change} {types i free : ℕ} {s s′ : State} {t t′ : List ℕ} {k n : ℕ} → x ≡ y → One y types i free s t k n s′ t′ → One x types i free s t k n s′ t′
+one-by {types = types} {i = i} {free = free} {s = s} {s′ = s′} {t = t} {t′ = t′} {k = k} {n = n} e o = subst (λ (z : Change). One z types i free s t k n s′ t′) (sym e) o
+
+-- a change that is one edit is no deletion of a vertex
+pub no-deletion : (c : Change) → OneEdit c → tagOf the-type c ≡ 1 → ⊥
+no-deletion (CreateVertex n t x) o z = omega arith
+no-deletion (DeleteVertex a) o z = o
+no-deletion (CreateEdge n a y t) o z = omega arith
+no-deletion (DeleteEdge a) o z = omega arith
+no-deletion (RetypeVertex a t) o z = omega arith
+no-deletion (RetypeEdge a t) o z = omega arith
+no-deletion (SetValue a x) o z = omega arith
+no-deletion (SetReading a k d) o z = omega arith
+no-deletion (SetAlpha e v) o z = omega arith
+no-deletion (SetOmega e v) o z = omega arith
+no-deletion (VertexBefore a b) o z = omega arith
+no-deletion (VertexAfter a b) o z = omega arith
+no-deletion (EdgeBefore a b) o z = omega arith
+no-deletion (EdgeAfter a b) o z = omega arith
+no-deletion (WordBefore a b) o z = omega arith
+no-deletion (WordAfter a b) o z = omega arith
+
+-- ---- what is written is the plan
+
+-- nothing is written where the edit keeps the graph, or where there is no room
+module _ {e : Edit} {i free : ℕ} {h : Head} {vt et t : List ℕ} {r : Made} where
+  pub tries-kept : idle e ≡ true → r ≡ record { head = h; code = 0; cost = 0 } → Tries e i free (state h vt et) t (r .code) (r .cost) (state (r .head) vt et) t
+  tries-kept a q = subst (λ (y : Made). Tries e i free (state h vt et) t (y .code) (y .cost) (state (y .head) vt et) t) (sym q) (record {
+    coded = ap (λ (p : Bool). tried p free) (sym a);
+    stays = λ _. (refl, refl);
+    keeps = λ _ _. a;
+    made = λ d. absurd (d refl);
+  })
+
+  pub tries-full : idle e ≡ false → free ≡ 0 → r ≡ record { head = h; code = 10; cost = 0 } → Tries e i free (state h vt et) t (r .code) (r .cost) (state (r .head) vt et) t
+  tries-full a z q = subst (λ (y : Made). Tries e i free (state h vt et) t (y .code) (y .cost) (state (y .head) vt et) t) (sym q) (record {
+    coded = rw (a, z);
+    stays = λ _. (refl, refl);
+    keeps = λ _ d. absurd (omega arith);
+    made = λ d. absurd (d refl);
+  })
+
+pub tries-made : {e : Edit} {i free : ℕ} {s : State} {h : Head} {vt et t t′ : List ℕ} {r : Made} → idle e ≡ false → free ≢ 0 → Written e 1 i s t (state h vt et) t′ →
+    r ≡ record { head = h; code = 0; cost = 1 } → Tries e i free s t (r .code) (r .cost) (state (r .head) vt et) t′
+tries-made {e = e} {i = i} {free = free} {s = s} {h = h} {vt = vt} {et = et} {t = t} {t′ = t′} a n w q =
+    subst (λ (y : Made). Tries e i free s t (y .code) (y .cost) (state (y .head) vt et) t′) (sym q) (record {
+      coded = rw (a, ne-eqb free 0 n);
+      stays = λ d. absurd (omega arith);
+      keeps = λ d. absurd (omega arith);
+      made = λ _. record { coded = refl; costs = refl; alters = a; written = w };
+    })
+
+pub tries-by : {e e′ : Edit} {i free : ℕ} {s s′ : State} {t t′ : List ℕ} {k n : ℕ} → e ≡ e′ → Tries e i free s t k n s′ t′ → Tries e′ i free s t k n s′ t′
+tries-by {i = i} {free = free} {s = s} {s′ = s′} {t = t} {t′ = t′} {k = k} {n = n} p w = subst (λ (x : Edit). Tries x i free s t k n s′ t′) p w
+
+-- the words of an edge as the edit compares them
+pub edge-idle : (n s s2 k d k2 d2 : ℕ) → IsWords k d → IsWords k2 d2 →
+    idle (SetEdge n s (readingOf k d) s2 (readingOf k2 d2)) ≡ ((s == s2) && ((k == k2) && (d == d2)))
+edge-idle n s s2 k d k2 d2 u v = rw (u .0, u .1, v .0, v .1)
+
+pub words-by : {k k′ d d′ : ℕ} → k ≡ k′ → d ≡ d′ → IsWords k′ d′ → IsWords k d
+words-by p q w = rw (p, q) w
+
+pub insert-edge-by : (n a z s p : ℕ) {o o′ i i′ : ℕ} → o ≡ o′ → i ≡ i′ → InsertEdge n a z s Untested p o i ≡ InsertEdge n a z s Untested p o′ i′
+insert-edge-by n a z s p eo ei = λ j. InsertEdge n a z s Untested p (eo j) (ei j)
+
+pub set-vertex-by : (n : ℕ) {s s′ x x′ u u′ y y′ : ℕ} → s ≡ s′ → x ≡ x′ → u ≡ u′ → y ≡ y′ → SetVertex n s x u y ≡ SetVertex n s′ x′ u′ y′
+set-vertex-by n es ex eu ey = λ j. SetVertex n (es j) (ex j) (eu j) (ey j)
+
+pub set-edge-by : (n : ℕ) {s s′ k k′ d d′ u u′ l l′ f f′ : ℕ} → s ≡ s′ → k ≡ k′ → d ≡ d′ → u ≡ u′ → l ≡ l′ → f ≡ f′ →
+    SetEdge n s (readingOf k d) u (readingOf l f) ≡ SetEdge n s′ (readingOf k′ d′) u′ (readingOf l′ f′)
+set-edge-by n es ek ed eu el ef = λ j. SetEdge n (es j) (readingOf (ek j) (ed j)) (eu j) (readingOf (el j) (ef j))
+
+pub move-vertex-by : (n : ℕ) {p p′ q q′ : ℕ} → p ≡ p′ → q ≡ q′ → MoveVertex n p q ≡ MoveVertex n p′ q′
+move-vertex-by n ep eq = λ j. MoveVertex n (ep j) (eq j)
+
+pub move-edge-by : (n : ℕ) {p p′ q q′ : ℕ} → p ≡ p′ → q ≡ q′ → MoveEdge n p q ≡ MoveEdge n p′ q′
+move-edge-by n ep eq = λ j. MoveEdge n (ep j) (eq j)
+
+pub move-word-by : (w : ℕ) {v v′ p p′ u u′ q q′ : ℕ} → v ≡ v′ → p ≡ p′ → u ≡ u′ → q ≡ q′ → MoveWord w v p u q ≡ MoveWord w v′ p′ u′ q′
+move-word-by w ev ep eu eq = λ j. MoveWord w (ev j) (ep j) (eu j) (eq j)

@@ -1,0 +1,51 @@
+-- `single_changes::adding::set_edge` meets its contract.
+use mathlib.Core.Path.{ap, sym, _∙_}
+use Rattle.graph.specs.declared.Reading.{Reading}
+use Rattle.graph_tables.specs.Tables.{state, setEdgeS}
+use Rattle.single_changes.proofs.OneLaws.{tries-kept, tries-full, tries-made, edge-idle}
+use Rattle.journal.proofs.RowLaws.{rowed-by, edge-words}
+use borrow.Author.Needs.{needs}
+use Rattle.single_changes.proofs.adding.set_edge.Statement.{statement}
+use Rattle.single_changes.proofs.adding.set_edge.Tie as tie
+
+returns : tie.Need-returns
+returns c =
+    let s = c .before .before .before .before .before .before in
+    let a = s .args in
+    tries-kept (edge-idle (a .n) (a .s) (a .s2) (a .k) (a .d) (a .k2) (a .d2) (s .pre .1) (s .pre .2) ∙ sym (c .before .before .same-edge .ensures) ∙ c .before .if1 .taken) (c .unchanged .ensures)
+
+returns-2 : tie.Need-returns-2
+returns-2 c =
+    let s = c .before .before .before .before .before .before .before in
+    let a = s .args in
+    tries-full (edge-idle (a .n) (a .s) (a .s2) (a .k) (a .d) (a .k2) (a .d2) (s .pre .1) (s .pre .2) ∙ sym (c .before .before .before .same-edge .ensures) ∙ c .before .before .if1 .left) (c .before .if2 .taken) (c .unchanged2 .ensures)
+
+put-row-requires : tie.Need-put-row-requires
+put-row-requires c κs = c .before .before .before .before .before .before .before .pre .3 (c .before .if2 .left)
+
+returns-3 : tie.Need-returns-3
+returns-3 c =
+    let s = c .before .before .before .before .before .before .before .before .before .before .before .before .before .before .before .before in
+    let a = s .args in
+    tries-made (edge-idle (a .n) (a .s) (a .s2) (a .k) (a .d) (a .k2) (a .d2) (s .pre .1) (s .pre .2) ∙ sym (c .before .before .before .before .before .before .before .before .before .before .before .before .same-edge .ensures) ∙ c .before .before .before .before .before .before .before .before .before .before .before .if1 .left) (c .before .before .before .before .before .before .before .before .before .before .if2 .left)
+    (record {
+      state = c .before .before .before .set-edge .ensures ∙ ap (λ (r : Reading). setEdgeS (a .n) (a .s2) r (state (a .h) (a .vt .now) (a .et .now))) (c .before .before .before .before .before .reading-of .ensures);
+      row = rowed-by _ _ _ _ _ _ (edge-words (c .before .before .before .before .before .before .before .before .before .before .before .before .before .before .before .before .args .n) (c .before .before .before .before .before .before .before .before .before .before .before .before .before .before .before .before .args .s) (c .before .before .before .before .before .before .before .before .before .before .before .before .before .before .before .before .args .k) (c .before .before .before .before .before .before .before .before .before .before .before .before .before .before .before .before .args .d) (c .before .before .before .before .before .before .before .before .before .before .before .before .before .before .before .before .args .s2) (c .before .before .before .before .before .before .before .before .before .before .before .before .before .before .before .before .args .k2) (c .before .before .before .before .before .before .before .before .before .before .before .before .before .before .before .before .args .d2) (c .before .before .before .before .before .before .before .before .before .before .before .before .before .before .before .before .pre .1) (c .before .before .before .before .before .before .before .before .before .before .before .before .before .before .before .before .pre .2)) (c .before .before .before .before .before .before .before .before .put-row .ensures);
+    }) (c .altered .ensures)
+
+pub set-edge-spec : {M : Type 1} → statement M
+set-edge-spec =
+    tie.close
+    (tie.spec
+    (λ c κs. search needs)
+    (λ c κs. search needs)
+    returns
+    (λ c κs. search needs)
+    returns-2
+    put-row-requires
+    (λ c κs. search needs)
+    (λ c κs. search needs)
+    (λ c κs. search needs)
+    (λ c. search needs)
+    (λ c. search needs)
+    returns-3)

@@ -1,0 +1,48 @@
+-- `single_changes::kinds::edge_after` meets its contract.
+use Rattle.graph.specs.declared.Change.the-variants.{EdgeAfter}
+use Rattle.single_changes.proofs.OneLaws.{one-refused, one-can, one-tried, tries-by, move-edge-by}
+use mathlib.Core.Path.{refl}
+use borrow.Author.Needs.{needs}
+use Rattle.single_changes.proofs.kinds.edge_after.Statement.{statement}
+use Rattle.single_changes.proofs.kinds.edge_after.Tie as tie
+
+returns : tie.Need-returns
+returns c =
+    let s = c .before .before .before .before .before .before .before in
+    let a = s .args in
+    one-refused (EdgeAfter (a .a) (a .b)) (a .types) (a .i) (a .free) (a .h) (a .vt .now) (a .et .now) (a .t .now) tt _ (λ g y. c .before .before .order-edges .ensures .1 g (_, y)) (c .before .if1 .taken) (c .unchanged .ensures)
+
+edge-prev-requires : tie.Need-edge-prev-requires
+edge-prev-requires c κs =
+    let s = c .before .before .before .before .before .before .before in
+    let a = s .args in
+    let k = one-can (EdgeAfter (a .a) (a .b)) (a .types) (a .i) (a .free) (a .h) (a .vt .now) (a .et .now) (a .t .now) tt _ (λ g y. c .before .before .order-edges .ensures .1 g (_, y)) (c .before .if1 .left) tt (s .pre) in
+    k .0 .0
+
+move-edge-requires : tie.Need-move-edge-requires
+move-edge-requires c κs =
+    let s = c .before .before .before .before .before .before .before .before .before .before in
+    let a = s .args in
+    let k = one-can (EdgeAfter (a .a) (a .b)) (a .types) (a .i) (a .free) (a .h) (a .vt .now) (a .et .now) (a .t .now) tt _ (λ g y. c .before .before .before .before .before .order-edges .ensures .1 g (_, y)) (c .before .before .before .before .if1 .left) tt (s .pre) in
+    (k .0 .1, k .1)
+
+returns-2 : tie.Need-returns-2
+returns-2 c =
+    let s = c .before .before .before .before .before .before .before .before .before .before .before .before .before .before .before in
+    let a = s .args in
+    one-tried (EdgeAfter (a .a) (a .b)) (a .types) (a .i) (a .free) (a .h) (a .vt .now) (a .et .now) (a .t .now) tt _ (λ g y. c .before .before .before .before .before .before .before .before .before .before .order-edges .ensures .1 g (_, y)) (c .before .before .before .before .before .before .before .before .before .if1 .left) _ _ _ _
+    (tries-by (move-edge-by (a .a) (c .before .before .before .before .before .before .before .edge-prev .ensures) refl) (c .before .before .before .before .move-edge .ensures))
+
+pub edge-after-spec : {M : Type 1} → statement M
+edge-after-spec =
+    tie.close
+    (tie.spec
+    (λ c κs. search needs)
+    (λ c κs. search needs)
+    (λ c. search needs)
+    returns
+    edge-prev-requires
+    move-edge-requires
+    (λ c. search needs)
+    (λ c. search needs)
+    returns-2)

@@ -1,0 +1,100 @@
+-- A change of one edit: what it asks of the tables, its code, and what it leaves.
+use Prim.Native.Nat.{ℕ}
+use mathlib.Core.Path.{_≡_}
+use mathlib.Core.Logic.{_≢_}
+use mathlib.Core.Bool.{Bool, true, false}
+use mathlib.Core.List.{List}
+use Rattle.lists.specs.Choice.{_==_, _⇒_else_}
+use Rattle.graph.specs.declared.Edit.{Edit}
+use Rattle.graph.specs.declared.Change.{Change}
+use Rattle.graph.specs.declared.Change.the-variants.{
+  CreateVertex,
+  DeleteVertex,
+  CreateEdge,
+  DeleteEdge,
+  RetypeVertex,
+  RetypeEdge,
+  SetValue,
+  SetReading,
+  SetAlpha,
+  SetOmega,
+  VertexBefore,
+  VertexAfter,
+  EdgeBefore,
+  EdgeAfter,
+  WordBefore,
+  WordAfter,
+}
+use Rattle.graph.specs.Graph.{Graph}
+use Rattle.graph.specs.Same.{idle}
+use Rattle.graph_tables.specs.Tables.{State, ekind, edecimetres}
+use Rattle.graph_tables.specs.Edits.{Can}
+use Rattle.graph_tables.specs.Holds.{Holds}
+use Rattle.graph_tables.specs.Capacities.{Sized, boundsOf}
+use Rattle.journal.specs.Rows.{IsWords}
+use Rattle.journal.specs.Written.{Written}
+use Rattle.queries.specs.Plans.{planS, CanPlan}
+use Rattle.machine.specs.Codes.{changeCode}
+use Rattle.change_codes.specs.Held.{HoldsVE}
+use Rattle.commands.specs.Fits.{ChangeFits}
+
+-- the head and the tables hold a graph, within the limits
+pub record HoldsGraph (types : ℕ) (s : State) : Type 0 where
+  pub graph : Graph
+  pub holds : Holds s graph
+  pub sized : Sized (boundsOf (s .vt) (s .et) types) s
+
+-- the words of a reading that is read, and of one that is set
+abbrev pub ReadingWords : Change → State → Type 0
+ReadingWords (CreateVertex n t x) s = Unit {0}
+ReadingWords (DeleteVertex a) s = Unit {0}
+ReadingWords (CreateEdge n a o t) s = Unit {0}
+ReadingWords (DeleteEdge a) s = IsWords (ekind (s .et) a) (edecimetres (s .et) a)
+ReadingWords (RetypeVertex a t) s = Unit {0}
+ReadingWords (RetypeEdge a t) s = IsWords (ekind (s .et) a) (edecimetres (s .et) a)
+ReadingWords (SetValue a x) s = Unit {0}
+ReadingWords (SetReading a k d) s = IsWords (ekind (s .et) a) (edecimetres (s .et) a) × IsWords k d
+ReadingWords (SetAlpha e v) s = Unit {0}
+ReadingWords (SetOmega e v) s = Unit {0}
+ReadingWords (VertexBefore a b) s = Unit {0}
+ReadingWords (VertexAfter a b) s = Unit {0}
+ReadingWords (EdgeBefore a b) s = Unit {0}
+ReadingWords (EdgeAfter a b) s = Unit {0}
+ReadingWords (WordBefore a b) s = Unit {0}
+ReadingWords (WordAfter a b) s = Unit {0}
+
+-- the rows that a change reads are there, and its edit can be made
+abbrev pub ReadyFor : Change → State → Type 0
+ReadyFor c s = CanPlan c s × Can (planS c s) s × ReadingWords c s
+
+-- the edit alters something, is row i, a step of cost 1, and is carried out
+pub record Makes (e : Edit) (i : ℕ) (s : State) (t : List ℕ) (code cost : ℕ) (s′ : State) (t′ : List ℕ) : Type 0 where
+  pub coded : code ≡ 0
+  pub costs : cost ≡ 1
+  pub alters : idle e ≡ false
+  pub written : Written e 1 i s t s′ t′
+
+-- the code of an edit of cost 1: room is asked only of one that alters something
+abbrev pub tried : Bool → ℕ → ℕ
+tried keeps free = keeps ⇒ 0 else ((free == 0) ⇒ 10 else 0)
+
+-- an edit tried; cost 0 says that nothing was written
+pub record Tries (e : Edit) (i free : ℕ) (s : State) (t : List ℕ) (code cost : ℕ) (s′ : State)
+    (t′ : List ℕ) : Type 0 where
+  pub coded : code ≡ tried (idle e) free
+  pub stays : cost ≡ 0 → (s′ ≡ s) × (t′ ≡ t)
+  pub keeps : cost ≡ 0 → code ≡ 0 → idle e ≡ true
+  pub made : cost ≢ 0 → Makes e i s t code cost s′ t′
+
+-- the lowest code of a change of cost 1: one of 2 to 9, then that of its edit
+abbrev pub withRoom : Bool → ℕ → ℕ → ℕ
+withRoom keeps free c = (c == 0) ⇒ tried keeps free else c
+
+pub record One (x : Change) (types i free : ℕ) (s : State) (t : List ℕ) (code cost : ℕ) (s′ : State)
+    (t′ : List ℕ) : Type 0 where
+  pub fits : ChangeFits x
+  pub answers : (g : Graph) → HoldsVE (s .vt) (s .et) g
+      → code ≡ withRoom (idle (planS x s)) free (changeCode (boundsOf (s .vt) (s .et) types) g x)
+  pub stays : cost ≡ 0 → (s′ ≡ s) × (t′ ≡ t)
+  pub keeps : cost ≡ 0 → code ≡ 0 → idle (planS x s) ≡ true
+  pub made : cost ≢ 0 → Makes (planS x s) i s t code cost s′ t′

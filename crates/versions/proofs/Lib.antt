@@ -1,5 +1,0 @@
-pub mod Codes
-pub mod Following
-pub mod Calls
-pub mod Present
-pub mod OutcomeLaws

@@ -1,2 +1,0 @@
-pub mod Represents
-pub mod Outcomes

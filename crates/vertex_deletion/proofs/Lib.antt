@@ -1,0 +1,4 @@
+pub mod Rows
+pub mod Costs
+pub mod Singles
+pub mod Made
