@@ -1,5 +1,6 @@
 // The graph with its history: each history call on the tables, the journal and the marks.
-// A caller has a store and lent words that stand for a machine; the words of the call may be any.
+// A caller has a store and lent words that stand for a machine. `perform` takes any words of a call, `delete_vertex` a
+// vertex that is there, `made` an edit that was written down and carried out.
 use commands::Answer;
 use commands::HistoryCall;
 use graph::Change;

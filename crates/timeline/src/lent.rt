@@ -51,7 +51,8 @@ fn put_place(x: &mut Current, head: Head, place: u32, used: u32)
     *x = at_place(x.position, head, place, used);
 }
 
-// Lends a copy of the record to put_step. Proved by hand; whoever calls it needs no such proof.
+// Lends a copy of the record to put_step. Proved by hand; whoever calls it needs no such proof. A caller has a place
+// and rows that stay words of 32 bits after the step, as those of a journal within the limits do.
 pub fn stepped(x: Current, head: Head, rows: u32) -> Current
     requires { ⌜ (x .position .place + 1 < 2 ^ 32) × (x .position .used + rows < 2 ^ 32) ⌝ }
     ensures { λ r. ⌜ r ≡ afterStep (x .position) head rows ⌝ }

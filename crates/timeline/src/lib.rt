@@ -110,7 +110,7 @@ fn next_ahead(t: &[u32], u: u32, a: Ahead, back: bool) -> Ahead
 }
 
 // So many steps back or on, row by row: the one loop that replays, so that it is compiled as one piece with the edits
-// in it. Which words of the tables hold the graph there is left open.
+// in it. A caller has so many steps on that way. Which words of the tables hold the graph there is left open.
 pub fn go(x: Current, vt: &mut [u32], et: &mut [u32], t: &[u32], back: bool, steps: u32) -> Current
     requires { ⌜ Reach back steps (x .position .place) (x .position .steps) ⌝ }
     requires { ⌜ ((b : Bounds) × (l : Timeline)

@@ -27,7 +27,7 @@ ghost use Rattle.queries.specs.Plans.{planRemoveVertex, planRemoveEdge};
 ghost use Rattle.timeline.specs.Steps.{Journal};
 ghost use Rattle.vertex_deletion.specs.Making.{nextEdit, Making};
 
-// What the deletion of vertex a costs: 1, and one more for each distinct edge at it.
+// What the deletion of vertex a, which is there, costs: 1, and one more for each distinct edge at it.
 pub fn cost_of(head: Head, vt: &[u32], et: &[u32], a: u32) -> u32
     requires { ⌜ ((b : Bounds) × (g : Graph) × Sized b (state head (now vt) (now et))
         × Holds (state head (now vt) (now et)) g
