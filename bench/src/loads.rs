@@ -53,6 +53,23 @@ pub fn all() -> Vec<Load> {
     ]
 }
 
+/// Graphs of 10 to 1,000 vertices, each with four times as many edges, and lists of 100 to 20,000 edits on each. The lists
+/// of a graph begin alike; the first has no call.
+pub fn growing() -> Vec<Vec<Load>> {
+    let lists = |vertices: u32| {
+        let capacities = Capacities { vertices, edges: 4 * vertices, changes: 20_000 };
+        let graph = gen::graph(&mut Random::new(1), capacities, ROWS.len() as u32, (vertices, 4 * vertices), true);
+        let edits = edits(&graph, 20_000);
+        let list = |count: usize| {
+            let mut case = Case::new(capacities, &ROWS, &edits[..count]);
+            case.start = image::save(&graph);
+            Load { name: "edits", short: case.clone(), case }
+        };
+        [0, 100, 1_000, 20_000].map(list).into()
+    };
+    [10, 100, 1_000].map(lists).into()
+}
+
 /// Two calls in turn, after some others.
 fn in_turn(first: &[Call], one: Call, other: Call, times: usize) -> Vec<Call> {
     let mut calls = first.to_vec();
@@ -105,10 +122,11 @@ fn making(g: &Graph) -> Vec<Call> {
 fn edits(start: &Graph, count: usize) -> Vec<Call> {
     let mut r = Random::new(2);
     let mut graph = start.clone();
+    let (vertices, edges) = (start.vertices.len(), start.edges.len());
     let mut calls: Vec<Call> = Vec::new();
     while calls.len() < count {
-        let v = r.between(1, 1_000);
-        let e = r.between(1, 4_000);
+        let v = r.between(1, vertices);
+        let e = r.between(1, edges);
         let kind = r.between(4, 16) as u32;
         let other = |r: &mut Random, than: usize, limit: usize| (than - 1 + r.between(1, limit - 1)) % limit + 1;
         let call = match kind {
@@ -119,15 +137,15 @@ fn edits(start: &Graph, count: usize) -> Vec<Call> {
                 let deletion = [4, e as u32, 0, 0, 0];
                 graph = graph.changed(deletion);
                 calls.push(deletion);
-                [3, e as u32, v as u32, other(&mut r, v, 1_000) as u32, r.under(8) as u32]
+                [3, e as u32, v as u32, other(&mut r, v, vertices) as u32, r.under(8) as u32]
             }
             5 => [5, v as u32, r.under(8) as u32, 0, 0],
             6 => [6, e as u32, r.under(8) as u32, 0, 0],
             7 => [7, v as u32, r.word(), 0, 0],
             8 => [8, e as u32, 2, r.under(10_000) as u32, 0],
             9 | 10 => [kind, e as u32, v as u32, 0, 0],
-            11 | 12 => [kind, v as u32, other(&mut r, v, 1_000) as u32, 0, 0],
-            13 | 14 => [kind, e as u32, other(&mut r, e, 4_000) as u32, 0, 0],
+            11 | 12 => [kind, v as u32, other(&mut r, v, vertices) as u32, 0, 0],
+            13 | 14 => [kind, e as u32, other(&mut r, e, edges) as u32, 0, 0],
             _ => {
                 let list = &graph.vertex(v as u32).unwrap().list;
                 if list.len() < 2 {

@@ -156,7 +156,7 @@ fn micros(time: Duration) -> f64 {
 }
 
 /// A load as a file for bench/count.c: eight lengths of 64 bits (start, rows, calls, vertices, edges, journal, answers,
-/// image), then the words of start, rows and calls. Prints the load's name.
+/// image), then the words of start, rows and calls.
 fn save(load: &loads::Load, path: &str) {
     let case = &load.case;
     let lengths = [case.start.len(), case.rows.len(), case.calls.len(), case.vertices, case.edges, case.journal, case.answers, case.image];
@@ -165,7 +165,6 @@ fn save(load: &loads::Load, path: &str) {
     bytes.extend(case.rows.iter().flat_map(|w| w.to_le_bytes()));
     bytes.extend(case.calls.iter().flat_map(|w| w.to_le_bytes()));
     std::fs::write(path, bytes).expect("a file for the load");
-    println!("{}", load.name);
 }
 
 fn main() {
@@ -173,6 +172,14 @@ fn main() {
     if words.first().is_some_and(|w| w == "--save") {
         for (i, load) in loads::all().iter().enumerate() {
             save(load, &format!("{}/{i}.load", words[1]));
+            println!("{}", load.name);
+        }
+        return;
+    }
+    if words.first().is_some_and(|w| w == "--save-growth") {
+        for (i, load) in loads::growing().iter().flatten().enumerate() {
+            save(load, &format!("{}/{i}.growth", words[1]));
+            println!("{} {}", load.case.vertices / 8, load.case.calls.len() / 5);
         }
         return;
     }
@@ -207,6 +214,28 @@ fn main() {
         );
     }
     check_alone(&all, Duration::from_secs(seconds));
+    growth(Duration::from_secs(seconds));
+}
+
+/// The time of an edit in graphs and lists of several sizes: that of the list less that of a list with no call, by its
+/// length. Lists of 100 calls are for bench/count: their time is lost in that of load and save.
+fn growth(time: Duration) {
+    println!();
+    println!("Time of an edit without load and save, ns, C by hand and engine:");
+    println!();
+    println!("| vertices | edges | 1,000 calls | 20,000 calls |");
+    println!("|---|---|---|---|");
+    for lists in loads::growing() {
+        compare(&lists);
+        let times: Vec<Vec<Duration>> = lists.iter().map(|l| best(&l.case, &[by_hand_run, futtockfig_run], time)).collect();
+        let vertices = lists[0].case.vertices / 8;
+        print!("| {vertices} | {} |", 4 * vertices);
+        for (load, with) in lists.iter().zip(&times).skip(2) {
+            let each = |i: usize| (micros(with[i]) - micros(times[0][i])) * 5_000.0 / load.case.calls.len() as f64;
+            print!(" {:.1}, {:.1} |", each(0), each(1));
+        }
+        println!();
+    }
 }
 
 /// The check of a full image by itself: a run that is lent one word too few for the end image ends with code 106, which

@@ -11,7 +11,7 @@ use Rattle.lists.specs.Choice.{_⇒_else_, _==_}
 use Rattle.graph.specs.Graph.{Graph, hasVertex, hasEdge}
 use Rattle.graph_tables.specs.declared.Lookup.{Lookup}
 use Rattle.graph_tables.specs.declared.Lookup.the-variants.{Found, Missing}
-use Rattle.graph_tables.specs.Tables.{state, vertexPlace, edgePlace, VertexRowIn, EdgeRowIn, HalfRowIn, foundV, foundE}
+use Rattle.graph_tables.specs.Tables.{state, EdgeRowIn, HalfRowIn, foundRow, foundV, foundE}
 use Rattle.change_codes.specs.Held.{HoldsV, HoldsE}
 use Rattle.graph_tables.proofs.Finds.{found-vertex, found-edge}
 
@@ -26,44 +26,32 @@ same-place e = cc
 
 -- ---- a row that is found is in the table, and begins at k
 
-module _ (size n len k : ℕ) (dead : Bool) where
-  found-row : ((n == 0) ⇒ Missing else ltb len (size * n) ⇒ Missing else dead ⇒ Missing else Found (size * n - size)) ≡ Found k →
-      (1 ≤ n) × (size * n ≤ len) × (k ≡ size * n - size)
-  found-row = go (n == 0) (ltb len (size * n)) dead refl refl
+module _ (size live : ℕ) (table : List ℕ) (n k : ℕ) (f : Lookup) (e : f ≡ foundRow size live table n) (i : f ≡ Found k) where
+  found-row : (1 ≤ n) × (size * n ≤ length table) × (k ≡ size * n - size)
+  unfolding foundRow
+  found-row = go (n == 0) (ltb (length table) (size * n)) (getD table (size * n - size + live) 0 == 0) refl refl (sym e ∙ i)
     where
-      go : (p q d : Bool) → (n == 0) ≡ p → ltb len (size * n) ≡ q →
-          (p ⇒ Missing else q ⇒ Missing else d ⇒ Missing else Found (size * n - size)) ≡ Found k → (1 ≤ n) × (size * n ≤ len) × (k ≡ size * n - size)
+      go : (p q d : Bool) → (n == 0) ≡ p → ltb (length table) (size * n) ≡ q →
+          (p ⇒ Missing else q ⇒ Missing else d ⇒ Missing else Found (size * n - size)) ≡ Found k → (1 ≤ n) × (size * n ≤ length table) × (k ≡ size * n - size)
       go true q d i j e = at-found e
       go false true d i j e = at-found e
       go false false true i j e = at-found e
-      go false false false i j e = (omega (arith, eqb-false n 0 i), ltb-false len (size * n) j, same-place e)
+      go false false false i j e = (omega (arith, eqb-false n 0 i), ltb-false (length table) (size * n) j, same-place e)
 
-module _ (vt : List ℕ) (n k : ℕ) (f : Lookup) (e : f ≡ foundV vt n) (i : f ≡ Found k) where
-  vertex-found : (1 ≤ n) × (8 * n ≤ length vt) × (k ≡ 8 * n - 8)
-  unfolding foundV
-  vertex-found = found-row 8 n (length vt) k (getD vt (vertexPlace 0 n) 0 == 0) (sym e ∙ i)
+pub vertex-end : (vertices : List ℕ) (n k : ℕ) (f : Lookup) → f ≡ foundV vertices n → f ≡ Found k → k + 8 ≤ length vertices
+vertex-end vertices n k f e i = let r = found-row 8 0 vertices n k f e i in omega (arith, r .0, r .1, r .2)
 
-  pub vertex-in : VertexRowIn vt n
-  vertex-in = (vertex-found .0, vertex-found .1)
+module _ (edges : List ℕ) (n k : ℕ) (f : Lookup) (e : f ≡ foundE edges n) (i : f ≡ Found k) where
+  pub edge-in : EdgeRowIn edges n
+  edge-in = let r = found-row 12 3 edges n k f e i in (r .0, r .1)
 
-  pub vertex-end : k + 8 ≤ length vt
-  vertex-end = omega (arith, vertex-found .0, vertex-found .1, vertex-found .2)
-
-module _ (et : List ℕ) (n k : ℕ) (f : Lookup) (e : f ≡ foundE et n) (i : f ≡ Found k) where
-  edge-found : (1 ≤ n) × (12 * n ≤ length et) × (k ≡ 12 * n - 12)
-  unfolding foundE
-  edge-found = found-row 12 n (length et) k (getD et (edgePlace 3 n) 0 == 0) (sym e ∙ i)
-
-  pub edge-in : EdgeRowIn et n
-  edge-in = (edge-found .0, edge-found .1)
-
-  pub edge-end : k + 12 ≤ length et
-  edge-end = omega (arith, edge-found .0, edge-found .1, edge-found .2)
+  pub edge-end : k + 12 ≤ length edges
+  edge-end = let r = found-row 12 3 edges n k f e i in omega (arith, r .0, r .1, r .2)
 
 -- an oriented word of an edge that is found
-pub word-in : (et : List ℕ) (w : ℕ) (f : Lookup) (k : ℕ) → f ≡ foundE et (w / 2) → f ≡ Found k → HalfRowIn et w
-word-in et w f k e i =
-    let r = edge-in et (w / 2) k f e i in
+pub word-in : (edges : List ℕ) (w : ℕ) (f : Lookup) (k : ℕ) → f ≡ foundE edges (w / 2) → f ≡ Found k → HalfRowIn edges w
+word-in edges w f k e i =
+    let r = edge-in edges (w / 2) k f e i in
     (omega (arith, r .0), omega (arith, r .1))
 
 -- ---- a look-up finds what the graph has
@@ -76,22 +64,22 @@ by-lacks : {b : Bool} (j : ℕ) → (b ⇒ Found j else Missing) ≡ Missing →
 by-lacks {b = true} j e = at-missing e
 by-lacks {b = false} j e = refl
 
-module _ (vt : List ℕ) (g : Graph) (n : ℕ) (h : HoldsV vt g) where
-  pub vertex-looked : foundV vt n ≡ (hasVertex g n ⇒ Found (8 * n - 8) else Missing)
-  vertex-looked = found-vertex (state (h .1 .0) vt (h .0)) g (h .1 .1) n
+module _ (vertices : List ℕ) (g : Graph) (n : ℕ) (h : HoldsV vertices g) where
+  pub vertex-looked : foundV vertices n ≡ (hasVertex g n ⇒ Found (8 * n - 8) else Missing)
+  vertex-looked = found-vertex (state (h .1 .0) vertices (h .0)) g (h .1 .1) n
 
-  pub vertex-there : (f : Lookup) (k : ℕ) → f ≡ foundV vt n → f ≡ Found k → hasVertex g n ≡ true
+  pub vertex-there : (f : Lookup) (k : ℕ) → f ≡ foundV vertices n → f ≡ Found k → hasVertex g n ≡ true
   vertex-there f k e i = by-has (8 * n - 8) k (sym vertex-looked ∙ sym e ∙ i)
 
-  pub vertex-lacking : (f : Lookup) → f ≡ foundV vt n → f ≡ Missing → hasVertex g n ≡ false
+  pub vertex-lacking : (f : Lookup) → f ≡ foundV vertices n → f ≡ Missing → hasVertex g n ≡ false
   vertex-lacking f e i = by-lacks (8 * n - 8) (sym vertex-looked ∙ sym e ∙ i)
 
-module _ (et : List ℕ) (g : Graph) (n : ℕ) (h : HoldsE et g) where
-  pub edge-looked : foundE et n ≡ (hasEdge g n ⇒ Found (12 * n - 12) else Missing)
-  edge-looked = found-edge (state (h .1 .0) (h .0) et) g (h .1 .1) n
+module _ (edges : List ℕ) (g : Graph) (n : ℕ) (h : HoldsE edges g) where
+  pub edge-looked : foundE edges n ≡ (hasEdge g n ⇒ Found (12 * n - 12) else Missing)
+  edge-looked = found-edge (state (h .1 .0) (h .0) edges) g (h .1 .1) n
 
-  pub edge-there : (f : Lookup) (k : ℕ) → f ≡ foundE et n → f ≡ Found k → hasEdge g n ≡ true
+  pub edge-there : (f : Lookup) (k : ℕ) → f ≡ foundE edges n → f ≡ Found k → hasEdge g n ≡ true
   edge-there f k e i = by-has (12 * n - 12) k (sym edge-looked ∙ sym e ∙ i)
 
-  pub edge-lacking : (f : Lookup) → f ≡ foundE et n → f ≡ Missing → hasEdge g n ≡ false
+  pub edge-lacking : (f : Lookup) → f ≡ foundE edges n → f ≡ Missing → hasEdge g n ≡ false
   edge-lacking f e i = by-lacks (12 * n - 12) (sym edge-looked ∙ sym e ∙ i)

@@ -13,7 +13,8 @@ use Rattle.graph_tables.specs.declared.Lookup.the-variants.{Found, Missing}
 use Rattle.graph_tables.specs.Tables.{foundV, foundE, vertexCode, edgeCode, wthis}
 use Rattle.machine.specs.Codes.{lacksVertex, lacksEdge}
 use Rattle.change_codes.specs.Held.{HoldsV, HoldsE, HoldsVE}
-use Rattle.change_codes.specs.Refusals.{firstCode, numberCode, usedCode, typeCode, verticesCode, edgesCode, wordsCode}
+use Rattle.machine.specs.Rules.{firstCode}
+use Rattle.change_codes.specs.Refusals.{numberCode, usedCode, typeCode, verticesCode, edgesCode, wordsCode}
 use Rattle.change_codes.proofs.Found.{vertex-looked, edge-looked, word-in}
 
 -- an equation, and what it means in every graph that is held
@@ -45,97 +46,97 @@ then-both false false k l c e i p q = rw (eq-eqb c 0 i)
 
 -- ---- names
 
-module _ (vt : List ℕ) (g : Graph) (h : HoldsV vt g) where
-  pub vertex-means : (n : ℕ) → vertexCode (foundV vt n) ≡ (lacksVertex g n ⇒ 4 else 0)
-  vertex-means n = rw (vertex-looked vt g n h) (go (hasVertex g n))
+module _ (vertices : List ℕ) (g : Graph) (h : HoldsV vertices g) where
+  pub vertex-means : (n : ℕ) → vertexCode (foundV vertices n) ≡ (lacksVertex g n ⇒ 4 else 0)
+  vertex-means n = rw (vertex-looked vertices g n h) (go (hasVertex g n))
     where
       go : (b : Bool) → vertexCode (b ⇒ Found (8 * n - 8) else Missing) ≡ (not b ⇒ 4 else 0)
       go true = refl
       go false = refl
 
-  pub vertex-used : (n : ℕ) → usedCode (foundV vt n) ≡ (hasVertex g n ⇒ 3 else 0)
-  vertex-used n = rw (vertex-looked vt g n h) (go (hasVertex g n))
+  pub vertex-used : (n : ℕ) → usedCode (foundV vertices n) ≡ (hasVertex g n ⇒ 3 else 0)
+  vertex-used n = rw (vertex-looked vertices g n h) (go (hasVertex g n))
     where
       go : (b : Bool) → usedCode (b ⇒ Found (8 * n - 8) else Missing) ≡ (b ⇒ 3 else 0)
       go true = refl
       go false = refl
 
-  pub vertices-mean : (a b : ℕ) → verticesCode vt a b ≡ ((lacksVertex g a || lacksVertex g b) ⇒ 4 else 0)
+  pub vertices-mean : (a b : ℕ) → verticesCode vertices a b ≡ ((lacksVertex g a || lacksVertex g b) ⇒ 4 else 0)
   vertices-mean a b =
-      either-code (lacksVertex g a) (lacksVertex g b) 4 (vertexCode (foundV vt a)) (vertexCode (foundV vt b)) (omega arith) (vertex-means a) (vertex-means b)
+      either-code (lacksVertex g a) (lacksVertex g b) 4 (vertexCode (foundV vertices a)) (vertexCode (foundV vertices b)) (omega arith) (vertex-means a) (vertex-means b)
 
-module _ (et : List ℕ) (g : Graph) (h : HoldsE et g) where
-  pub edge-means : (n : ℕ) → edgeCode (foundE et n) ≡ (lacksEdge g n ⇒ 5 else 0)
-  edge-means n = rw (edge-looked et g n h) (go (hasEdge g n))
+module _ (edges : List ℕ) (g : Graph) (h : HoldsE edges g) where
+  pub edge-means : (n : ℕ) → edgeCode (foundE edges n) ≡ (lacksEdge g n ⇒ 5 else 0)
+  edge-means n = rw (edge-looked edges g n h) (go (hasEdge g n))
     where
       go : (b : Bool) → edgeCode (b ⇒ Found (12 * n - 12) else Missing) ≡ (not b ⇒ 5 else 0)
       go true = refl
       go false = refl
 
-  pub edge-used : (n : ℕ) → usedCode (foundE et n) ≡ (hasEdge g n ⇒ 3 else 0)
-  edge-used n = rw (edge-looked et g n h) (go (hasEdge g n))
+  pub edge-used : (n : ℕ) → usedCode (foundE edges n) ≡ (hasEdge g n ⇒ 3 else 0)
+  edge-used n = rw (edge-looked edges g n h) (go (hasEdge g n))
     where
       go : (b : Bool) → usedCode (b ⇒ Found (12 * n - 12) else Missing) ≡ (b ⇒ 3 else 0)
       go true = refl
       go false = refl
 
-  pub edges-mean : (a b : ℕ) → edgesCode et a b ≡ ((lacksEdge g a || lacksEdge g b) ⇒ 5 else 0)
+  pub edges-mean : (a b : ℕ) → edgesCode edges a b ≡ ((lacksEdge g a || lacksEdge g b) ⇒ 5 else 0)
   edges-mean a b =
-      either-code (lacksEdge g a) (lacksEdge g b) 5 (edgeCode (foundE et a)) (edgeCode (foundE et b)) (omega arith) (edge-means a) (edge-means b)
+      either-code (lacksEdge g a) (lacksEdge g b) 5 (edgeCode (foundE edges a)) (edgeCode (foundE edges b)) (omega arith) (edge-means a) (edge-means b)
 
   -- seen from one vertex by the words, and in the graph, where both edges are there
-  words-mean : (a b : ℕ) → wordsCode et a b ≡ ((lacksEdge g (edgeOf a) || lacksEdge g (edgeOf b)) ⇒ 5 else not (this g a == this g b) ⇒ 8 else 0)
+  words-mean : (a b : ℕ) → wordsCode edges a b ≡ ((lacksEdge g (edgeOf a) || lacksEdge g (edgeOf b)) ⇒ 5 else not (this g a == this g b) ⇒ 8 else 0)
   words-mean a b = go (hasEdge g (edgeOf a)) (hasEdge g (edgeOf b)) refl refl
     where
-      seen : (w : ℕ) → hasEdge g (edgeOf w) ≡ true → wthis et w ≡ this g w
+      seen : (w : ℕ) → hasEdge g (edgeOf w) ≡ true → wthis edges w ≡ this g w
       seen w e =
-          let f : foundE et (w / 2) ≡ Found (12 * (w / 2) - 12) = edge-looked et g (edgeOf w) h ∙ rw e in
-          h .1 .1 .core .this w (word-in et w (foundE et (w / 2)) (12 * (w / 2) - 12) refl f .0)
+          let f : foundE edges (w / 2) ≡ Found (12 * (w / 2) - 12) = edge-looked edges g (edgeOf w) h ∙ rw e in
+          h .1 .1 .core .this w (word-in edges w (foundE edges (w / 2)) (12 * (w / 2) - 12) refl f .0)
 
-      go : (s t : Bool) → hasEdge g (edgeOf a) ≡ s → hasEdge g (edgeOf b) ≡ t → wordsCode et a b ≡ ((not s || not t) ⇒ 5 else not (this g a == this g b) ⇒ 8 else 0)
+      go : (s t : Bool) → hasEdge g (edgeOf a) ≡ s → hasEdge g (edgeOf b) ≡ t → wordsCode edges a b ≡ ((not s || not t) ⇒ 5 else not (this g a == this g b) ⇒ 8 else 0)
       go true true i j = rw (edge-means (edgeOf a), edge-means (edgeOf b), i, j, seen a i, seen b j)
       go true false i j = rw (edge-means (edgeOf a), edge-means (edgeOf b), i, j)
       go false t i j = rw (edge-means (edgeOf a), i)
 
 -- ---- the kinds
 
-module _ (vt : List ℕ) (g : Graph) (h : HoldsV vt g) where
+module _ (vertices : List ℕ) (g : Graph) (h : HoldsV vertices g) where
   pub create-vertex-means : (types n t : ℕ) →
-      firstCode (numberCode (length vt / 8) n) (firstCode (usedCode (foundV vt n)) (typeCode types t))
-      ≡ (not (within 1 (length vt / 8) n) ⇒ 2 else hasVertex g n ⇒ 3 else leb types t ⇒ 6 else 0)
+      firstCode (numberCode (length vertices / 8) n) (firstCode (usedCode (foundV vertices n)) (typeCode types t))
+      ≡ (not (within 1 (length vertices / 8) n) ⇒ 2 else hasVertex g n ⇒ 3 else leb types t ⇒ 6 else 0)
   create-vertex-means types n t =
-      then-code (not (within 1 (length vt / 8) n)) 2 (numberCode (length vt / 8) n) _ _ (omega arith) refl
-      (then-code (hasVertex g n) 3 (usedCode (foundV vt n)) (typeCode types t) _ (omega arith) (vertex-used vt g h n) refl)
+      then-code (not (within 1 (length vertices / 8) n)) 2 (numberCode (length vertices / 8) n) _ _ (omega arith) refl
+      (then-code (hasVertex g n) 3 (usedCode (foundV vertices n)) (typeCode types t) _ (omega arith) (vertex-used vertices g h n) refl)
 
-  pub vertex-then : (n rest : ℕ) → firstCode (vertexCode (foundV vt n)) rest ≡ (lacksVertex g n ⇒ 4 else rest)
-  vertex-then n rest = then-code (lacksVertex g n) 4 (vertexCode (foundV vt n)) rest rest (omega arith) (vertex-means vt g h n) refl
+  pub vertex-then : (n rest : ℕ) → firstCode (vertexCode (foundV vertices n)) rest ≡ (lacksVertex g n ⇒ 4 else rest)
+  vertex-then n rest = then-code (lacksVertex g n) 4 (vertexCode (foundV vertices n)) rest rest (omega arith) (vertex-means vertices g h n) refl
 
-  pub vertices-then : (a b rest : ℕ) → firstCode (verticesCode vt a b) rest ≡ ((lacksVertex g a || lacksVertex g b) ⇒ 4 else rest)
+  pub vertices-then : (a b rest : ℕ) → firstCode (verticesCode vertices a b) rest ≡ ((lacksVertex g a || lacksVertex g b) ⇒ 4 else rest)
   vertices-then a b rest =
-      then-code (lacksVertex g a || lacksVertex g b) 4 (verticesCode vt a b) rest rest (omega arith) (vertices-mean vt g h a b) refl
+      then-code (lacksVertex g a || lacksVertex g b) 4 (verticesCode vertices a b) rest rest (omega arith) (vertices-mean vertices g h a b) refl
 
-module _ (et : List ℕ) (g : Graph) (h : HoldsE et g) where
-  pub edge-then : (n rest : ℕ) → firstCode (edgeCode (foundE et n)) rest ≡ (lacksEdge g n ⇒ 5 else rest)
-  edge-then n rest = then-code (lacksEdge g n) 5 (edgeCode (foundE et n)) rest rest (omega arith) (edge-means et g h n) refl
+module _ (edges : List ℕ) (g : Graph) (h : HoldsE edges g) where
+  pub edge-then : (n rest : ℕ) → firstCode (edgeCode (foundE edges n)) rest ≡ (lacksEdge g n ⇒ 5 else rest)
+  edge-then n rest = then-code (lacksEdge g n) 5 (edgeCode (foundE edges n)) rest rest (omega arith) (edge-means edges g h n) refl
 
-  pub edges-then : (a b rest : ℕ) → firstCode (edgesCode et a b) rest ≡ ((lacksEdge g a || lacksEdge g b) ⇒ 5 else rest)
+  pub edges-then : (a b rest : ℕ) → firstCode (edgesCode edges a b) rest ≡ ((lacksEdge g a || lacksEdge g b) ⇒ 5 else rest)
   edges-then a b rest =
-      then-code (lacksEdge g a || lacksEdge g b) 5 (edgesCode et a b) rest rest (omega arith) (edges-mean et g h a b) refl
+      then-code (lacksEdge g a || lacksEdge g b) 5 (edgesCode edges a b) rest rest (omega arith) (edges-mean edges g h a b) refl
 
   pub words-then : (a b rest : ℕ) →
-      firstCode (wordsCode et a b) rest ≡ ((lacksEdge g (edgeOf a) || lacksEdge g (edgeOf b)) ⇒ 5 else not (this g a == this g b) ⇒ 8 else rest)
+      firstCode (wordsCode edges a b) rest ≡ ((lacksEdge g (edgeOf a) || lacksEdge g (edgeOf b)) ⇒ 5 else not (this g a == this g b) ⇒ 8 else rest)
   words-then a b rest =
-      then-both (lacksEdge g (edgeOf a) || lacksEdge g (edgeOf b)) (not (this g a == this g b)) 5 8 (wordsCode et a b) rest (words-mean et g h a b) (omega arith) (omega arith)
+      then-both (lacksEdge g (edgeOf a) || lacksEdge g (edgeOf b)) (not (this g a == this g b)) 5 8 (wordsCode edges a b) rest (words-mean edges g h a b) (omega arith) (omega arith)
 
-module _ (vt et : List ℕ) (g : Graph) (h : HoldsVE vt et g) where
+module _ (vertices edges : List ℕ) (g : Graph) (h : HoldsVE vertices edges g) where
   pub create-edge-means : (types n x y t : ℕ) →
-      firstCode (numberCode (length et / 12) n) (firstCode (usedCode (foundE et n)) (firstCode (verticesCode vt x y) (typeCode types t)))
-      ≡ (not (within 1 (length et / 12) n) ⇒ 2 else hasEdge g n ⇒ 3 else (lacksVertex g x || lacksVertex g y) ⇒ 4 else leb types t ⇒ 6 else 0)
+      firstCode (numberCode (length edges / 12) n) (firstCode (usedCode (foundE edges n)) (firstCode (verticesCode vertices x y) (typeCode types t)))
+      ≡ (not (within 1 (length edges / 12) n) ⇒ 2 else hasEdge g n ⇒ 3 else (lacksVertex g x || lacksVertex g y) ⇒ 4 else leb types t ⇒ 6 else 0)
   create-edge-means types n x y t =
-      then-code (not (within 1 (length et / 12) n)) 2 (numberCode (length et / 12) n) _ _ (omega arith) refl
-      (then-code (hasEdge g n) 3 (usedCode (foundE et n)) _ _ (omega arith) (edge-used et g (vt, h) n)
-      (vertices-then vt g (et, h) x y (typeCode types t)))
+      then-code (not (within 1 (length edges / 12) n)) 2 (numberCode (length edges / 12) n) _ _ (omega arith) refl
+      (then-code (hasEdge g n) 3 (usedCode (foundE edges n)) _ _ (omega arith) (edge-used edges g (vertices, h) n)
+      (vertices-then vertices g (edges, h) x y (typeCode types t)))
 
-  pub set-end-means : (n v : ℕ) → firstCode (vertexCode (foundV vt v)) (edgeCode (foundE et n)) ≡ (lacksVertex g v ⇒ 4 else lacksEdge g n ⇒ 5 else 0)
+  pub set-end-means : (n v : ℕ) → firstCode (vertexCode (foundV vertices v)) (edgeCode (foundE edges n)) ≡ (lacksVertex g v ⇒ 4 else lacksEdge g n ⇒ 5 else 0)
   set-end-means n v =
-      vertex-then vt g (et, h) v (edgeCode (foundE et n)) ∙ ap (λ (k : ℕ). lacksVertex g v ⇒ 4 else k) (edge-means et g (vt, h) n)
+      vertex-then vertices g (edges, h) v (edgeCode (foundE edges n)) ∙ ap (λ (k : ℕ). lacksVertex g v ⇒ 4 else k) (edge-means edges g (vertices, h) n)

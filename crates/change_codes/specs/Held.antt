@@ -8,12 +8,12 @@ use Rattle.graph_tables.specs.Holds.{Holds}
 
 -- the two tables hold g, with some head: refusals do not look at the head
 abbrev pub HoldsVE : List ℕ → List ℕ → Graph → Type 0
-HoldsVE vt et g = (h : Head) × Holds (state h vt et) g
+HoldsVE vertices edges g = (h : Head) × Holds (state h vertices edges) g
 
 -- the vertex table holds the vertices of g, with some edge table
 abbrev pub HoldsV : List ℕ → Graph → Type 0
-HoldsV vt g = (et : List ℕ) × HoldsVE vt et g
+HoldsV vertices g = (edges : List ℕ) × HoldsVE vertices edges g
 
 -- the edge table holds the edges of g, with some vertex table
 abbrev pub HoldsE : List ℕ → Graph → Type 0
-HoldsE et g = (vt : List ℕ) × HoldsVE vt et g
+HoldsE edges g = (vertices : List ℕ) × HoldsVE vertices edges g

@@ -8,10 +8,7 @@ use Rattle.graph.specs.Graph.{edgeOf, isReading}
 use Rattle.graph_tables.specs.declared.Lookup.{Lookup}
 use Rattle.graph_tables.specs.declared.Lookup.the-variants.{Found, Missing}
 use Rattle.graph_tables.specs.Tables.{foundV, foundE, vertexCode, edgeCode, wthis}
-
--- the first of two codes that is not 0
-abbrev pub firstCode : ℕ → ℕ → ℕ
-firstCode c d = (c == 0) ⇒ d else c
+use Rattle.machine.specs.Rules.{firstCode}
 
 -- REFERENCE 7.2: a number that is made, of a capacity
 abbrev pub numberCode : ℕ → ℕ → ℕ
@@ -36,11 +33,12 @@ twiceCode a b = (a == b) ⇒ 9 else 0
 
 -- two names
 abbrev pub verticesCode : List ℕ → ℕ → ℕ → ℕ
-verticesCode vt a b = firstCode (vertexCode (foundV vt a)) (vertexCode (foundV vt b))
+verticesCode vertices a b = firstCode (vertexCode (foundV vertices a)) (vertexCode (foundV vertices b))
 
 abbrev pub edgesCode : List ℕ → ℕ → ℕ → ℕ
-edgesCode et a b = firstCode (edgeCode (foundE et a)) (edgeCode (foundE et b))
+edgesCode edges a b = firstCode (edgeCode (foundE edges a)) (edgeCode (foundE edges b))
 
 -- two oriented words: 5 where an edge is missing, 8 where they are seen from different vertices
 abbrev pub wordsCode : List ℕ → ℕ → ℕ → ℕ
-wordsCode et a b = firstCode (edgesCode et (edgeOf a) (edgeOf b)) (not (wthis et a == wthis et b) ⇒ 8 else 0)
+wordsCode edges a b = firstCode (edgesCode edges (edgeOf a) (edgeOf b))
+    (not (wthis edges a == wthis edges b) ⇒ 8 else 0)

@@ -1,6 +1,5 @@
 // Codes 2 to 9 of a change, read off the tables: the lowest that applies, 0 where none does. Each contract says the
-// code
-// of any words, and then that it is the code of the graph that they hold.
+// code of any words, and then that it is the code of the graph that they hold.
 use graph_tables::Lookup;
 use graph_tables::lookups::find_edge;
 use graph_tables::lookups::find_vertex;
@@ -16,16 +15,17 @@ ghost use Rattle.graph.specs.Graph.{Graph, hasVertex, hasEdge, edgeOf, isReadin
 ghost use Rattle.graph.specs.Graph as chart;
 ghost use Rattle.graph_tables.specs.Tables.{foundV, foundE, vertexCode, edgeCode};
 ghost use Rattle.machine.specs.Codes.{lacksVertex, lacksEdge};
+ghost use Rattle.machine.specs.Rules.{firstCode};
 ghost use Rattle.change_codes.specs.Held.{HoldsV, HoldsE, HoldsVE};
-ghost use Rattle.change_codes.specs.Refusals.{firstCode, numberCode, usedCode, typeCode, readingCode, twiceCode};
+ghost use Rattle.change_codes.specs.Refusals.{numberCode, usedCode, typeCode, readingCode, twiceCode};
 ghost use Rattle.change_codes.specs.Refusals.{verticesCode, edgesCode, wordsCode};
 
 // Code 4: a vertex that is named.
-pub fn vertex_code(vt: &[u32], v: u32) -> u32
-    ensures { λ r. ⌜ r ≡ vertexCode (foundV (now (vt .entry)) v) ⌝ }
-    ensures { λ r. ⌜ ((g : Graph) → HoldsV (now (vt .entry)) g → r ≡ (lacksVertex g v ⇒ 4 else 0)) ⌝ }
+pub fn vertex_code(vertices: &[u32], v: u32) -> u32
+    ensures { λ r. ⌜ r ≡ vertexCode (foundV (now (vertices .entry)) v) ⌝ }
+    ensures { λ r. ⌜ ((g : Graph) → HoldsV (now (vertices .entry)) g → r ≡ (lacksVertex g v ⇒ 4 else 0)) ⌝ }
 {
-    let f = find_vertex(vt, v);
+    let f = find_vertex(vertices, v);
     let Lookup::Found(_) = f else {
         return 4;
     };
@@ -33,11 +33,11 @@ pub fn vertex_code(vt: &[u32], v: u32) -> u32
 }
 
 // Code 5: an edge that is named.
-pub fn edge_code(et: &[u32], e: u32) -> u32
-    ensures { λ r. ⌜ r ≡ edgeCode (foundE (now (et .entry)) e) ⌝ }
-    ensures { λ r. ⌜ ((g : Graph) → HoldsE (now (et .entry)) g → r ≡ (lacksEdge g e ⇒ 5 else 0)) ⌝ }
+pub fn edge_code(edges: &[u32], e: u32) -> u32
+    ensures { λ r. ⌜ r ≡ edgeCode (foundE (now (edges .entry)) e) ⌝ }
+    ensures { λ r. ⌜ ((g : Graph) → HoldsE (now (edges .entry)) g → r ≡ (lacksEdge g e ⇒ 5 else 0)) ⌝ }
 {
-    let f = find_edge(et, e);
+    let f = find_edge(edges, e);
     let Lookup::Found(_) = f else {
         return 5;
     };
@@ -97,18 +97,18 @@ fn twice_code(a: u32, b: u32) -> u32
 }
 
 // Kind 1: codes 2, 3, 6.
-pub fn create_vertex(vt: &[u32], types: u32, n: u32, t: u32) -> u32
-    ensures { λ r. ⌜ r ≡ firstCode (numberCode (length (now (vt .entry)) / 8) n)
-        (firstCode (usedCode (foundV (now (vt .entry)) n)) (typeCode types t)) ⌝ }
-    ensures { λ r. ⌜ ((g : Graph) → HoldsV (now (vt .entry)) g
-        → r ≡ (not
-        (within 1 (length (now (vt .entry)) / 8) n) ⇒ 2 else hasVertex g n ⇒ 3 else leb types t ⇒ 6 else 0)) ⌝ }
+pub fn create_vertex(vertices: &[u32], types: u32, n: u32, t: u32) -> u32
+    ensures { λ r. ⌜ r ≡ firstCode (numberCode (length (now (vertices .entry)) / 8) n)
+        (firstCode (usedCode (foundV (now (vertices .entry)) n)) (typeCode types t)) ⌝ }
+    ensures { λ r. ⌜ ((g : Graph) → HoldsV (now (vertices .entry)) g
+        → r ≡ (not (within 1 (length (now (vertices .entry)) / 8) n) ⇒ 2 else hasVertex g n ⇒ 3 else leb types t ⇒ 6
+        else 0)) ⌝ }
 {
-    let code = number_code(vt.len() / 8, n);
+    let code = number_code(vertices.len() / 8, n);
     if code != 0 {
         return code;
     }
-    let f = find_vertex(vt, n);
+    let f = find_vertex(vertices, n);
     let Lookup::Missing = f else {
         return 3;
     };
@@ -116,27 +116,35 @@ pub fn create_vertex(vt: &[u32], types: u32, n: u32, t: u32) -> u32
 }
 
 // Kind 3: codes 2, 3, 4, 6.
-pub fn create_edge(vt: &[u32], et: &[u32], types: u32, n: u32, x: u32, y: u32, t: u32) -> u32
-    ensures { λ r. ⌜ r ≡ firstCode (numberCode (length (now (et .entry)) / 12) n)
-        (firstCode (usedCode (foundE (now (et .entry)) n))
-        (firstCode (verticesCode (now (vt .entry)) x y) (typeCode types t))) ⌝ }
-    ensures { λ r. ⌜ ((g : Graph) → HoldsVE (now (vt .entry)) (now (et .entry)) g
-        → r ≡ (not (within 1 (length (now (et .entry)) / 12) n) ⇒ 2 else hasEdge g n ⇒ 3 else
+pub fn create_edge(
+    vertices: &[u32],
+    edges: &[u32],
+    types: u32,
+    n: u32,
+    x: u32,
+    y: u32,
+    t: u32,
+) -> u32
+    ensures { λ r. ⌜ r ≡ firstCode (numberCode (length (now (edges .entry)) / 12) n)
+        (firstCode (usedCode (foundE (now (edges .entry)) n))
+        (firstCode (verticesCode (now (vertices .entry)) x y) (typeCode types t))) ⌝ }
+    ensures { λ r. ⌜ ((g : Graph) → HoldsVE (now (vertices .entry)) (now (edges .entry)) g
+        → r ≡ (not (within 1 (length (now (edges .entry)) / 12) n) ⇒ 2 else hasEdge g n ⇒ 3 else
         (lacksVertex g x || lacksVertex g y) ⇒ 4 else leb types t ⇒ 6 else 0)) ⌝ }
 {
-    let code = number_code(et.len() / 12, n);
+    let code = number_code(edges.len() / 12, n);
     if code != 0 {
         return code;
     }
-    let f = find_edge(et, n);
+    let f = find_edge(edges, n);
     let Lookup::Missing = f else {
         return 3;
     };
-    let from = find_vertex(vt, x);
+    let from = find_vertex(vertices, x);
     let Lookup::Found(_) = from else {
         return 4;
     };
-    let to = find_vertex(vt, y);
+    let to = find_vertex(vertices, y);
     let Lookup::Found(_) = to else {
         return 4;
     };
@@ -144,12 +152,12 @@ pub fn create_edge(vt: &[u32], et: &[u32], types: u32, n: u32, x: u32, y: u32, t
 }
 
 // Kind 5: codes 4, 6.
-pub fn retype_vertex(vt: &[u32], types: u32, n: u32, t: u32) -> u32
-    ensures { λ r. ⌜ r ≡ firstCode (vertexCode (foundV (now (vt .entry)) n)) (typeCode types t) ⌝ }
-    ensures { λ r. ⌜ ((g : Graph) → HoldsV (now (vt .entry)) g
+pub fn retype_vertex(vertices: &[u32], types: u32, n: u32, t: u32) -> u32
+    ensures { λ r. ⌜ r ≡ firstCode (vertexCode (foundV (now (vertices .entry)) n)) (typeCode types t) ⌝ }
+    ensures { λ r. ⌜ ((g : Graph) → HoldsV (now (vertices .entry)) g
         → r ≡ (lacksVertex g n ⇒ 4 else leb types t ⇒ 6 else 0)) ⌝ }
 {
-    let f = find_vertex(vt, n);
+    let f = find_vertex(vertices, n);
     let Lookup::Found(_) = f else {
         return 4;
     };
@@ -157,12 +165,12 @@ pub fn retype_vertex(vt: &[u32], types: u32, n: u32, t: u32) -> u32
 }
 
 // Kind 6: codes 5, 6.
-pub fn retype_edge(et: &[u32], types: u32, n: u32, t: u32) -> u32
-    ensures { λ r. ⌜ r ≡ firstCode (edgeCode (foundE (now (et .entry)) n)) (typeCode types t) ⌝ }
-    ensures { λ r. ⌜ ((g : Graph) → HoldsE (now (et .entry)) g
+pub fn retype_edge(edges: &[u32], types: u32, n: u32, t: u32) -> u32
+    ensures { λ r. ⌜ r ≡ firstCode (edgeCode (foundE (now (edges .entry)) n)) (typeCode types t) ⌝ }
+    ensures { λ r. ⌜ ((g : Graph) → HoldsE (now (edges .entry)) g
         → r ≡ (lacksEdge g n ⇒ 5 else leb types t ⇒ 6 else 0)) ⌝ }
 {
-    let f = find_edge(et, n);
+    let f = find_edge(edges, n);
     let Lookup::Found(_) = f else {
         return 5;
     };
@@ -170,12 +178,12 @@ pub fn retype_edge(et: &[u32], types: u32, n: u32, t: u32) -> u32
 }
 
 // Kind 8: codes 5, 7.
-pub fn set_reading(et: &[u32], n: u32, k: u32, d: u32) -> u32
-    ensures { λ r. ⌜ r ≡ firstCode (edgeCode (foundE (now (et .entry)) n)) (readingCode k d) ⌝ }
-    ensures { λ r. ⌜ ((g : Graph) → HoldsE (now (et .entry)) g
+pub fn set_reading(edges: &[u32], n: u32, k: u32, d: u32) -> u32
+    ensures { λ r. ⌜ r ≡ firstCode (edgeCode (foundE (now (edges .entry)) n)) (readingCode k d) ⌝ }
+    ensures { λ r. ⌜ ((g : Graph) → HoldsE (now (edges .entry)) g
         → r ≡ (lacksEdge g n ⇒ 5 else not (isReading k d) ⇒ 7 else 0)) ⌝ }
 {
-    let f = find_edge(et, n);
+    let f = find_edge(edges, n);
     let Lookup::Found(_) = f else {
         return 5;
     };
@@ -183,30 +191,30 @@ pub fn set_reading(et: &[u32], n: u32, k: u32, d: u32) -> u32
 }
 
 // Kinds 9 and 10: codes 4, 5.
-pub fn set_end(vt: &[u32], et: &[u32], n: u32, v: u32) -> u32
-    ensures { λ r. ⌜ r ≡ firstCode (vertexCode (foundV (now (vt .entry)) v))
-        (edgeCode (foundE (now (et .entry)) n)) ⌝ }
-    ensures { λ r. ⌜ ((g : Graph) → HoldsVE (now (vt .entry)) (now (et .entry)) g
+pub fn set_end(vertices: &[u32], edges: &[u32], n: u32, v: u32) -> u32
+    ensures { λ r. ⌜ r ≡ firstCode (vertexCode (foundV (now (vertices .entry)) v))
+        (edgeCode (foundE (now (edges .entry)) n)) ⌝ }
+    ensures { λ r. ⌜ ((g : Graph) → HoldsVE (now (vertices .entry)) (now (edges .entry)) g
         → r ≡ (lacksVertex g v ⇒ 4 else lacksEdge g n ⇒ 5 else 0)) ⌝ }
 {
-    let f = find_vertex(vt, v);
+    let f = find_vertex(vertices, v);
     let Lookup::Found(_) = f else {
         return 4;
     };
-    edge_code(et, n)
+    edge_code(edges, n)
 }
 
 // Kinds 11 and 12: codes 4, 9.
-pub fn order_vertices(vt: &[u32], x: u32, y: u32) -> u32
-    ensures { λ r. ⌜ r ≡ firstCode (verticesCode (now (vt .entry)) x y) (twiceCode x y) ⌝ }
-    ensures { λ r. ⌜ ((g : Graph) → HoldsV (now (vt .entry)) g
+pub fn order_vertices(vertices: &[u32], x: u32, y: u32) -> u32
+    ensures { λ r. ⌜ r ≡ firstCode (verticesCode (now (vertices .entry)) x y) (twiceCode x y) ⌝ }
+    ensures { λ r. ⌜ ((g : Graph) → HoldsV (now (vertices .entry)) g
         → r ≡ ((lacksVertex g x || lacksVertex g y) ⇒ 4 else (x == y) ⇒ 9 else 0)) ⌝ }
 {
-    let f = find_vertex(vt, x);
+    let f = find_vertex(vertices, x);
     let Lookup::Found(_) = f else {
         return 4;
     };
-    let h = find_vertex(vt, y);
+    let h = find_vertex(vertices, y);
     let Lookup::Found(_) = h else {
         return 4;
     };
@@ -214,16 +222,16 @@ pub fn order_vertices(vt: &[u32], x: u32, y: u32) -> u32
 }
 
 // Kinds 13 and 14: codes 5, 9.
-pub fn order_edges(et: &[u32], x: u32, y: u32) -> u32
-    ensures { λ r. ⌜ r ≡ firstCode (edgesCode (now (et .entry)) x y) (twiceCode x y) ⌝ }
-    ensures { λ r. ⌜ ((g : Graph) → HoldsE (now (et .entry)) g
+pub fn order_edges(edges: &[u32], x: u32, y: u32) -> u32
+    ensures { λ r. ⌜ r ≡ firstCode (edgesCode (now (edges .entry)) x y) (twiceCode x y) ⌝ }
+    ensures { λ r. ⌜ ((g : Graph) → HoldsE (now (edges .entry)) g
         → r ≡ ((lacksEdge g x || lacksEdge g y) ⇒ 5 else (x == y) ⇒ 9 else 0)) ⌝ }
 {
-    let f = find_edge(et, x);
+    let f = find_edge(edges, x);
     let Lookup::Found(_) = f else {
         return 5;
     };
-    let h = find_edge(et, y);
+    let h = find_edge(edges, y);
     let Lookup::Found(_) = h else {
         return 5;
     };
@@ -231,21 +239,21 @@ pub fn order_edges(et: &[u32], x: u32, y: u32) -> u32
 }
 
 // Kinds 15 and 16: codes 5, 8, 9.
-pub fn order_words(et: &[u32], x: u32, y: u32) -> u32
-    ensures { λ r. ⌜ r ≡ firstCode (wordsCode (now (et .entry)) x y) (twiceCode x y) ⌝ }
-    ensures { λ r. ⌜ ((g : Graph) → HoldsE (now (et .entry)) g
-        → r ≡ ((lacksEdge g (edgeOf x) || lacksEdge g (edgeOf y)) ⇒ 5 else not
-        (chart.this g x == chart.this g y) ⇒ 8 else (x == y) ⇒ 9 else 0)) ⌝ }
+pub fn order_words(edges: &[u32], x: u32, y: u32) -> u32
+    ensures { λ r. ⌜ r ≡ firstCode (wordsCode (now (edges .entry)) x y) (twiceCode x y) ⌝ }
+    ensures { λ r. ⌜ ((g : Graph) → HoldsE (now (edges .entry)) g
+        → r ≡ ((lacksEdge g (edgeOf x) || lacksEdge g (edgeOf y)) ⇒ 5 else not (chart.this g x == chart.this g y) ⇒ 8
+        else (x == y) ⇒ 9 else 0)) ⌝ }
 {
-    let f = find_word(et, x);
+    let f = find_word(edges, x);
     let Lookup::Found(_) = f else {
         return 5;
     };
-    let h = find_word(et, y);
+    let h = find_word(edges, y);
     let Lookup::Found(_) = h else {
         return 5;
     };
-    if this(et, x) != this(et, y) {
+    if this(edges, x) != this(edges, y) {
         return 8;
     }
     twice_code(x, y)

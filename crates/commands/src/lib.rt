@@ -1,7 +1,7 @@
 // The command that one call's five words are, in families.
 use graph::Change;
+use lists::get;
 ghost use mathlib.Core.Path.{_≡_};
-ghost use lib.ListN.{getD};
 ghost use Rattle.commands.specs.Calls.{callAt, five};
 ghost use Rattle.commands.specs.Answers.{accepts, refuses};
 ghost use Rattle.commands.specs.Commands.{changeOf, historyOf, questionOf, commandOf};
@@ -170,25 +170,15 @@ fn command_of(k: u32, a: u32, b: u32, c: u32, d: u32) -> Command
     Command::Unknown
 }
 
-// The word at a place; past the end it is 0.
-fn word(words: &[u32], i: usize) -> u32
-    ensures { λ r. ⌜ r ≡ getD (now (words .entry)) i 0 ⌝ }
-{
-    if i < words.len() {
-        return words[i];
-    }
-    0
-}
-
 // The command of one call's five words, which are a part of the list of calls. Words that are not there are 0.
 pub fn decode(words: &[u32]) -> Command
     ensures { λ r. ⌜ r ≡ commandOf (callAt (now (words .entry))) ⌝ }
 {
-    let k = word(words, 0);
-    let a = word(words, 1);
-    let b = word(words, 2);
-    let c = word(words, 3);
-    let d = word(words, 4);
+    let k = get(words, 0);
+    let a = get(words, 1);
+    let b = get(words, 2);
+    let c = get(words, 3);
+    let d = get(words, 4);
     command_of(k, a, b, c, d)
 }
 

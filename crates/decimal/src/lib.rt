@@ -17,8 +17,7 @@ fn copy(out: &mut [u8], at: usize, word: &[u8]) -> usize
 }
 
 // Writes a text at a place of out and returns the place behind it. Where there is no room for the whole text, nothing
-// is
-// written and the place is returned.
+// is written and the place is returned.
 pub fn bytes(out: &mut [u8], at: usize, word: &[u8]) -> usize
     ensures { λ r. ⌜ Stored (fitting (length (now (out .entry)) - at) (now (word .entry))) at (now (out .entry))
         (now (out .exit)) r ⌝ }

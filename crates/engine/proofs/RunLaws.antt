@@ -35,13 +35,13 @@ use Rattle.machine.proofs.Whole.{calls-length}
 
 -- what `begin` ensures of the version x
 abbrev Begins : List ℕ → Store → List ℕ → List ℕ → Type 0
-Begins start x vt et =
-    (b : Bounds) → (journal marks : List ℕ) → Sized b (tablesOf x (memory vt et journal marks)) → Within b (load start)
-    → length journal < 2 ^ 32 → length marks ≡ 64 → Represents b x (memory vt et journal marks) (fresh (load start))
+Begins start x vertices edges =
+    (b : Bounds) → (journal marks : List ℕ) → Sized b (tablesOf x (memory vertices edges journal marks)) → Within b (load start)
+    → length journal < 2 ^ 32 → length marks ≡ 64 → Represents b x (memory vertices edges journal marks) (fresh (load start))
 
 -- the tables with the head of a version that begins
-pub held-at : (x : Store) (head : Head) (vt et : List ℕ) (g : Graph) → x ≡ begunAt head → Holds (state head vt et) g → Holds (state (x .current .head) vt et) g
-held-at x head vt et g e h = subst (λ (y : Store). Holds (state (y .current .head) vt et) g) (sym e) h
+pub held-at : (x : Store) (head : Head) (vertices edges : List ℕ) (g : Graph) → x ≡ begunAt head → Holds (state head vertices edges) g → Holds (state (x .current .head) vertices edges) g
+held-at x head vertices edges g e h = subst (λ (y : Store). Holds (state (y .current .head) vertices edges) g) (sym e) h
 
 module _ (start rows calls vertices edges journal answers image : List ℕ) (e : listRefusal (lent start rows calls vertices edges journal answers image) ≡ 0) where
   abbrev l : Lent
@@ -61,9 +61,9 @@ module _ (start rows calls vertices edges journal answers image : List ℕ) (e :
   }
 
   module _ (closed : List ℕ) (types : ℕ) (rows-closed : closed ≡ closureWords rows) (types-in : types ≡ length rows) where
-    pub running : (x : Store) (vt et marks : List ℕ) → length vt ≡ length vertices → length et ≡ length edges → length marks ≡ 64 →
-        Begins start x vt et → Running w x (memory vt et journal marks) closed types (fresh (load start))
-    running x vt et marks v n p s =
+    pub running : (x : Store) (vertices′ edges′ marks : List ℕ) → length vertices′ ≡ length vertices → length edges′ ≡ length edges → length marks ≡ 64 →
+        Begins start x vertices′ edges′ → Running w x (memory vertices′ edges′ journal marks) closed types (fresh (load start))
+    running x vertices′ edges′ marks v n p s =
         let k = past .limits in
         let few-c = k .few-changes in
         record {

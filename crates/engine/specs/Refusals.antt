@@ -6,11 +6,13 @@ use mathlib.Core.List.{List}
 use lib.Dec.{ltb}
 use lib.ListN.{length}
 use Rattle.lists.specs.Choice.{_⇒_else_, _==_, within}
+use Rattle.graph.specs.Limits.{mostVertices, mostEdges, mostChanges}
 use Rattle.machine.specs.Run.{Lent}
 
 -- REFERENCE 12.1
 abbrev pub inLimits : ℕ → ℕ → ℕ → Bool
-inLimits vertices edges changes = within 1 1000 vertices && within 1 4000 edges && within 1 20000 changes
+inLimits vertices edges changes =
+    within 1 mostVertices vertices && within 1 mostEdges edges && within 1 mostChanges changes
 
 -- 101 to 103, which go by lengths alone
 abbrev pub lengthsCode : ℕ → ℕ → ℕ → ℕ → ℕ → ℕ

@@ -6,6 +6,7 @@ ghost use mathlib.Core.Path.{_≡_};
 ghost use mathlib.Core.List.{List};
 ghost use Prim.Native.Nat.{ℕ, _^_, _<_};
 ghost use lib.ListN.{length};
+ghost use Rattle.marks.specs.Marked.{markWords};
 ghost use Rattle.graph.specs.WellFormed.{Bounds, Within};
 ghost use Rattle.history.specs.Machine.{fresh};
 ghost use Rattle.image.specs.Image.{load as loadOf};
@@ -20,7 +21,7 @@ pub fn begin(start: &[u32], vertices: &mut [u32], edges: &mut [u32]) -> Store
     requires { ⌜ CanLoad (now start) (now vertices) (now edges) ⌝ }
     ensures { λ r. ⌜ ((b : Bounds) → (journal marks : List ℕ)
         → Sized b (tablesOf r (memory (now (vertices .exit)) (now (edges .exit)) journal marks))
-        → Within b (loadOf (now (start .entry))) → length journal < 2 ^ 32 → length marks ≡ 64
+        → Within b (loadOf (now (start .entry))) → length journal < 2 ^ 32 → length marks ≡ markWords
         → Represents b r (memory (now (vertices .exit)) (now (edges .exit)) journal marks)
         (fresh (loadOf (now (start .entry))))) ⌝ }
 {

@@ -14,25 +14,25 @@ ghost use Rattle.engine.specs.Calls.{AfterCalls};
 // Answers each call by two words, code and number. The words of tables, journal and marks are left open,
 // but for the machine that they stand for.
 pub fn each(
-    x: Store,
+    store: Store,
     vertices: &mut [u32],
     edges: &mut [u32],
     journal: &mut [u32],
-    marks: &mut [u32; 64],
+    marks: &mut [u32; marks::WORDS],
     closed: &[u64; 64],
     types: u32,
     calls: &[u32],
     answers: &mut [u32],
 ) -> Store
-    requires { ⌜ Runs x vertices edges journal marks closed types ⌝ }
+    requires { ⌜ Runs store vertices edges journal marks closed types ⌝ }
     requires { ⌜ 2 * (length (now calls) / 5) ≤ length (now answers) ⌝ }
     ensures { λ r. ⌜ ((w : Parameters) → (m : Machine)
-        → Running w x (entry vertices edges journal marks) (now (closed .entry)) types m
+        → Running w store (entry vertices edges journal marks) (now (closed .entry)) types m
         → AfterCalls w m (callsOf (now (calls .entry))) r (exit vertices edges journal marks) (now (closed .entry))
         types (now (answers .entry)) (now (answers .exit))) ⌝ }
 {
     let n = calls.len() / 5;
-    let mut y = x;
+    let mut y = store;
     let mut k = 0;
     while k < n {
         let command = decode(&calls[5 * k..5 * k + 5]);

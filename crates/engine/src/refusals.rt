@@ -1,4 +1,7 @@
 // The refusals of a list: the first code in turn that applies, 0 where none does. Nothing is written.
+use graph::MOST_CHANGES;
+use graph::MOST_EDGES;
+use graph::MOST_VERTICES;
 use image::check;
 use image::code_of;
 use image::layout::VERTEX;
@@ -17,25 +20,25 @@ pub struct Refused {
     pub number: u32,
 }
 
-fn at_most(most: usize, n: usize) -> bool
+fn at_most(most: u32, n: usize) -> bool
     ensures { λ r. ⌜ r ≡ within 1 most n ⌝ }
 {
     if n < 1 {
         return false;
     }
-    n <= most
+    n <= most as usize
 }
 
 fn in_limits(vertices: usize, edges: usize, changes: usize) -> bool
     ensures { λ r. ⌜ r ≡ inLimits vertices edges changes ⌝ }
 {
-    if !at_most(1000, vertices) {
+    if !at_most(MOST_VERTICES, vertices) {
         return false;
     }
-    if !at_most(4000, edges) {
+    if !at_most(MOST_EDGES, edges) {
         return false;
     }
-    at_most(20000, changes)
+    at_most(MOST_CHANGES, changes)
 }
 
 // 101, 102, 103 or 0.

@@ -36,7 +36,7 @@ fn accepted(
     let closed = closure(rows);
     let types = rows.len() as u32;
     let x = begin(start, vertices, edges);
-    let mut marks = [0u32; 64];
+    let mut marks = [0u32; marks::WORDS];
     let y = each(
         x,
         vertices,

@@ -1,5 +1,6 @@
 -- The graph: vertices and edges, each in an order. REFERENCE 1.2 to 1.8.
 use Prim.Native.Nat.{ℕ, _+_, _*_, _/_, _%_}
+use mathlib.Core.Path.{_≡_}
 use mathlib.Core.Bool.{Bool, _&&_, _||_}
 use mathlib.Core.List.{List, [], map}
 use lib.Dec.{leb}
@@ -52,6 +53,10 @@ isReading k d = (leb k 1 && (d == 0)) || ((k == 2) && leb d 9999)
 -- the reading of a kind and decimetres that are one
 abbrev pub readingOf : ℕ → ℕ → Reading
 readingOf k d = (k == 0) ⇒ Untested else (k == 1) ⇒ Silent else Heard d
+
+-- kind and decimetres are those of the reading that they are read as
+abbrev pub IsWords : ℕ → ℕ → Type 0
+IsWords k d = (readingKind (readingOf k d) ≡ k) × (decimetres (readingOf k d) ≡ d)
 
 -- ---- numbers
 

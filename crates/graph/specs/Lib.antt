@@ -5,3 +5,4 @@ pub mod Edits
 pub mod Plans
 pub mod Questions
 pub mod Same
+pub mod Limits

@@ -1,3 +1,14 @@
+// The most that a run is lent for, types among it, and how many marks there are.
+pub const MOST_VERTICES: u32 = 1000;
+
+pub const MOST_EDGES: u32 = 4000;
+
+pub const MOST_CHANGES: u32 = 20000;
+
+pub const MOST_TYPES: u32 = 64;
+
+pub const MOST_MARKS: u32 = 64;
+
 // The reading of an edge: untested, silent, or heard at some decimetres.
 pub enum Reading {
     Untested,

@@ -2,19 +2,17 @@
 use mathlib.Core.Path.{_≡_, sym, ap, subst, _∙_}
 use Prim.Native.Nat.{ℕ, _/_, _≤_}
 use native.Mathlib.Omega.{arith}
-use Rattle.lists.specs.Keyed.{countBy}
 use Rattle.graph.specs.declared.Edit.{Edit}
 use Rattle.graph.specs.declared.Edit.the-variants.{InsertVertex, RemoveVertex, InsertEdge, RemoveEdge, SetVertex, SetEdge, MoveVertex, MoveEdge, MoveWord}
-use Rattle.graph.specs.Graph.{Graph, vertexNumber, edgeNumber}
+use Rattle.graph.specs.Graph.{Graph}
 use Rattle.graph.specs.WellFormed.{Bounds, WellFormed}
 use Rattle.graph.specs.Edits.{inverse, apply, Applies, EditIn}
 use Rattle.graph.proofs.Undoes.{undoes, inverse-applies}
 use Rattle.graph.proofs.EditBounds.{inverse-in}
-use Rattle.graph_tables.specs.Tables.{State, vertexListEnds, edgeListEnds, VertexRowIn, EdgeRowIn}
+use Rattle.graph_tables.specs.Tables.{State, VertexRowIn, EdgeRowIn}
 use Rattle.graph_tables.specs.Holds.{Holds}
 use Rattle.graph_tables.specs.Edits.{applyS, Can, Small, Room}
 use Rattle.graph_tables.specs.Capacities.{Sized}
-use Rattle.graph_tables.proofs.Frames.{row-v, row-e}
 use Rattle.graph_tables.proofs.Refines.{can-edit, holds-edit}
 use Rattle.graph_tables.proofs.Sizes.{Alike, same-size}
 
@@ -22,19 +20,19 @@ use Rattle.graph_tables.proofs.Sizes.{Alike, same-size}
 
 module _ (b : Bounds) (s : State) (z : Sized b s) where
   pub small : Small s
-  small = record { vt = omega (arith, z .vertices, z .fewVertices); et = omega (arith, z .edges, z .fewEdges) }
+  small = record { vertices = omega (arith, z .vertices, z .fewVertices); edges = omega (arith, z .edges, z .fewEdges) }
 
   -- a number within the capacity has a row
-  pub vertex-in : (n : ℕ) → 1 ≤ n → n ≤ b .vertices → VertexRowIn (s .vt) n
+  pub vertex-in : (n : ℕ) → 1 ≤ n → n ≤ b .vertices → VertexRowIn (s .vertices) n
   vertex-in n p q = (p, omega (arith, z .vertices))
 
-  pub edge-in : (n : ℕ) → 1 ≤ n → n ≤ b .edges → EdgeRowIn (s .et) n
+  pub edge-in : (n : ℕ) → 1 ≤ n → n ≤ b .edges → EdgeRowIn (s .edges) n
   edge-in n p q = (p, omega (arith, z .edges))
 
   pub sized-alike : (s′ : State) → Alike s s′ → Sized b s′
   sized-alike s′ a = record {
-    vertices = z .vertices ∙ ap (λ (n : ℕ). n / 8) (sym (a .vt));
-    edges = z .edges ∙ ap (λ (n : ℕ). n / 12) (sym (a .et));
+    vertices = z .vertices ∙ ap (λ (n : ℕ). n / 8) (sym (a .vertices));
+    edges = z .edges ∙ ap (λ (n : ℕ). n / 12) (sym (a .edges));
     fewVertices = z .fewVertices;
     fewEdges = z .fewEdges;
   }
@@ -49,20 +47,6 @@ module _ (b : Bounds) (s : State) (z : Sized b s) where
   room-in g (MoveVertex n old new) a i = tt
   room-in g (MoveEdge n old new) a i = tt
   room-in g (MoveWord w v old u new) a i = tt
-
-  -- every number of the graph that is held has a row, and is within the capacity
-  module _ (g : Graph) (h : Holds s g) (n : ℕ) where
-    pub vertex-row : countBy vertexNumber n (g .vseq) ≡ 1 → VertexRowIn (s .vt) n
-    vertex-row c = row-v (s .vt) (vertexListEnds (s .head)) (g .vseq) (h .core .vseq) n (omega arith)
-
-    pub edge-row : countBy edgeNumber n (g .eseq) ≡ 1 → EdgeRowIn (s .et) n
-    edge-row c = row-e (s .et) (edgeListEnds (s .head)) (g .eseq) (h .core .eseq) n (omega arith)
-
-    pub vertex-below : countBy vertexNumber n (g .vseq) ≡ 1 → n ≤ b .vertices
-    vertex-below c = omega (arith, vertex-row c, z .vertices)
-
-    pub edge-below : countBy edgeNumber n (g .eseq) ≡ 1 → n ≤ b .edges
-    edge-below c = omega (arith, edge-row c, z .edges)
 
 -- ---- an edit
 

@@ -10,19 +10,19 @@ use Rattle.graph.specs.Graph.{empty, thisIn}
 use Rattle.graph_tables.specs.Tables.{state, noHead, cleared, vertexLinks, edgeLinks, incidenceLinks, vertexPlace, edgePlace, halfPlace, endsAt}
 use Rattle.graph_tables.specs.Holds.{Holds}
 
-module _ (vt et : List ℕ) (zv : (i : ℕ) → getD vt i 0 ≡ 0) (ze : (i : ℕ) → getD et i 0 ≡ 0) where
-  no-ends : (v : ℕ) → endsAt vt v ≡ record { first = 0; last = 0 }
+module _ (vertices edges : List ℕ) (zv : (i : ℕ) → getD vertices i 0 ≡ 0) (ze : (i : ℕ) → getD edges i 0 ≡ 0) where
+  no-ends : (v : ℕ) → endsAt vertices v ≡ record { first = 0; last = 0 }
   no-ends v i = record { first = zv (vertexPlace 3 v) i; last = zv (vertexPlace 4 v) i }
 
-  pub holds-empty : Holds (state noHead vt et) empty
+  pub holds-empty : Holds (state noHead vertices edges) empty
   holds-empty = record {
     core = record {
-      vseq = held-none vertexLinks vt;
-      eseq = held-none edgeLinks et;
+      vseq = held-none vertexLinks vertices;
+      eseq = held-none edgeLinks edges;
       vrows = λ v r. record { live = zv (vertexPlace 0 v); type = zv (vertexPlace 1 v); value = zv (vertexPlace 2 v) };
       erows = λ e r. record { live = ze (edgePlace 3 e); type = ze (edgePlace 4 e); kind = ze (edgePlace 5 e); decimetres = ze (edgePlace 9 e) };
       this = λ w r. ze (halfPlace 2 w) ∙ sym (pick-both _ _ 0);
-      lists = λ v r. rw (no-ends v) (held-none incidenceLinks et);
+      lists = λ v r. rw (no-ends v) (held-none incidenceLinks edges);
       disjoint = λ u v k n. omega arith;
       vertices = refl;
       edges = refl;
@@ -40,6 +40,6 @@ zeros zero i = refl
 zeros (suc n) zero = refl
 zeros (suc n) (suc i) = zeros n i
 
-pub holds-cleared : (vt et : List ℕ) → Holds (cleared vt et) empty
+pub holds-cleared : (vertices edges : List ℕ) → Holds (cleared vertices edges) empty
 unfolding cleared
-holds-cleared vt et = holds-empty (replicate (length vt) 0) (replicate (length et) 0) (zeros (length vt)) (zeros (length et))
+holds-cleared vertices edges = holds-empty (replicate (length vertices) 0) (replicate (length edges) 0) (zeros (length vertices)) (zeros (length edges))

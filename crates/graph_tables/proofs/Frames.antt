@@ -101,8 +101,8 @@ module _ (t t′ : List ℕ) where
   pub keep-ends : Keeps VEnds t t′ → (v : ℕ) → 1 ≤ v → endsAt t′ v ≡ endsAt t v
   keep-ends k v r i = record { first = k (vertexPlace 3 v) (omega arith, omega arith) i; last = k (vertexPlace 4 v) (omega arith, omega arith) i }
 
-pub keep-lists : (vt vt′ et et′ : List ℕ) → Keeps VEnds vt vt′ → Keeps ELinks et et′ → length et′ ≡ length et → (vs : List Vertex) → Lists vt et vs → Lists vt′ et′ vs
-keep-lists vt vt′ et et′ k i len vs h v r = rw (keep-ends vt vt′ k v r) (keep-list et et′ i len (endsAt vt v) (listIn vs v) (h v r))
+pub keep-lists : (vertices vertices′ edges edges′ : List ℕ) → Keeps VEnds vertices vertices′ → Keeps ELinks edges edges′ → length edges′ ≡ length edges → (vs : List Vertex) → Lists vertices edges vs → Lists vertices′ edges′ vs
+keep-lists vertices vertices′ edges edges′ k i len vs h v r = rw (keep-ends vertices vertices′ k v r) (keep-list edges edges′ i len (endsAt vertices v) (listIn vs v) (h v r))
 
 -- ---- what each step keeps
 
@@ -147,30 +147,30 @@ module _ (t : List ℕ) (e : Ends) (x : ℕ) where
 pub set-keeps : (P : ℕ → Type 0) (t : List ℕ) (j x : ℕ) → (P j → ⊥) → Keeps P t (set t j x)
 set-keeps P t j x n i h = getD-set-other t j i x 0 (λ q. n (rw q at h))
 
-module _ (v : ℕ) (e : Ends) (vt : List ℕ) where
-  pub ends-len : length (putEnds v e vt) ≡ length vt
+module _ (v : ℕ) (e : Ends) (vertices : List ℕ) where
+  pub ends-len : length (putEnds v e vertices) ≡ length vertices
   unfolding putEnds
   ends-len = simp length-set
 
-  pub ends-keep : (P : ℕ → Type 0) → (P (vertexPlace 3 v) → ⊥) → (P (vertexPlace 4 v) → ⊥) → Keeps P vt (putEnds v e vt)
+  pub ends-keep : (P : ℕ → Type 0) → (P (vertexPlace 3 v) → ⊥) → (P (vertexPlace 4 v) → ⊥) → Keeps P vertices (putEnds v e vertices)
   unfolding putEnds
-  ends-keep P a b i h = set-keeps P (set vt (vertexPlace 3 v) (e .first)) (vertexPlace 4 v) (e .last) b i h ∙ set-keeps P vt (vertexPlace 3 v) (e .first) a i h
+  ends-keep P a b i h = set-keeps P (set vertices (vertexPlace 3 v) (e .first)) (vertexPlace 4 v) (e .last) b i h ∙ set-keeps P vertices (vertexPlace 3 v) (e .first) a i h
 
-  pub ends-same : VertexRowIn vt v → endsAt (putEnds v e vt) v ≡ e
+  pub ends-same : VertexRowIn vertices v → endsAt (putEnds v e vertices) v ≡ e
   unfolding putEnds
   ends-same h i = record {
-    first = (getD-set-other (set vt (vertexPlace 3 v) (e .first)) (vertexPlace 4 v) (vertexPlace 3 v) (e .last) 0 (λ q. omega arith)
-        ∙ getD-set-same vt (vertexPlace 3 v) (e .first) 0 (omega arith)) i;
-    last = getD-set-same (set vt (vertexPlace 3 v) (e .first)) (vertexPlace 4 v) (e .last) 0 (simp length-set (omega arith)) i;
+    first = (getD-set-other (set vertices (vertexPlace 3 v) (e .first)) (vertexPlace 4 v) (vertexPlace 3 v) (e .last) 0 (λ q. omega arith)
+        ∙ getD-set-same vertices (vertexPlace 3 v) (e .first) 0 (omega arith)) i;
+    last = getD-set-same (set vertices (vertexPlace 3 v) (e .first)) (vertexPlace 4 v) (e .last) 0 (simp length-set (omega arith)) i;
   }
 
-  pub ends-other : (u : ℕ) → 1 ≤ v → 1 ≤ u → v ≢ u → endsAt (putEnds v e vt) u ≡ endsAt vt u
+  pub ends-other : (u : ℕ) → 1 ≤ v → 1 ≤ u → v ≢ u → endsAt (putEnds v e vertices) u ≡ endsAt vertices u
   unfolding putEnds
   ends-other u a b n i = record {
-    first = (getD-set-other (set vt (vertexPlace 3 v) (e .first)) (vertexPlace 4 v) (vertexPlace 3 u) (e .last) 0 (λ q. omega arith)
-        ∙ getD-set-other vt (vertexPlace 3 v) (vertexPlace 3 u) (e .first) 0 (λ q. omega arith)) i;
-    last = (getD-set-other (set vt (vertexPlace 3 v) (e .first)) (vertexPlace 4 v) (vertexPlace 4 u) (e .last) 0 (λ q. omega arith)
-        ∙ getD-set-other vt (vertexPlace 3 v) (vertexPlace 4 u) (e .first) 0 (λ q. omega arith)) i;
+    first = (getD-set-other (set vertices (vertexPlace 3 v) (e .first)) (vertexPlace 4 v) (vertexPlace 3 u) (e .last) 0 (λ q. omega arith)
+        ∙ getD-set-other vertices (vertexPlace 3 v) (vertexPlace 3 u) (e .first) 0 (λ q. omega arith)) i;
+    last = (getD-set-other (set vertices (vertexPlace 3 v) (e .first)) (vertexPlace 4 v) (vertexPlace 4 u) (e .last) 0 (λ q. omega arith)
+        ∙ getD-set-other vertices (vertexPlace 3 v) (vertexPlace 4 u) (e .first) 0 (λ q. omega arith)) i;
   }
 
 -- ---- a number that stands in the graph has its row in the table
@@ -190,12 +190,12 @@ module _ {A : Type 0} (key : A → ℕ) (layout : LinkLayout) (t : List ℕ) (e 
   pub in-layout : Inside layout (length t) n
   in-layout = inside-is layout t e (map key xs) valid h n (omega (arith, keys-count key n xs))
 
-pub row-v : (vt : List ℕ) (e : Ends) (vs : List Vertex) → Held vertexLinks vt e (map vertexNumber vs) → (v : ℕ) → 1 ≤ countBy vertexNumber v vs → VertexRowIn vt v
-row-v vt e vs h v c =
-    let r = real vertexNumber vertexLinks vt e vs valid-v h v c in
-    (r, omega (arith, in-layout vertexNumber vertexLinks vt e vs valid-v h v c (λ q. omega arith)))
+pub row-v : (vertices : List ℕ) (e : Ends) (vs : List Vertex) → Held vertexLinks vertices e (map vertexNumber vs) → (v : ℕ) → 1 ≤ countBy vertexNumber v vs → VertexRowIn vertices v
+row-v vertices e vs h v c =
+    let r = real vertexNumber vertexLinks vertices e vs valid-v h v c in
+    (r, omega (arith, in-layout vertexNumber vertexLinks vertices e vs valid-v h v c (λ q. omega arith)))
 
-pub row-e : (et : List ℕ) (e : Ends) (es : List Edge) → Held edgeLinks et e (map edgeNumber es) → (n : ℕ) → 1 ≤ countBy edgeNumber n es → EdgeRowIn et n
-row-e et e es h n c =
-    let r = real edgeNumber edgeLinks et e es valid-e h n c in
-    (r, omega (arith, in-layout edgeNumber edgeLinks et e es valid-e h n c (λ q. omega arith)))
+pub row-e : (edges : List ℕ) (e : Ends) (es : List Edge) → Held edgeLinks edges e (map edgeNumber es) → (n : ℕ) → 1 ≤ countBy edgeNumber n es → EdgeRowIn edges n
+row-e edges e es h n c =
+    let r = real edgeNumber edgeLinks edges e es valid-e h n c in
+    (r, omega (arith, in-layout edgeNumber edgeLinks edges e es valid-e h n c (λ q. omega arith)))

@@ -2,7 +2,7 @@ pub mod Keys
 pub mod Steps
 pub mod Frames
 pub mod WordLaws
-pub mod MoveLaws
+pub mod Sequences
 pub mod VertexLaws
 pub mod EdgeLaws
 pub mod Refines

@@ -30,14 +30,14 @@ length-map f [] = refl
 length-map f (x ∷ l) = rw (length-map f l)
 
 module _ (s : State) (vs : List Vertex) (es : List Edge) (c : Core s vs es) where
-  pub word-in : (w : ℕ) → 1 ≤ countBy edgeNumber (w / 2) es → HalfRowIn (s .et) w
-  word-in w h = let r = row-e (s .et) (edgeListEnds (s .head)) es (c .eseq) (w / 2) h in (omega arith, omega arith)
+  pub word-in : (w : ℕ) → 1 ≤ countBy edgeNumber (w / 2) es → HalfRowIn (s .edges) w
+  word-in w h = let r = row-e (s .edges) (edgeListEnds (s .head)) es (c .eseq) (w / 2) h in (omega arith, omega arith)
 
-  few-vertices : length vs ≤ length (s .vt)
-  few-vertices = omega (arith, length-map vertexNumber vs, held-length vertexLinks (s .vt) (vertexListEnds (s .head)) (length (s .vt)) (map vertexNumber vs) (λ x a b. omega arith) (c .vseq))
+  few-vertices : length vs ≤ length (s .vertices)
+  few-vertices = omega (arith, length-map vertexNumber vs, held-length vertexLinks (s .vertices) (vertexListEnds (s .head)) (length (s .vertices)) (map vertexNumber vs) (λ x a b. omega arith) (c .vseq))
 
-  few-edges : length es ≤ length (s .et)
-  few-edges = omega (arith, length-map edgeNumber es, held-length edgeLinks (s .et) (edgeListEnds (s .head)) (length (s .et)) (map edgeNumber es) (λ x a b. omega arith) (c .eseq))
+  few-edges : length es ≤ length (s .edges)
+  few-edges = omega (arith, length-map edgeNumber es, held-length edgeLinks (s .edges) (edgeListEnds (s .head)) (length (s .edges)) (map edgeNumber es) (λ x a b. omega arith) (c .eseq))
 
 -- ---- a word moved
 
@@ -75,7 +75,7 @@ module _ (w v old u new : ℕ) (s : State) (g : Graph) (h : Holds s g) (a : Appl
 
 -- ---- an edge put in
 
-module _ (n x z t : ℕ) (r : Reading) (p o i : ℕ) (s : State) (g : Graph) (h : Holds s g) (a : Applies (InsertEdge n x z t r p o i) g) (m : Small s) (row : EdgeRowIn (s .et) n) where
+module _ (n x z t : ℕ) (r : Reading) (p o i : ℕ) (s : State) (g : Graph) (h : Holds s g) (a : Applies (InsertEdge n x z t r p o i) g) (m : Small s) (row : EdgeRowIn (s .edges) n) where
   abbrev new : Edge
   new = record { number = n; alpha = x; omega = z; type = t; reading = r }
 
@@ -91,7 +91,7 @@ module _ (n x z t : ℕ) (r : Reading) (p o i : ℕ) (s : State) (g : Graph) (h 
   abbrev s₁ : State
   s₁ = placeEdgeS n x z t r p s
 
-  w-out : HalfRowIn (s₁ .et) (outWord n)
+  w-out : HalfRowIn (s₁ .edges) (outWord n)
   w-out = word-in s₁ (g .vseq) es′ placed (outWord n) (rw (out-half n) (omega (arith, one)))
 
   free-o : (u : ℕ) → countBy itself (outWord n) (listIn (g .vseq) u) ≡ 0
@@ -106,7 +106,7 @@ module _ (n x z t : ℕ) (r : Reading) (p o i : ℕ) (s : State) (g : Graph) (h 
   abbrev vs₂ : List Vertex
   vs₂ = attach (g .vseq) x o (outWord n)
 
-  w-into : HalfRowIn (s₂ .et) (inWord n)
+  w-into : HalfRowIn (s₂ .edges) (inWord n)
   w-into = word-in s₂ vs₂ es′ first (inWord n) (rw (into-half n) (omega (arith, one)))
 
   free-i : (u : ℕ) → countBy itself (inWord n) (listIn vs₂ u) ≡ 0
@@ -117,9 +117,9 @@ module _ (n x z t : ℕ) (r : Reading) (p o i : ℕ) (s : State) (g : Graph) (h 
 
   pub can-insert-edge : (n < 2 ^ 31) × CanInsertEdge n x z t r p o i s
   can-insert-edge = (
-    omega (arith, m .et),
+    omega (arith, m .edges),
     record {
-      place = record { row = row; room = omega (arith, m .et, h .core .edges, few-edges s (g .vseq) (g .eseq) (h .core)); back = can-put-edge n x z t r p s (g .vseq) (g .eseq) (h .core) (a .0) row };
+      place = record { row = row; room = omega (arith, m .edges, h .core .edges, few-edges s (g .vseq) (g .eseq) (h .core)); back = can-put-edge n x z t r p s (g .vseq) (g .eseq) (h .core) (a .0) row };
       out = can-attach x o (outWord n) s₁ (g .vseq) es′ placed (a .1) free-o (a .3) w-out;
       into = can-attach z i (inWord n) s₂ vs₂ es′ first target-z free-i (a .4) w-into;
     },
@@ -164,7 +164,7 @@ module _ (n x z t : ℕ) (r : Reading) (p o i : ℕ) (s : State) (g : Graph) (h 
 
   pub can-remove-edge : (n < 2 ^ 31) × CanRemoveEdge n x z s
   can-remove-edge = (
-    omega (arith, m .et, row-e (s .et) (edgeListEnds (s .head)) (g .eseq) (h .core .eseq) n (omega (arith, a .0 .there)) .1),
+    omega (arith, m .edges, row-e (s .edges) (edgeListEnds (s .head)) (g .eseq) (h .core .eseq) n (omega (arith, a .0 .there)) .1),
     record {
       into = can-detach z (inWord n) s (g .vseq) (g .eseq) (h .core) at-z (omega (arith, has-i));
       out = can-detach x (outWord n) r₁ us₁ (g .eseq) core₁ at-x₁ (omega (arith, has-o₁));
@@ -182,14 +182,14 @@ module _ (s : State) (g : Graph) (h : Holds s g) (m : Small s) where
   pub can-edit : (e : Edit) → Applies e g → Room e s → Can e s
   can-edit (InsertVertex n t v p) a i = record {
     row = i;
-    room = omega (arith, m .vt, h .core .vertices, few-vertices s (g .vseq) (g .eseq) (h .core));
+    room = omega (arith, m .vertices, h .core .vertices, few-vertices s (g .vseq) (g .eseq) (h .core));
     back = can-put-vertex n t v p s (g .vseq) (g .eseq) (h .core) a i;
   }
   can-edit (RemoveVertex n t v p) a i = can-remove-vertex n s (g .vseq) (g .eseq) (h .core) (a .0 .there) (ap (λ (x : Vertex). x .incidences) (a .1))
   can-edit (InsertEdge n x z t r p o j) a i = can-insert-edge n x z t r p o j s g h a m i
   can-edit (RemoveEdge n x z t r p o j) a i = can-remove-edge n x z t r p o j s g h a m
-  can-edit (SetVertex n t v t′ v′) a i = row-v (s .vt) (vertexListEnds (s .head)) (g .vseq) (h .core .vseq) n (omega (arith, a .0))
-  can-edit (SetEdge n t r t′ r′) a i = row-e (s .et) (edgeListEnds (s .head)) (g .eseq) (h .core .eseq) n (omega (arith, a .0))
+  can-edit (SetVertex n t v t′ v′) a i = row-v (s .vertices) (vertexListEnds (s .head)) (g .vseq) (h .core .vseq) n (omega (arith, a .0))
+  can-edit (SetEdge n t r t′ r′) a i = row-e (s .edges) (edgeListEnds (s .head)) (g .eseq) (h .core .eseq) n (omega (arith, a .0))
   can-edit (MoveVertex n old new) a i = can-move-vertex n new s (g .vseq) (g .eseq) (h .core) (h .sound .vorder) (a .0 .there) (a .1)
   can-edit (MoveEdge n old new) a i = can-move-edge n new s (g .vseq) (g .eseq) (h .core) (h .sound .eorder) (a .0 .there) (a .1)
   can-edit (MoveWord w v old u new) a i = can-move-word w v old u new s g h a

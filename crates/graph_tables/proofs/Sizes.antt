@@ -8,42 +8,42 @@ use Rattle.graph.specs.declared.Edit.the-variants.{InsertVertex, RemoveVertex, 
 use Rattle.graph_tables.specs.Tables.{State, vertexLinks, edgeLinks, incidenceLinks, vertexListEnds, edgeListEnds, endsAt, detachS, attachS, setThisS, placeEdgeS, dropEdgeS, moveWordS, insertEdgeS, removeEdgeS, setVertexS, moveVertexS, insertVertexS, removeVertexS, setEdgeS, moveEdgeS}
 use Rattle.graph_tables.specs.Edits.{applyS}
 use Rattle.graph_tables.proofs.Frames.{unlink-len, insert-len, ends-len}
-use Rattle.graph_tables.proofs.MoveLaws.{move-len}
+use Rattle.graph_tables.proofs.Sequences.{move-len}
 use Rattle.graph_tables.proofs.VertexLaws.{row-len as vrow-len}
 use Rattle.graph_tables.proofs.EdgeLaws.{row-len as erow-len, ends-len as this-len}
 
 -- two states with tables of the same lengths
 pub record Alike (s s′ : State) : Type 0 where
-  pub vt : length (s′ .vt) ≡ length (s .vt)
-  pub et : length (s′ .et) ≡ length (s .et)
+  pub vertices : length (s′ .vertices) ≡ length (s .vertices)
+  pub edges : length (s′ .edges) ≡ length (s .edges)
 
 then : (s s′ s″ : State) → Alike s s′ → Alike s′ s″ → Alike s s″
-then s s′ s″ a b = record { vt = b .vt ∙ a .vt; et = b .et ∙ a .et }
+then s s′ s″ a b = record { vertices = b .vertices ∙ a .vertices; edges = b .edges ∙ a .edges }
 
 detach-len : (v w : ℕ) (s : State) → Alike s (detachS v w s)
 unfolding detachS
-detach-len v w s = record { vt = ends-len v _ (s .vt); et = unlink-len (s .et) (endsAt (s .vt) v) w incidenceLinks }
+detach-len v w s = record { vertices = ends-len v _ (s .vertices); edges = unlink-len (s .edges) (endsAt (s .vertices) v) w incidenceLinks }
 
 attach-len : (v p w : ℕ) (s : State) → Alike s (attachS v p w s)
 unfolding attachS
-attach-len v p w s = record { vt = ends-len v _ (s .vt); et = insert-len (s .et) (endsAt (s .vt) v) w incidenceLinks p }
+attach-len v p w s = record { vertices = ends-len v _ (s .vertices); edges = insert-len (s .edges) (endsAt (s .vertices) v) w incidenceLinks p }
 
 this-set-len : (w u : ℕ) (s : State) → Alike s (setThisS w u s)
 unfolding setThisS
-this-set-len w u s = record { vt = refl; et = simp length-set }
+this-set-len w u s = record { vertices = refl; edges = simp length-set }
 
 place-len : (n a z t : ℕ) (r : Reading) (p : ℕ) (s : State) → Alike s (placeEdgeS n a z t r p s)
 unfolding placeEdgeS
-place-len n a z t r p s = record { vt = refl; et = this-len n a z _ ∙ erow-len n 1 t r _ ∙ insert-len (s .et) (edgeListEnds (s .head)) n edgeLinks p }
+place-len n a z t r p s = record { vertices = refl; edges = this-len n a z _ ∙ erow-len n 1 t r _ ∙ insert-len (s .edges) (edgeListEnds (s .head)) n edgeLinks p }
 
 drop-len : (n : ℕ) (s : State) → Alike s (dropEdgeS n s)
 unfolding dropEdgeS
-drop-len n s = record { vt = refl; et = this-len n 0 0 _ ∙ erow-len n 0 0 _ _ ∙ unlink-len (s .et) (edgeListEnds (s .head)) n edgeLinks }
+drop-len n s = record { vertices = refl; edges = this-len n 0 0 _ ∙ erow-len n 0 0 _ _ ∙ unlink-len (s .edges) (edgeListEnds (s .head)) n edgeLinks }
 
 pub same-size : (e : Edit) (s : State) → Alike s (applyS e s)
 unfolding insertVertexS removeVertexS insertEdgeS removeEdgeS setVertexS setEdgeS moveVertexS moveEdgeS moveWordS
-same-size (InsertVertex n t v p) s = record { vt = vrow-len n 1 t v _ ∙ insert-len (s .vt) (vertexListEnds (s .head)) n vertexLinks p; et = refl }
-same-size (RemoveVertex n t v p) s = record { vt = vrow-len n 0 0 0 _ ∙ unlink-len (s .vt) (vertexListEnds (s .head)) n vertexLinks; et = refl }
+same-size (InsertVertex n t v p) s = record { vertices = vrow-len n 1 t v _ ∙ insert-len (s .vertices) (vertexListEnds (s .head)) n vertexLinks p; edges = refl }
+same-size (RemoveVertex n t v p) s = record { vertices = vrow-len n 0 0 0 _ ∙ unlink-len (s .vertices) (vertexListEnds (s .head)) n vertexLinks; edges = refl }
 same-size (InsertEdge n a z t r p o i) s =
     let s₁ = placeEdgeS n a z t r p s in
     let s₂ = attachS a o (2 * n) s₁ in
@@ -52,10 +52,10 @@ same-size (RemoveEdge n a z t r p o i) s =
     let s₁ = detachS z (2 * n + 1) s in
     let s₂ = detachS a (2 * n) s₁ in
     then s s₁ _ (detach-len z (2 * n + 1) s) (then s₁ s₂ _ (detach-len a (2 * n) s₁) (drop-len n s₂))
-same-size (SetVertex n t v t′ v′) s = record { vt = vrow-len n 1 t′ v′ (s .vt); et = refl }
-same-size (SetEdge n t r t′ r′) s = record { vt = refl; et = erow-len n 1 t′ r′ (s .et) }
-same-size (MoveVertex n old new) s = record { vt = move-len n new (s .vt) (vertexListEnds (s .head)) vertexLinks; et = refl }
-same-size (MoveEdge n old new) s = record { vt = refl; et = move-len n new (s .et) (edgeListEnds (s .head)) edgeLinks }
+same-size (SetVertex n t v t′ v′) s = record { vertices = vrow-len n 1 t′ v′ (s .vertices); edges = refl }
+same-size (SetEdge n t r t′ r′) s = record { vertices = refl; edges = erow-len n 1 t′ r′ (s .edges) }
+same-size (MoveVertex n old new) s = record { vertices = move-len n new (s .vertices) (vertexListEnds (s .head)) vertexLinks; edges = refl }
+same-size (MoveEdge n old new) s = record { vertices = refl; edges = move-len n new (s .edges) (edgeListEnds (s .head)) edgeLinks }
 same-size (MoveWord w v old u new) s =
     let s₁ = detachS v w s in
     let s₂ = attachS u new w s₁ in

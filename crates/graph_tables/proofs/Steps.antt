@@ -52,65 +52,65 @@ module _ (layout : LinkLayout) (n p : ℕ) (t : List ℕ) (e : Ends) where
   unfolding moveT moveE
   moved a b = (b .0 ∙ (λ i. insertT layout (a .0 i) (a .1 i) p n), b .1 ∙ (λ i. insertE layout (a .0 i) (a .1 i) p n))
 
-module _ (h : Head) (vt et : List ℕ) where
-  pub detached : (v w : ℕ) {e r : Ends} {vt′ et′ : List ℕ} → e ≡ endsAt vt v → (et′ ≡ unlinkT incidenceLinks et e w) × (r ≡ unlinkE incidenceLinks et e w) → vt′ ≡ putEnds v r vt →
-      state h vt′ et′ ≡ detachS v w (state h vt et)
+module _ (h : Head) (vertices edges : List ℕ) where
+  pub detached : (v w : ℕ) {e r : Ends} {vertices′ edges′ : List ℕ} → e ≡ endsAt vertices v → (edges′ ≡ unlinkT incidenceLinks edges e w) × (r ≡ unlinkE incidenceLinks edges e w) → vertices′ ≡ putEnds v r vertices →
+      state h vertices′ edges′ ≡ detachS v w (state h vertices edges)
   unfolding detachS
-  detached v w {vt′ = vt′} {et′ = et′} a b c =
-      let x : et′ ≡ unlinkT incidenceLinks et (endsAt vt v) w = b .0 ∙ (λ i. unlinkT incidenceLinks et (a i) w) in
-      let y : vt′ ≡ putEnds v (unlinkE incidenceLinks et (endsAt vt v) w) vt = c ∙ (λ i. putEnds v (b .1 i) vt) ∙ (λ i. putEnds v (unlinkE incidenceLinks et (a i) w) vt) in
+  detached v w {vertices′ = vertices′} {edges′ = edges′} a b c =
+      let x : edges′ ≡ unlinkT incidenceLinks edges (endsAt vertices v) w = b .0 ∙ (λ i. unlinkT incidenceLinks edges (a i) w) in
+      let y : vertices′ ≡ putEnds v (unlinkE incidenceLinks edges (endsAt vertices v) w) vertices = c ∙ (λ i. putEnds v (b .1 i) vertices) ∙ (λ i. putEnds v (unlinkE incidenceLinks edges (a i) w) vertices) in
       λ i. state h (y i) (x i)
 
-  pub attached : (v p w : ℕ) {e r : Ends} {vt′ et′ : List ℕ} → e ≡ endsAt vt v → (et′ ≡ insertT incidenceLinks et e p w) × (r ≡ insertE incidenceLinks et e p w) → vt′ ≡ putEnds v r vt →
-      state h vt′ et′ ≡ attachS v p w (state h vt et)
+  pub attached : (v p w : ℕ) {e r : Ends} {vertices′ edges′ : List ℕ} → e ≡ endsAt vertices v → (edges′ ≡ insertT incidenceLinks edges e p w) × (r ≡ insertE incidenceLinks edges e p w) → vertices′ ≡ putEnds v r vertices →
+      state h vertices′ edges′ ≡ attachS v p w (state h vertices edges)
   unfolding attachS
-  attached v p w {vt′ = vt′} {et′ = et′} a b c =
-      let x : et′ ≡ insertT incidenceLinks et (endsAt vt v) p w = b .0 ∙ (λ i. insertT incidenceLinks et (a i) p w) in
-      let y : vt′ ≡ putEnds v (insertE incidenceLinks et (endsAt vt v) p w) vt = c ∙ (λ i. putEnds v (b .1 i) vt) ∙ (λ i. putEnds v (insertE incidenceLinks et (a i) p w) vt) in
+  attached v p w {vertices′ = vertices′} {edges′ = edges′} a b c =
+      let x : edges′ ≡ insertT incidenceLinks edges (endsAt vertices v) p w = b .0 ∙ (λ i. insertT incidenceLinks edges (a i) p w) in
+      let y : vertices′ ≡ putEnds v (insertE incidenceLinks edges (endsAt vertices v) p w) vertices = c ∙ (λ i. putEnds v (b .1 i) vertices) ∙ (λ i. putEnds v (insertE incidenceLinks edges (a i) p w) vertices) in
       λ i. state h (y i) (x i)
 
-  pub vertex-moved : (n p : ℕ) {vt′ : List ℕ} {e : Ends} → (vt′ ≡ moveT vertexLinks n p vt (vertexListEnds h)) × (e ≡ moveE vertexLinks n p vt (vertexListEnds h)) → state (withVertexEnds e h) vt′ et ≡ moveVertexS n p (state h vt et)
+  pub vertex-moved : (n p : ℕ) {vertices′ : List ℕ} {e : Ends} → (vertices′ ≡ moveT vertexLinks n p vertices (vertexListEnds h)) × (e ≡ moveE vertexLinks n p vertices (vertexListEnds h)) → state (withVertexEnds e h) vertices′ edges ≡ moveVertexS n p (state h vertices edges)
   unfolding moveVertexS
-  vertex-moved n p a = λ i. state (withVertexEnds (a .1 i) h) (a .0 i) et
+  vertex-moved n p a = λ i. state (withVertexEnds (a .1 i) h) (a .0 i) edges
 
-  pub edge-moved : (n p : ℕ) {et′ : List ℕ} {e : Ends} → (et′ ≡ moveT edgeLinks n p et (edgeListEnds h)) × (e ≡ moveE edgeLinks n p et (edgeListEnds h)) → state (withEdgeEnds e h) vt et′ ≡ moveEdgeS n p (state h vt et)
+  pub edge-moved : (n p : ℕ) {edges′ : List ℕ} {e : Ends} → (edges′ ≡ moveT edgeLinks n p edges (edgeListEnds h)) × (e ≡ moveE edgeLinks n p edges (edgeListEnds h)) → state (withEdgeEnds e h) vertices edges′ ≡ moveEdgeS n p (state h vertices edges)
   unfolding moveEdgeS
-  edge-moved n p a = λ i. state (withEdgeEnds (a .1 i) h) vt (a .0 i)
+  edge-moved n p a = λ i. state (withEdgeEnds (a .1 i) h) vertices (a .0 i)
 
-  pub vertex-inserted : (n t x p : ℕ) {vt′ vt″ : List ℕ} {e : Ends} →
-      (vt′ ≡ insertT vertexLinks vt (vertexListEnds h) p n) × (e ≡ insertE vertexLinks vt (vertexListEnds h) p n) → vt″ ≡ rowVT n 1 t x vt′ →
-      state (countV (h .vertices + 1) (withVertexEnds e h)) vt″ et ≡ insertVertexS n t x p (state h vt et)
+  pub vertex-inserted : (n t x p : ℕ) {vertices′ vertices″ : List ℕ} {e : Ends} →
+      (vertices′ ≡ insertT vertexLinks vertices (vertexListEnds h) p n) × (e ≡ insertE vertexLinks vertices (vertexListEnds h) p n) → vertices″ ≡ rowVT n 1 t x vertices′ →
+      state (countV (h .vertices + 1) (withVertexEnds e h)) vertices″ edges ≡ insertVertexS n t x p (state h vertices edges)
   unfolding insertVertexS
-  vertex-inserted n t x p {vt″ = vt″} a b =
-      let y : vt″ ≡ rowVT n 1 t x (insertT vertexLinks vt (vertexListEnds h) p n) = b ∙ (λ i. rowVT n 1 t x (a .0 i)) in
-      λ i. state (countV (h .vertices + 1) (withVertexEnds (a .1 i) h)) (y i) et
+  vertex-inserted n t x p {vertices″ = vertices″} a b =
+      let y : vertices″ ≡ rowVT n 1 t x (insertT vertexLinks vertices (vertexListEnds h) p n) = b ∙ (λ i. rowVT n 1 t x (a .0 i)) in
+      λ i. state (countV (h .vertices + 1) (withVertexEnds (a .1 i) h)) (y i) edges
 
-  pub vertex-removed : (n : ℕ) {vt′ vt″ : List ℕ} {e : Ends} →
-      (vt′ ≡ unlinkT vertexLinks vt (vertexListEnds h) n) × (e ≡ unlinkE vertexLinks vt (vertexListEnds h) n) → vt″ ≡ rowVT n 0 0 0 vt′ →
-      state (countV (h .vertices - 1) (withVertexEnds e h)) vt″ et ≡ removeVertexS n (state h vt et)
+  pub vertex-removed : (n : ℕ) {vertices′ vertices″ : List ℕ} {e : Ends} →
+      (vertices′ ≡ unlinkT vertexLinks vertices (vertexListEnds h) n) × (e ≡ unlinkE vertexLinks vertices (vertexListEnds h) n) → vertices″ ≡ rowVT n 0 0 0 vertices′ →
+      state (countV (h .vertices - 1) (withVertexEnds e h)) vertices″ edges ≡ removeVertexS n (state h vertices edges)
   unfolding removeVertexS
-  vertex-removed n {vt″ = vt″} a b =
-      let y : vt″ ≡ rowVT n 0 0 0 (unlinkT vertexLinks vt (vertexListEnds h) n) = b ∙ (λ i. rowVT n 0 0 0 (a .0 i)) in
-      λ i. state (countV (h .vertices - 1) (withVertexEnds (a .1 i) h)) (y i) et
+  vertex-removed n {vertices″ = vertices″} a b =
+      let y : vertices″ ≡ rowVT n 0 0 0 (unlinkT vertexLinks vertices (vertexListEnds h) n) = b ∙ (λ i. rowVT n 0 0 0 (a .0 i)) in
+      λ i. state (countV (h .vertices - 1) (withVertexEnds (a .1 i) h)) (y i) edges
 
   pub edge-placed : (n a z t : ℕ) (r : Reading) (p : ℕ) {t₁ t₂ t₃ : List ℕ} {e : Ends} →
-      (t₁ ≡ insertT edgeLinks et (edgeListEnds h) p n) × (e ≡ insertE edgeLinks et (edgeListEnds h) p n) → t₂ ≡ rowET n 1 t r t₁ → t₃ ≡ thisET n a z t₂ →
-      state (countE (h .edges + 1) (withEdgeEnds e h)) vt t₃ ≡ placeEdgeS n a z t r p (state h vt et)
+      (t₁ ≡ insertT edgeLinks edges (edgeListEnds h) p n) × (e ≡ insertE edgeLinks edges (edgeListEnds h) p n) → t₂ ≡ rowET n 1 t r t₁ → t₃ ≡ thisET n a z t₂ →
+      state (countE (h .edges + 1) (withEdgeEnds e h)) vertices t₃ ≡ placeEdgeS n a z t r p (state h vertices edges)
   unfolding placeEdgeS
   edge-placed n a z t r p {t₃ = t₃} b c d =
-      let y : t₃ ≡ thisET n a z (rowET n 1 t r (insertT edgeLinks et (edgeListEnds h) p n)) = d ∙ (λ i. thisET n a z (c i)) ∙ (λ i. thisET n a z (rowET n 1 t r (b .0 i))) in
-      λ i. state (countE (h .edges + 1) (withEdgeEnds (b .1 i) h)) vt (y i)
+      let y : t₃ ≡ thisET n a z (rowET n 1 t r (insertT edgeLinks edges (edgeListEnds h) p n)) = d ∙ (λ i. thisET n a z (c i)) ∙ (λ i. thisET n a z (rowET n 1 t r (b .0 i))) in
+      λ i. state (countE (h .edges + 1) (withEdgeEnds (b .1 i) h)) vertices (y i)
 
   pub edge-dropped : (n : ℕ) {t₁ t₂ t₃ : List ℕ} {e : Ends} →
-      (t₁ ≡ unlinkT edgeLinks et (edgeListEnds h) n) × (e ≡ unlinkE edgeLinks et (edgeListEnds h) n) → t₂ ≡ rowET n 0 0 Untested t₁ → t₃ ≡ thisET n 0 0 t₂ →
-      state (countE (h .edges - 1) (withEdgeEnds e h)) vt t₃ ≡ dropEdgeS n (state h vt et)
+      (t₁ ≡ unlinkT edgeLinks edges (edgeListEnds h) n) × (e ≡ unlinkE edgeLinks edges (edgeListEnds h) n) → t₂ ≡ rowET n 0 0 Untested t₁ → t₃ ≡ thisET n 0 0 t₂ →
+      state (countE (h .edges - 1) (withEdgeEnds e h)) vertices t₃ ≡ dropEdgeS n (state h vertices edges)
   unfolding dropEdgeS
   edge-dropped n {t₃ = t₃} b c d =
-      let y : t₃ ≡ thisET n 0 0 (rowET n 0 0 Untested (unlinkT edgeLinks et (edgeListEnds h) n)) = d ∙ (λ i. thisET n 0 0 (c i)) ∙ (λ i. thisET n 0 0 (rowET n 0 0 Untested (b .0 i))) in
-      λ i. state (countE (h .edges - 1) (withEdgeEnds (b .1 i) h)) vt (y i)
+      let y : t₃ ≡ thisET n 0 0 (rowET n 0 0 Untested (unlinkT edgeLinks edges (edgeListEnds h) n)) = d ∙ (λ i. thisET n 0 0 (c i)) ∙ (λ i. thisET n 0 0 (rowET n 0 0 Untested (b .0 i))) in
+      λ i. state (countE (h .edges - 1) (withEdgeEnds (b .1 i) h)) vertices (y i)
 
 -- the words of a reading
-pub edge-row-by : (e live t : ℕ) (r : Reading) (et : List ℕ) {k d : ℕ} → k ≡ readingKind r → d ≡ decimetres r →
-    set (set (set (set et (edgePlace 3 e) live) (edgePlace 4 e) t) (edgePlace 5 e) k) (edgePlace 9 e) d ≡ rowET e live t r et
+pub edge-row-by : (e live t : ℕ) (r : Reading) (edges : List ℕ) {k d : ℕ} → k ≡ readingKind r → d ≡ decimetres r →
+    set (set (set (set edges (edgePlace 3 e) live) (edgePlace 4 e) t) (edgePlace 5 e) k) (edgePlace 9 e) d ≡ rowET e live t r edges
 unfolding rowET
-edge-row-by e live t r et p q = λ i. set (set (set (set et (edgePlace 3 e) live) (edgePlace 4 e) t) (edgePlace 5 e) (p i)) (edgePlace 9 e) (q i)
+edge-row-by e live t r edges p q = λ i. set (set (set (set edges (edgePlace 3 e) live) (edgePlace 4 e) t) (edgePlace 5 e) (p i)) (edgePlace 9 e) (q i)

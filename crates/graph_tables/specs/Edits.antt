@@ -57,22 +57,22 @@ Can (InsertVertex n t v p) s = CanInsertVertex n p s
 Can (RemoveVertex n t v p) s = CanRemoveVertex n s
 Can (InsertEdge n a z t r p o i) s = (n < 2 ^ 31) × CanInsertEdge n a z t r p o i s
 Can (RemoveEdge n a z t r p o i) s = (n < 2 ^ 31) × CanRemoveEdge n a z s
-Can (SetVertex n t v t′ v′) s = VertexRowIn (s .vt) n
-Can (SetEdge n t r t′ r′) s = EdgeRowIn (s .et) n
-Can (MoveVertex n old new) s = CanMove vertexLinks n new (s .vt) (vertexListEnds (s .head))
-Can (MoveEdge n old new) s = CanMove edgeLinks n new (s .et) (edgeListEnds (s .head))
+Can (SetVertex n t v t′ v′) s = VertexRowIn (s .vertices) n
+Can (SetEdge n t r t′ r′) s = EdgeRowIn (s .edges) n
+Can (MoveVertex n old new) s = CanMove vertexLinks n new (s .vertices) (vertexListEnds (s .head))
+Can (MoveEdge n old new) s = CanMove edgeLinks n new (s .edges) (edgeListEnds (s .head))
 Can (MoveWord w v old u new) s = CanMoveWord w v u new s
 
 -- under 2 ^ 31 words, so that both words of an edge with a row have 32 bits
 pub record Small (s : State) : Type 0 where
-  pub vt : length (s .vt) < 2 ^ 31
-  pub et : length (s .et) < 2 ^ 31
+  pub vertices : length (s .vertices) < 2 ^ 31
+  pub edges : length (s .edges) < 2 ^ 31
 
 -- a number that is put in has a row
 abbrev pub Room : Edit → State → Type 0
-Room (InsertVertex n t v p) s = VertexRowIn (s .vt) n
+Room (InsertVertex n t v p) s = VertexRowIn (s .vertices) n
 Room (RemoveVertex n t v p) s = Unit {0}
-Room (InsertEdge n a z t r p o i) s = EdgeRowIn (s .et) n
+Room (InsertEdge n a z t r p o i) s = EdgeRowIn (s .edges) n
 Room (RemoveEdge n a z t r p o i) s = Unit {0}
 Room (SetVertex n t v t′ v′) s = Unit {0}
 Room (SetEdge n t r t′ r′) s = Unit {0}

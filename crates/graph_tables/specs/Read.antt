@@ -21,25 +21,25 @@ use Rattle.graph_tables.specs.Tables.{
 abbrev pub vertexAt : State → ℕ → Vertex
 vertexAt s v = record {
   number = v;
-  type = vtype (s .vt) v;
-  value = vvalue (s .vt) v;
-  incidences = nodes incidenceLinks (s .et)
-      (endsAt (s .vt) v);
+  type = vtype (s .vertices) v;
+  value = vvalue (s .vertices) v;
+  incidences = nodes incidenceLinks (s .edges)
+      (endsAt (s .vertices) v);
 }
 
 abbrev pub edgeAt : State → ℕ → Edge
 edgeAt s e = record {
   number = e;
-  alpha = wthis (s .et) (2 * e);
-  omega = wthis (s .et) (2 * e + 1);
+  alpha = wthis (s .edges) (2 * e);
+  omega = wthis (s .edges) (2 * e + 1);
   type = etype
-      (s .et) e;
-  reading = readingAt (s .et) e;
+      (s .edges) e;
+  reading = readingAt (s .edges) e;
 }
 
 unfoldable pub graphOf : State → Graph
 graphOf s = record {
-  vseq = map (vertexAt s) (nodes vertexLinks (s .vt) (vertexListEnds (s .head)));
+  vseq = map (vertexAt s) (nodes vertexLinks (s .vertices) (vertexListEnds (s .head)));
   eseq = map (edgeAt s)
-      (nodes edgeLinks (s .et) (edgeListEnds (s .head)));
+      (nodes edgeLinks (s .edges) (edgeListEnds (s .head)));
 }

@@ -3,6 +3,8 @@ use Prim.Native.Nat.{ℕ, _+_, _-_, _*_, _^_, _≤_, _<_}
 use mathlib.Core.Path.{_≡_}
 use mathlib.Core.List.{List}
 use lib.ListN.{length, getD, set, replicate}
+use denote.Ref.{now}
+use Rattle.lists.specs.Slices.{Slice}
 use Rattle.linked_lists.specs.declared.LinkLayout.{LinkLayout}
 use Rattle.linked_lists.specs.declared.Ends.{Ends}
 use Rattle.linked_lists.specs.Links.{unlinkT, unlinkE, insertT, insertE, CanUnlink, CanInsert}
@@ -39,59 +41,66 @@ halfPlace f w = 6 * w - 12 + f
 
 -- the words by name
 abbrev pub vtype : List ℕ → ℕ → ℕ
-vtype vt v = getD vt (vertexPlace 1 v) 0
+vtype vertices v = getD vertices (vertexPlace 1 v) 0
 
 abbrev pub vvalue : List ℕ → ℕ → ℕ
-vvalue vt v = getD vt (vertexPlace 2 v) 0
+vvalue vertices v = getD vertices (vertexPlace 2 v) 0
 
 abbrev pub vfirst : List ℕ → ℕ → ℕ
-vfirst vt v = getD vt (vertexPlace 3 v) 0
+vfirst vertices v = getD vertices (vertexPlace 3 v) 0
 
 abbrev pub vlast : List ℕ → ℕ → ℕ
-vlast vt v = getD vt (vertexPlace 4 v) 0
+vlast vertices v = getD vertices (vertexPlace 4 v) 0
 
 abbrev pub vprev : List ℕ → ℕ → ℕ
-vprev vt v = getD vt (vertexPlace 6 v) 0
+vprev vertices v = getD vertices (vertexPlace 6 v) 0
 
 abbrev pub vnext : List ℕ → ℕ → ℕ
-vnext vt v = getD vt (vertexPlace 7 v) 0
+vnext vertices v = getD vertices (vertexPlace 7 v) 0
 
 abbrev pub etype : List ℕ → ℕ → ℕ
-etype et e = getD et (edgePlace 4 e) 0
+etype edges e = getD edges (edgePlace 4 e) 0
 
 abbrev pub ekind : List ℕ → ℕ → ℕ
-ekind et e = getD et (edgePlace 5 e) 0
+ekind edges e = getD edges (edgePlace 5 e) 0
 
 abbrev pub edecimetres : List ℕ → ℕ → ℕ
-edecimetres et e = getD et (edgePlace 9 e) 0
+edecimetres edges e = getD edges (edgePlace 9 e) 0
 
 abbrev pub eprev : List ℕ → ℕ → ℕ
-eprev et e = getD et (edgePlace 10 e) 0
+eprev edges e = getD edges (edgePlace 10 e) 0
 
 abbrev pub enext : List ℕ → ℕ → ℕ
-enext et e = getD et (edgePlace 11 e) 0
+enext edges e = getD edges (edgePlace 11 e) 0
 
 abbrev pub wprev : List ℕ → ℕ → ℕ
-wprev et w = getD et (halfPlace 0 w) 0
+wprev edges w = getD edges (halfPlace 0 w) 0
 
 abbrev pub wnext : List ℕ → ℕ → ℕ
-wnext et w = getD et (halfPlace 1 w) 0
+wnext edges w = getD edges (halfPlace 1 w) 0
 
 abbrev pub wthis : List ℕ → ℕ → ℕ
-wthis et w = getD et (halfPlace 2 w) 0
+wthis edges w = getD edges (halfPlace 2 w) 0
 
 -- the reading of edge e
 abbrev pub readingAt : List ℕ → ℕ → Reading
-readingAt et e = readingOf (ekind et e) (edecimetres et e)
+readingAt edges e = readingOf (ekind edges e) (edecimetres edges e)
 
 -- the head and the two tables
 pub record State : Type 0 where
   pub head : Head
-  pub vt : List ℕ
-  pub et : List ℕ
+  pub vertices : List ℕ
+  pub edges : List ℕ
 
 abbrev pub state : Head → List ℕ → List ℕ → State
-state h vt et = record { head = h; vt = vt; et = et }
+state h vertices edges = record { head = h; vertices = vertices; edges = edges }
+
+-- the lent tables with a head, as a function begins and as it ends
+abbrev pub entryState : Head → Slice → Slice → State
+entryState head vertices edges = state head (now (vertices .entry)) (now (edges .entry))
+
+abbrev pub exitState : Head → Slice → Slice → State
+exitState head vertices edges = state head (now (vertices .exit)) (now (edges .exit))
 
 abbrev pub vertexListEnds : Head → Ends
 vertexListEnds h = record { first = h .vfirst; last = h .vlast }
@@ -121,20 +130,20 @@ withEdgeEnds e h = record {
 
 -- vertex v's row is in the table; edge e's
 abbrev pub VertexRowIn : List ℕ → ℕ → Type 0
-VertexRowIn vt v = (1 ≤ v) × (8 * v ≤ length vt)
+VertexRowIn vertices v = (1 ≤ v) × (8 * v ≤ length vertices)
 
 abbrev pub EdgeRowIn : List ℕ → ℕ → Type 0
-EdgeRowIn et e = (1 ≤ e) × (12 * e ≤ length et)
+EdgeRowIn edges e = (1 ≤ e) × (12 * e ≤ length edges)
 
 abbrev pub HalfRowIn : List ℕ → ℕ → Type 0
-HalfRowIn et w = (2 ≤ w) × (6 * w ≤ length et + 6)
+HalfRowIn edges w = (2 ≤ w) × (6 * w ≤ length edges + 6)
 
 -- the ends of v's incidence list
 abbrev pub endsAt : List ℕ → ℕ → Ends
-endsAt vt v = record { first = getD vt (vertexPlace 3 v) 0; last = getD vt (vertexPlace 4 v) 0 }
+endsAt vertices v = record { first = getD vertices (vertexPlace 3 v) 0; last = getD vertices (vertexPlace 4 v) 0 }
 
 unfoldable pub putEnds : ℕ → Ends → List ℕ → List ℕ
-putEnds v e vt = set (set vt (vertexPlace 3 v) (e .first)) (vertexPlace 4 v) (e .last)
+putEnds v e vertices = set (set vertices (vertexPlace 3 v) (e .first)) (vertexPlace 4 v) (e .last)
 
 -- ---- nothing held
 
@@ -143,7 +152,7 @@ noHead = record { vfirst = 0; vlast = 0; efirst = 0; elast = 0; vertices = 0; ed
 
 -- tables of as many words, all 0
 unfoldable pub cleared : List ℕ → List ℕ → State
-cleared vt et = state noHead (replicate (length vt) 0) (replicate (length et) 0)
+cleared vertices edges = state noHead (replicate (length vertices) 0) (replicate (length edges) 0)
 
 -- ---- the steps
 
@@ -159,51 +168,53 @@ pub record CanMove (layout : LinkLayout) (n p : ℕ) (t : List ℕ) (e : Ends) :
   pub back : CanInsert layout (unlinkT layout t e n) (unlinkE layout t e n) p n
 
 unfoldable pub moveVertexS : ℕ → ℕ → State → State
-moveVertexS n p s = state (withVertexEnds (moveE vertexLinks n p (s .vt) (vertexListEnds (s .head))) (s .head))
-    (moveT vertexLinks n p (s .vt) (vertexListEnds (s .head))) (s .et)
+moveVertexS n p s = state (withVertexEnds (moveE vertexLinks n p (s .vertices) (vertexListEnds (s .head))) (s .head))
+    (moveT vertexLinks n p (s .vertices) (vertexListEnds (s .head))) (s .edges)
 
 -- word w out of v's list, and into it after p
 unfoldable pub detachS : ℕ → ℕ → State → State
-detachS v w s = state (s .head) (putEnds v (unlinkE incidenceLinks (s .et) (endsAt (s .vt) v) w) (s .vt))
-    (unlinkT incidenceLinks (s .et) (endsAt (s .vt) v) w)
+detachS v w s = state (s .head) (putEnds v (unlinkE incidenceLinks (s .edges) (endsAt (s .vertices) v) w) (s .vertices))
+    (unlinkT incidenceLinks (s .edges) (endsAt (s .vertices) v) w)
 
 pub record CanDetach (v w : ℕ) (s : State) : Type 0 where
-  pub row : VertexRowIn (s .vt) v
-  pub out : CanUnlink incidenceLinks (s .et) (endsAt (s .vt) v) w
+  pub row : VertexRowIn (s .vertices) v
+  pub out : CanUnlink incidenceLinks (s .edges) (endsAt (s .vertices) v) w
 
 unfoldable pub attachS : ℕ → ℕ → ℕ → State → State
-attachS v p w s = state (s .head) (putEnds v (insertE incidenceLinks (s .et) (endsAt (s .vt) v) p w) (s .vt))
-    (insertT incidenceLinks (s .et) (endsAt (s .vt) v) p w)
+attachS v p w s = state (s .head) (putEnds v (insertE incidenceLinks (s .edges) (endsAt (s .vertices) v) p w)
+    (s .vertices))
+    (insertT incidenceLinks (s .edges) (endsAt (s .vertices) v) p w)
 
 pub record CanAttach (v p w : ℕ) (s : State) : Type 0 where
-  pub row : VertexRowIn (s .vt) v
-  pub back : CanInsert incidenceLinks (s .et) (endsAt (s .vt) v) p w
+  pub row : VertexRowIn (s .vertices) v
+  pub back : CanInsert incidenceLinks (s .edges) (endsAt (s .vertices) v) p w
 
 -- this of w
 unfoldable pub setThisS : ℕ → ℕ → State → State
-setThisS w u s = state (s .head) (s .vt) (set (s .et) (halfPlace 2 w) u)
+setThisS w u s = state (s .head) (s .vertices) (set (s .edges) (halfPlace 2 w) u)
 
 unfoldable pub moveWordS : ℕ → ℕ → ℕ → ℕ → State → State
 moveWordS w v u p s = setThisS w u (attachS u p w (detachS v w s))
 
 pub record CanMoveWord (w v u p : ℕ) (s : State) : Type 0 where
-  pub here : HalfRowIn (s .et) w
-  pub this : getD (s .et) (halfPlace 2 w) 0 ≡ v
+  pub here : HalfRowIn (s .edges) w
+  pub this : getD (s .edges) (halfPlace 2 w) 0 ≡ v
   pub out : CanDetach v w s
   pub back : CanAttach u p w (detachS v w s)
 
 -- ---- rows
 
 unfoldable pub rowVT : ℕ → ℕ → ℕ → ℕ → List ℕ → List ℕ
-rowVT v live t x vt = set (set (set vt (vertexPlace 0 v) live) (vertexPlace 1 v) t) (vertexPlace 2 v) x
+rowVT v live t x vertices = set (set (set vertices (vertexPlace 0 v) live) (vertexPlace 1 v) t) (vertexPlace 2 v) x
 
 unfoldable pub rowET : ℕ → ℕ → ℕ → Reading → List ℕ → List ℕ
-rowET e live t r et = set (set (set (set et (edgePlace 3 e) live) (edgePlace 4 e) t) (edgePlace 5 e) (readingKind r))
+rowET e live t r edges = set (set (set (set edges (edgePlace 3 e) live) (edgePlace 4 e) t) (edgePlace 5 e)
+    (readingKind r))
     (edgePlace 9 e)
     (decimetres r)
 
 unfoldable pub thisET : ℕ → ℕ → ℕ → List ℕ → List ℕ
-thisET e a z et = set (set et (halfPlace 2 (2 * e)) a) (halfPlace 2 (2 * e + 1)) z
+thisET e a z edges = set (set edges (halfPlace 2 (2 * e)) a) (halfPlace 2 (2 * e + 1)) z
 
 abbrev pub countV : ℕ → Head → Head
 countV n h = record {
@@ -228,61 +239,62 @@ countE n h = record {
 -- ---- vertices
 
 unfoldable pub setVertexS : ℕ → ℕ → ℕ → State → State
-setVertexS v t x s = state (s .head) (rowVT v 1 t x (s .vt)) (s .et)
+setVertexS v t x s = state (s .head) (rowVT v 1 t x (s .vertices)) (s .edges)
 
 unfoldable pub insertVertexS : ℕ → ℕ → ℕ → ℕ → State → State
 insertVertexS n t x p s =
-    state (countV (s .head .vertices + 1) (withVertexEnds (insertE vertexLinks (s .vt) (vertexListEnds
+    state (countV (s .head .vertices + 1) (withVertexEnds (insertE vertexLinks (s .vertices) (vertexListEnds
     (s .head)) p n) (s .head)))
-    (rowVT n 1 t x (insertT vertexLinks (s .vt) (vertexListEnds (s .head)) p n)) (s .et)
+    (rowVT n 1 t x (insertT vertexLinks (s .vertices) (vertexListEnds (s .head)) p n)) (s .edges)
 
 pub record CanInsertVertex (n p : ℕ) (s : State) : Type 0 where
-  pub row : VertexRowIn (s .vt) n
+  pub row : VertexRowIn (s .vertices) n
   pub room : s .head .vertices + 1 < 2 ^ 32
-  pub back : CanInsert vertexLinks (s .vt) (vertexListEnds (s .head)) p n
+  pub back : CanInsert vertexLinks (s .vertices) (vertexListEnds (s .head)) p n
 
 unfoldable pub removeVertexS : ℕ → State → State
 removeVertexS n s =
-    state (countV (s .head .vertices - 1) (withVertexEnds (unlinkE vertexLinks (s .vt) (vertexListEnds (s .head)) n)
+    state (countV (s .head .vertices - 1) (withVertexEnds
+    (unlinkE vertexLinks (s .vertices) (vertexListEnds (s .head)) n)
     (s .head)))
-    (rowVT n 0 0 0 (unlinkT vertexLinks (s .vt) (vertexListEnds (s .head)) n)) (s .et)
+    (rowVT n 0 0 0 (unlinkT vertexLinks (s .vertices) (vertexListEnds (s .head)) n)) (s .edges)
 
 pub record CanRemoveVertex (n : ℕ) (s : State) : Type 0 where
-  pub row : VertexRowIn (s .vt) n
+  pub row : VertexRowIn (s .vertices) n
   pub some : 1 ≤ s .head .vertices
-  pub out : CanUnlink vertexLinks (s .vt) (vertexListEnds (s .head)) n
+  pub out : CanUnlink vertexLinks (s .vertices) (vertexListEnds (s .head)) n
 
 -- ---- edges
 
 unfoldable pub setEdgeS : ℕ → ℕ → Reading → State → State
-setEdgeS e t r s = state (s .head) (s .vt) (rowET e 1 t r (s .et))
+setEdgeS e t r s = state (s .head) (s .vertices) (rowET e 1 t r (s .edges))
 
 unfoldable pub moveEdgeS : ℕ → ℕ → State → State
-moveEdgeS n p s = state (withEdgeEnds (moveE edgeLinks n p (s .et) (edgeListEnds (s .head))) (s .head)) (s .vt)
-    (moveT edgeLinks n p (s .et) (edgeListEnds (s .head)))
+moveEdgeS n p s = state (withEdgeEnds (moveE edgeLinks n p (s .edges) (edgeListEnds (s .head))) (s .head)) (s .vertices)
+    (moveT edgeLinks n p (s .edges) (edgeListEnds (s .head)))
 
 -- an edge's row and its place in eseq, without its words in the lists
 unfoldable pub placeEdgeS : ℕ → ℕ → ℕ → ℕ → Reading → ℕ → State → State
 placeEdgeS n a z t r p s =
-    state (countE (s .head .edges + 1) (withEdgeEnds (insertE edgeLinks (s .et) (edgeListEnds (s .head)) p n)
-    (s .head))) (s .vt)
-    (thisET n a z (rowET n 1 t r (insertT edgeLinks (s .et) (edgeListEnds (s .head)) p n)))
+    state (countE (s .head .edges + 1) (withEdgeEnds (insertE edgeLinks (s .edges) (edgeListEnds (s .head)) p n)
+    (s .head))) (s .vertices)
+    (thisET n a z (rowET n 1 t r (insertT edgeLinks (s .edges) (edgeListEnds (s .head)) p n)))
 
 pub record CanPlaceEdge (n p : ℕ) (s : State) : Type 0 where
-  pub row : EdgeRowIn (s .et) n
+  pub row : EdgeRowIn (s .edges) n
   pub room : s .head .edges + 1 < 2 ^ 32
-  pub back : CanInsert edgeLinks (s .et) (edgeListEnds (s .head)) p n
+  pub back : CanInsert edgeLinks (s .edges) (edgeListEnds (s .head)) p n
 
 unfoldable pub dropEdgeS : ℕ → State → State
 dropEdgeS n s =
-    state (countE (s .head .edges - 1) (withEdgeEnds (unlinkE edgeLinks (s .et) (edgeListEnds (s .head)) n)
-    (s .head))) (s .vt)
-    (thisET n 0 0 (rowET n 0 0 Untested (unlinkT edgeLinks (s .et) (edgeListEnds (s .head)) n)))
+    state (countE (s .head .edges - 1) (withEdgeEnds (unlinkE edgeLinks (s .edges) (edgeListEnds (s .head)) n)
+    (s .head))) (s .vertices)
+    (thisET n 0 0 (rowET n 0 0 Untested (unlinkT edgeLinks (s .edges) (edgeListEnds (s .head)) n)))
 
 pub record CanDropEdge (n : ℕ) (s : State) : Type 0 where
-  pub row : EdgeRowIn (s .et) n
+  pub row : EdgeRowIn (s .edges) n
   pub some : 1 ≤ s .head .edges
-  pub out : CanUnlink edgeLinks (s .et) (edgeListEnds (s .head)) n
+  pub out : CanUnlink edgeLinks (s .edges) (edgeListEnds (s .head)) n
 
 unfoldable pub insertEdgeS : ℕ → ℕ → ℕ → ℕ → Reading → ℕ → ℕ → ℕ → State → State
 insertEdgeS n a z t r p o i s = attachS z i (2 * n + 1) (attachS a o (2 * n) (placeEdgeS n a z t r p s))
@@ -302,13 +314,16 @@ pub record CanRemoveEdge (n a z : ℕ) (s : State) : Type 0 where
 
 -- ---- look-ups
 
-unfoldable pub foundV : List ℕ → ℕ → Lookup
-foundV vt v = (v == 0) ⇒ Missing else ltb (length vt) (8 * v) ⇒ Missing else
-    (getD vt (vertexPlace 0 v) 0 == 0) ⇒ Missing else Found (8 * v - 8)
+-- where the row of n starts, of rows of so many words; word `live` of a row that is not used is 0
+unfoldable pub foundRow : (size live : ℕ) → List ℕ → ℕ → Lookup
+foundRow size live table n = (n == 0) ⇒ Missing else ltb (length table) (size * n) ⇒ Missing else
+    (getD table (size * n - size + live) 0 == 0) ⇒ Missing else Found (size * n - size)
 
-unfoldable pub foundE : List ℕ → ℕ → Lookup
-foundE et e = (e == 0) ⇒ Missing else ltb (length et) (12 * e) ⇒ Missing else
-    (getD et (edgePlace 3 e) 0 == 0) ⇒ Missing else Found (12 * e - 12)
+abbrev pub foundV : List ℕ → ℕ → Lookup
+foundV vertices v = foundRow 8 0 vertices v
+
+abbrev pub foundE : List ℕ → ℕ → Lookup
+foundE edges e = foundRow 12 3 edges e
 
 -- the code of a look-up that fails: REFERENCE 7.4
 abbrev pub vertexCode : Lookup → ℕ

@@ -2,24 +2,24 @@
 use crate::Head;
 ghost use mathlib.Core.Path.{_≡_};
 ghost use lib.ListN.{length, replicate};
-ghost use Rattle.graph_tables.specs.Tables.{state, cleared};
+ghost use Rattle.graph_tables.specs.Tables.{cleared, exitState};
 
-fn zero(t: &mut [u32])
-    ensures { λ _. ⌜ now (t .exit) ≡ replicate (length (now (t .entry))) 0 ⌝ }
+fn zero(table: &mut [u32])
+    ensures { λ _. ⌜ now (table .exit) ≡ replicate (length (now (table .entry))) 0 ⌝ }
 {
     let mut i = 0;
-    while i < t.len() {
-        t[i] = 0;
+    while i < table.len() {
+        table[i] = 0;
         i += 1;
     }
 }
 
 // Makes the empty graph, whatever words the tables come with.
-pub fn clear(vt: &mut [u32], et: &mut [u32]) -> Head
-    ensures { λ r. ⌜ state r (now (vt .exit)) (now (et .exit)) ≡ cleared (now (vt .entry)) (now (et .entry)) ⌝ }
+pub fn clear(vertices: &mut [u32], edges: &mut [u32]) -> Head
+    ensures { λ r. ⌜ exitState r vertices edges ≡ cleared (now (vertices .entry)) (now (edges .entry)) ⌝ }
 {
-    zero(vt);
-    zero(et);
+    zero(vertices);
+    zero(edges);
     Head {
         vfirst: 0,
         vlast: 0,

@@ -13,28 +13,44 @@ use linked_lists::Ends;
 use linked_lists::LinkLayout;
 ghost use mathlib.Core.Path.{_≡_};
 ghost use Prim.Native.Nat.{_^_, _<_};
-ghost use Rattle.graph_tables.specs.Tables.{state, edgeListEnds, edgeLinks, EdgeRowIn, CanMove, setEdgeS};
+ghost use Rattle.graph_tables.specs.Tables.{
+  state,
+  edgeListEnds,
+  edgeLinks,
+  EdgeRowIn,
+  CanMove,
+  setEdgeS,
+  entryState,
+  exitState,
+};
 ghost use Rattle.graph_tables.specs.Tables.{moveEdgeS, placeEdgeS};
 ghost use Rattle.graph_tables.specs.Tables.{CanPlaceEdge, dropEdgeS, CanDropEdge, insertEdgeS, CanInsertEdge};
 ghost use Rattle.graph_tables.specs.Tables.{removeEdgeS, CanRemoveEdge};
 
 // Sets type and reading of e.
-pub fn set_edge(head: Head, vt: &[u32], et: &mut [u32], e: u32, sort: u32, r: Reading)
-    requires { ⌜ EdgeRowIn (now et) e ⌝ }
-    ensures { λ _. ⌜ state head (now (vt .entry)) (now (et .exit)) ≡ setEdgeS e sort r
-        (state head (now (vt .entry)) (now (et .entry))) ⌝ }
+pub fn set_edge(
+    head: Head,
+    vertices: &[u32],
+    edges: &mut [u32],
+    e: u32,
+    sort: u32,
+    reading: Reading,
+)
+    requires { ⌜ EdgeRowIn (now edges) e ⌝ }
+    ensures { λ _. ⌜ state head (now (vertices .entry)) (now (edges .exit)) ≡ setEdgeS e sort reading
+        (entryState head vertices edges) ⌝ }
 {
-    put_edge(et, e, 1, sort, r);
+    put_edge(edges, e, 1, sort, reading);
 }
 
 // Puts edge n after p in Eseq.
-pub fn move_edge(head: Head, vt: &[u32], et: &mut [u32], n: u32, p: u32) -> Head
-    requires { ⌜ CanMove edgeLinks n p (now et) (edgeListEnds head) ⌝ }
-    ensures { λ r. ⌜ state r (now (vt .entry)) (now (et .exit)) ≡ moveEdgeS n p
-        (state head (now (vt .entry)) (now (et .entry))) ⌝ }
+pub fn move_edge(head: Head, vertices: &[u32], edges: &mut [u32], n: u32, p: u32) -> Head
+    requires { ⌜ CanMove edgeLinks n p (now edges) (edgeListEnds head) ⌝ }
+    ensures { λ r. ⌜ state r (now (vertices .entry)) (now (edges .exit)) ≡ moveEdgeS n p
+        (entryState head vertices edges) ⌝ }
 {
     let e = relink(
-        et,
+        edges,
         LinkLayout {
             stride: 12,
             offset: 2,
@@ -57,14 +73,15 @@ pub fn move_edge(head: Head, vt: &[u32], et: &mut [u32], n: u32, p: u32) -> Head
 }
 
 // An edge's row and its place in Eseq, without its words in the lists.
-pub fn place_edge(head: Head, vt: &[u32], et: &mut [u32], x: EdgeRecord, p: u32) -> Head
-    requires { ⌜ CanPlaceEdge (x .number) p (state head (now vt) (now et)) ⌝ }
-    ensures { λ r. ⌜ state r (now (vt .entry)) (now (et .exit)) ≡ placeEdgeS (x .number) (x .alpha) (x .omega) (x .sort)
-        (x .reading) p (state head (now (vt .entry)) (now (et .entry))) ⌝ }
+pub fn place_edge(head: Head, vertices: &[u32], edges: &mut [u32], edge: EdgeRecord, p: u32) -> Head
+    requires { ⌜ CanPlaceEdge (edge .number) p (state head (now vertices) (now edges)) ⌝ }
+    ensures { λ r. ⌜ state r (now (vertices .entry)) (now (edges .exit))
+        ≡ placeEdgeS (edge .number) (edge .alpha) (edge .omega) (edge .sort)
+        (edge .reading) p (entryState head vertices edges) ⌝ }
 {
-    let r = x.reading;
+    let r = edge.reading;
     let e = linked_lists::insert_after(
-        et,
+        edges,
         LinkLayout {
             stride: 12,
             offset: 2,
@@ -74,10 +91,10 @@ pub fn place_edge(head: Head, vt: &[u32], et: &mut [u32], x: EdgeRecord, p: u32)
             last: head.elast,
         },
         p,
-        x.number,
+        edge.number,
     );
-    put_edge(et, x.number, 1, x.sort, r);
-    put_this(et, x.number, x.alpha, x.omega);
+    put_edge(edges, edge.number, 1, edge.sort, r);
+    put_this(edges, edge.number, edge.alpha, edge.omega);
     Head {
         vfirst: head.vfirst,
         vlast: head.vlast,
@@ -88,13 +105,13 @@ pub fn place_edge(head: Head, vt: &[u32], et: &mut [u32], x: EdgeRecord, p: u32)
     }
 }
 
-fn drop_edge(head: Head, vt: &[u32], et: &mut [u32], n: u32) -> Head
-    requires { ⌜ CanDropEdge n (state head (now vt) (now et)) ⌝ }
-    ensures { λ r. ⌜ state r (now (vt .entry)) (now (et .exit)) ≡ dropEdgeS n
-        (state head (now (vt .entry)) (now (et .entry))) ⌝ }
+fn drop_edge(head: Head, vertices: &[u32], edges: &mut [u32], n: u32) -> Head
+    requires { ⌜ CanDropEdge n (state head (now vertices) (now edges)) ⌝ }
+    ensures { λ r. ⌜ state r (now (vertices .entry)) (now (edges .exit)) ≡ dropEdgeS n
+        (entryState head vertices edges) ⌝ }
 {
     let e = linked_lists::unlink(
-        et,
+        edges,
         LinkLayout {
             stride: 12,
             offset: 2,
@@ -105,8 +122,8 @@ fn drop_edge(head: Head, vt: &[u32], et: &mut [u32], n: u32) -> Head
         },
         n,
     );
-    put_edge(et, n, 0, 0, Reading::Untested);
-    put_this(et, n, 0, 0);
+    put_edge(edges, n, 0, 0, Reading::Untested);
+    put_this(edges, n, 0, 0);
     Head {
         vfirst: head.vfirst,
         vlast: head.vlast,
@@ -118,26 +135,38 @@ fn drop_edge(head: Head, vt: &[u32], et: &mut [u32], n: u32) -> Head
 }
 
 // Puts edge x into Eseq and its words into the lists.
-pub fn insert_edge(head: Head, vt: &mut [u32], et: &mut [u32], x: EdgeRecord, at: Places) -> Head
-    requires { ⌜ (x .number < 2 ^ 31)
-        × CanInsertEdge (x .number) (x .alpha) (x .omega) (x .sort) (x .reading) (at .order) (at .out) (at .into)
-        (state head (now vt) (now et)) ⌝ }
-    ensures { λ r. ⌜ state r (now (vt .exit)) (now (et .exit)) ≡ insertEdgeS (x .number) (x .alpha) (x .omega) (x .sort)
-        (x .reading) (at .order) (at .out) (at .into) (state head (now (vt .entry)) (now (et .entry))) ⌝ }
+pub fn insert_edge(
+    head: Head,
+    vertices: &mut [u32],
+    edges: &mut [u32],
+    edge: EdgeRecord,
+    at: Places,
+) -> Head
+    requires { ⌜ (edge .number < 2 ^ 31)
+        × CanInsertEdge (edge .number) (edge .alpha) (edge .omega) (edge .sort) (edge .reading) (at .order) (at .out)
+        (at .into) (state head (now vertices) (now edges)) ⌝ }
+    ensures { λ r. ⌜ exitState r vertices edges ≡ insertEdgeS (edge .number) (edge .alpha) (edge .omega) (edge .sort)
+        (edge .reading) (at .order) (at .out) (at .into) (entryState head vertices edges) ⌝ }
 {
-    let h = place_edge(head, vt, et, x, at.order);
-    attach(h, vt, et, x.alpha, at.out, 2 * x.number);
-    attach(h, vt, et, x.omega, at.into, 2 * x.number + 1);
+    let h = place_edge(head, vertices, edges, edge, at.order);
+    attach(h, vertices, edges, edge.alpha, at.out, 2 * edge.number);
+    attach(h, vertices, edges, edge.omega, at.into, 2 * edge.number + 1);
     h
 }
 
 // Takes edge n, from a to z, out of the lists and out of Eseq.
-pub fn remove_edge(head: Head, vt: &mut [u32], et: &mut [u32], n: u32, a: u32, z: u32) -> Head
-    requires { ⌜ (n < 2 ^ 31) × CanRemoveEdge n a z (state head (now vt) (now et)) ⌝ }
-    ensures { λ r. ⌜ state r (now (vt .exit)) (now (et .exit)) ≡ removeEdgeS n a z
-        (state head (now (vt .entry)) (now (et .entry))) ⌝ }
+pub fn remove_edge(
+    head: Head,
+    vertices: &mut [u32],
+    edges: &mut [u32],
+    n: u32,
+    a: u32,
+    z: u32,
+) -> Head
+    requires { ⌜ (n < 2 ^ 31) × CanRemoveEdge n a z (state head (now vertices) (now edges)) ⌝ }
+    ensures { λ r. ⌜ exitState r vertices edges ≡ removeEdgeS n a z (entryState head vertices edges) ⌝ }
 {
-    detach(head, vt, et, z, 2 * n + 1);
-    detach(head, vt, et, a, 2 * n);
-    drop_edge(head, vt, et, n)
+    detach(head, vertices, edges, z, 2 * n + 1);
+    detach(head, vertices, edges, a, 2 * n);
+    drop_edge(head, vertices, edges, n)
 }

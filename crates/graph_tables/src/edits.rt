@@ -14,23 +14,22 @@ use crate::vertices::remove_vertex;
 use crate::vertices::set_vertex;
 use graph::Edit;
 ghost use mathlib.Core.Path.{_≡_};
-ghost use Rattle.graph_tables.specs.Tables.{state};
+ghost use Rattle.graph_tables.specs.Tables.{state, entryState, exitState};
 ghost use Rattle.graph_tables.specs.Edits.{applyS, Can};
 
 // Carries an edit out.
-pub fn apply_edit(head: Head, vt: &mut [u32], et: &mut [u32], edit: Edit) -> Head
-    requires { ⌜ Can edit (state head (now vt) (now et)) ⌝ }
-    ensures { λ r. ⌜ state r (now (vt .exit)) (now (et .exit)) ≡ applyS edit
-        (state head (now (vt .entry)) (now (et .entry))) ⌝ }
+pub fn apply_edit(head: Head, vertices: &mut [u32], edges: &mut [u32], edit: Edit) -> Head
+    requires { ⌜ Can edit (state head (now vertices) (now edges)) ⌝ }
+    ensures { λ r. ⌜ exitState r vertices edges ≡ applyS edit (entryState head vertices edges) ⌝ }
 {
     match edit {
-        Edit::InsertVertex(n, t, x, p) => insert_vertex(head, vt, et, n, t, x, p),
-        Edit::RemoveVertex(n, _, _, _) => remove_vertex(head, vt, et, n),
+        Edit::InsertVertex(n, t, x, p) => insert_vertex(head, vertices, edges, n, t, x, p),
+        Edit::RemoveVertex(n, _, _, _) => remove_vertex(head, vertices, edges, n),
         Edit::InsertEdge(number, alpha, omega, sort, reading, order, out, into) => {
             insert_edge(
                 head,
-                vt,
-                et,
+                vertices,
+                edges,
                 EdgeRecord {
                     number,
                     alpha,
@@ -41,19 +40,19 @@ pub fn apply_edit(head: Head, vt: &mut [u32], et: &mut [u32], edit: Edit) -> Hea
                 Places { order, out, into },
             )
         }
-        Edit::RemoveEdge(n, a, z, _, _, _, _, _) => remove_edge(head, vt, et, n, a, z),
+        Edit::RemoveEdge(n, a, z, _, _, _, _, _) => remove_edge(head, vertices, edges, n, a, z),
         Edit::SetVertex(n, _, _, t, x) => {
-            set_vertex(head, vt, et, n, t, x);
+            set_vertex(head, vertices, edges, n, t, x);
             head
         }
         Edit::SetEdge(n, _, _, t, r) => {
-            set_edge(head, vt, et, n, t, r);
+            set_edge(head, vertices, edges, n, t, r);
             head
         }
-        Edit::MoveVertex(n, _, p) => move_vertex(head, vt, et, n, p),
-        Edit::MoveEdge(n, _, p) => move_edge(head, vt, et, n, p),
+        Edit::MoveVertex(n, _, p) => move_vertex(head, vertices, edges, n, p),
+        Edit::MoveEdge(n, _, p) => move_edge(head, vertices, edges, n, p),
         Edit::MoveWord(w, v, _, u, p) => {
-            move_word(head, vt, et, w, v, u, p);
+            move_word(head, vertices, edges, w, v, u, p);
             head
         }
     }

@@ -5,19 +5,28 @@ use crate::rows::ends_of;
 use crate::rows::put_ends;
 use linked_lists::LinkLayout;
 ghost use mathlib.Core.Path.{_≡_};
-ghost use Rattle.graph_tables.specs.Tables.{state, HalfRowIn, detachS, CanDetach, attachS, CanAttach, setThisS};
+ghost use Rattle.graph_tables.specs.Tables.{
+  state,
+  HalfRowIn,
+  detachS,
+  CanDetach,
+  attachS,
+  CanAttach,
+  setThisS,
+  entryState,
+  exitState,
+};
 ghost use Rattle.graph_tables.specs.Tables.{moveWordS};
 ghost use Rattle.graph_tables.specs.Tables.{CanMoveWord};
 
 // Takes word w out of v's list.
-pub fn detach(head: Head, vt: &mut [u32], et: &mut [u32], v: u32, w: u32)
-    requires { ⌜ CanDetach v w (state head (now vt) (now et)) ⌝ }
-    ensures { λ _. ⌜ state head (now (vt .exit)) (now (et .exit)) ≡ detachS v w
-        (state head (now (vt .entry)) (now (et .entry))) ⌝ }
+pub fn detach(head: Head, vertices: &mut [u32], edges: &mut [u32], v: u32, w: u32)
+    requires { ⌜ CanDetach v w (state head (now vertices) (now edges)) ⌝ }
+    ensures { λ _. ⌜ exitState head vertices edges ≡ detachS v w (entryState head vertices edges) ⌝ }
 {
-    let e = ends_of(vt, v);
+    let e = ends_of(vertices, v);
     let r = linked_lists::unlink(
-        et,
+        edges,
         LinkLayout {
             stride: 6,
             offset: 12,
@@ -25,18 +34,17 @@ pub fn detach(head: Head, vt: &mut [u32], et: &mut [u32], v: u32, w: u32)
         e,
         w,
     );
-    put_ends(vt, v, r);
+    put_ends(vertices, v, r);
 }
 
 // Puts word w into v's list after p.
-pub fn attach(head: Head, vt: &mut [u32], et: &mut [u32], v: u32, p: u32, w: u32)
-    requires { ⌜ CanAttach v p w (state head (now vt) (now et)) ⌝ }
-    ensures { λ _. ⌜ state head (now (vt .exit)) (now (et .exit)) ≡ attachS v p w
-        (state head (now (vt .entry)) (now (et .entry))) ⌝ }
+pub fn attach(head: Head, vertices: &mut [u32], edges: &mut [u32], v: u32, p: u32, w: u32)
+    requires { ⌜ CanAttach v p w (state head (now vertices) (now edges)) ⌝ }
+    ensures { λ _. ⌜ exitState head vertices edges ≡ attachS v p w (entryState head vertices edges) ⌝ }
 {
-    let e = ends_of(vt, v);
+    let e = ends_of(vertices, v);
     let r = linked_lists::insert_after(
-        et,
+        edges,
         LinkLayout {
             stride: 6,
             offset: 12,
@@ -45,24 +53,31 @@ pub fn attach(head: Head, vt: &mut [u32], et: &mut [u32], v: u32, p: u32, w: u32
         p,
         w,
     );
-    put_ends(vt, v, r);
+    put_ends(vertices, v, r);
 }
 
-fn set_this(head: Head, vt: &[u32], et: &mut [u32], w: u32, u: u32)
-    requires { ⌜ HalfRowIn (now et) w ⌝ }
-    ensures { λ _. ⌜ state head (now (vt .entry)) (now (et .exit)) ≡ setThisS w u
-        (state head (now (vt .entry)) (now (et .entry))) ⌝ }
+fn set_this(head: Head, vertices: &[u32], edges: &mut [u32], w: u32, u: u32)
+    requires { ⌜ HalfRowIn (now edges) w ⌝ }
+    ensures { λ _. ⌜ state head (now (vertices .entry)) (now (edges .exit)) ≡ setThisS w u
+        (entryState head vertices edges) ⌝ }
 {
-    et[6 * (w as usize) - 12 + 2] = u;
+    edges[6 * (w as usize) - 12 + 2] = u;
 }
 
 // Takes word w out of v's list and puts it into u's after p.
-pub fn move_word(head: Head, vt: &mut [u32], et: &mut [u32], w: u32, v: u32, u: u32, p: u32)
-    requires { ⌜ CanMoveWord w v u p (state head (now vt) (now et)) ⌝ }
-    ensures { λ _. ⌜ state head (now (vt .exit)) (now (et .exit)) ≡ moveWordS w v u p
-        (state head (now (vt .entry)) (now (et .entry))) ⌝ }
+pub fn move_word(
+    head: Head,
+    vertices: &mut [u32],
+    edges: &mut [u32],
+    w: u32,
+    v: u32,
+    u: u32,
+    p: u32,
+)
+    requires { ⌜ CanMoveWord w v u p (state head (now vertices) (now edges)) ⌝ }
+    ensures { λ _. ⌜ exitState head vertices edges ≡ moveWordS w v u p (entryState head vertices edges) ⌝ }
 {
-    detach(head, vt, et, v, w);
-    attach(head, vt, et, u, p, w);
-    set_this(head, vt, et, w, u);
+    detach(head, vertices, edges, v, w);
+    attach(head, vertices, edges, u, p, w);
+    set_this(head, vertices, edges, w, u);
 }

@@ -9,6 +9,7 @@ pub mod vertices; // vertices put in, taken out, set and moved
 pub mod edges; // edges put in, taken out, set and moved
 pub mod edits; // the nine edits
 pub mod lookups; // is a number in the graph
+pub mod choice; // a choice between two words
 
 // Ends of the two orders (0 is none), and how many vertices and edges there are.
 pub struct Head {
@@ -43,17 +44,16 @@ pub enum Lookup {
 }
 
 // The same head, built word by word. The compiler keeps the words of a record that is built so in registers; one that
-// is
-// passed through whole, it copies in memory.
-pub fn same(h: Head) -> Head
-    ensures { λ r. ⌜ r ≡ h ⌝ }
+// is passed through whole, it copies in memory.
+pub fn same(head: Head) -> Head
+    ensures { λ r. ⌜ r ≡ head ⌝ }
 {
     Head {
-        vfirst: h.vfirst,
-        vlast: h.vlast,
-        efirst: h.efirst,
-        elast: h.elast,
-        vertices: h.vertices,
-        edges: h.edges,
+        vfirst: head.vfirst,
+        vlast: head.vlast,
+        efirst: head.efirst,
+        elast: head.elast,
+        vertices: head.vertices,
+        edges: head.edges,
     }
 }

@@ -5,44 +5,44 @@ ghost use Prim.Native.Nat.{_/_};
 ghost use Rattle.graph_tables.specs.Tables.{foundV, foundE};
 
 // Where v's row starts.
-pub fn find_vertex(vt: &[u32], v: u32) -> Lookup
-    ensures { λ r. ⌜ r ≡ foundV (now (vt .entry)) v ⌝ }
+pub fn find_vertex(vertices: &[u32], v: u32) -> Lookup
+    ensures { λ r. ⌜ r ≡ foundV (now (vertices .entry)) v ⌝ }
 {
     let n = v as usize;
     if n == 0 {
         return Lookup::Missing;
     }
-    if vt.len() < 8 * n {
+    if vertices.len() < 8 * n {
         return Lookup::Missing;
     }
     let at = 8 * n - 8;
-    if vt[at + 0] == 0 {
+    if vertices[at + 0] == 0 {
         return Lookup::Missing;
     }
     Lookup::Found(at)
 }
 
 // Where e's row starts.
-pub fn find_edge(et: &[u32], e: u32) -> Lookup
-    ensures { λ r. ⌜ r ≡ foundE (now (et .entry)) e ⌝ }
+pub fn find_edge(edges: &[u32], e: u32) -> Lookup
+    ensures { λ r. ⌜ r ≡ foundE (now (edges .entry)) e ⌝ }
 {
     let n = e as usize;
     if n == 0 {
         return Lookup::Missing;
     }
-    if et.len() < 12 * n {
+    if edges.len() < 12 * n {
         return Lookup::Missing;
     }
     let at = 12 * n - 12;
-    if et[at + 3] == 0 {
+    if edges[at + 3] == 0 {
         return Lookup::Missing;
     }
     Lookup::Found(at)
 }
 
 // Where the row of word w's edge starts: an oriented word stands for its edge (REFERENCE 2.4).
-pub fn find_word(et: &[u32], w: u32) -> Lookup
-    ensures { λ r. ⌜ r ≡ foundE (now (et .entry)) (w / 2) ⌝ }
+pub fn find_word(edges: &[u32], w: u32) -> Lookup
+    ensures { λ r. ⌜ r ≡ foundE (now (edges .entry)) (w / 2) ⌝ }
 {
-    find_edge(et, w / 2)
+    find_edge(edges, w / 2)
 }

@@ -10,147 +10,147 @@ ghost use Rattle.graph_tables.specs.Tables.{edecimetres, eprev, wprev, w
 ghost use Rattle.graph_tables.specs.Tables.{putEnds, rowVT, rowET, thisET};
 
 // The type of vertex v.
-pub fn vertex_type(vt: &[u32], v: u32) -> u32
-    requires { ⌜ VertexRowIn (now vt) v ⌝ }
-    ensures { λ r. ⌜ r ≡ vtype (now (vt .entry)) v ⌝ }
+pub fn vertex_type(vertices: &[u32], v: u32) -> u32
+    requires { ⌜ VertexRowIn (now vertices) v ⌝ }
+    ensures { λ r. ⌜ r ≡ vtype (now (vertices .entry)) v ⌝ }
 {
-    vt[8 * (v as usize) - 8 + 1]
+    vertices[8 * (v as usize) - 8 + 1]
 }
 
 // The value of vertex v.
-pub fn vertex_value(vt: &[u32], v: u32) -> u32
-    requires { ⌜ VertexRowIn (now vt) v ⌝ }
-    ensures { λ r. ⌜ r ≡ vvalue (now (vt .entry)) v ⌝ }
+pub fn vertex_value(vertices: &[u32], v: u32) -> u32
+    requires { ⌜ VertexRowIn (now vertices) v ⌝ }
+    ensures { λ r. ⌜ r ≡ vvalue (now (vertices .entry)) v ⌝ }
 {
-    vt[8 * (v as usize) - 8 + 2]
+    vertices[8 * (v as usize) - 8 + 2]
 }
 
 // The first word of v's incidence list.
-pub fn first_word(vt: &[u32], v: u32) -> u32
-    requires { ⌜ VertexRowIn (now vt) v ⌝ }
-    ensures { λ r. ⌜ r ≡ vfirst (now (vt .entry)) v ⌝ }
+pub fn first_word(vertices: &[u32], v: u32) -> u32
+    requires { ⌜ VertexRowIn (now vertices) v ⌝ }
+    ensures { λ r. ⌜ r ≡ vfirst (now (vertices .entry)) v ⌝ }
 {
-    vt[8 * (v as usize) - 8 + 3]
+    vertices[8 * (v as usize) - 8 + 3]
 }
 
 // The last word of v's incidence list.
-pub fn last_word(vt: &[u32], v: u32) -> u32
-    requires { ⌜ VertexRowIn (now vt) v ⌝ }
-    ensures { λ r. ⌜ r ≡ vlast (now (vt .entry)) v ⌝ }
+pub fn last_word(vertices: &[u32], v: u32) -> u32
+    requires { ⌜ VertexRowIn (now vertices) v ⌝ }
+    ensures { λ r. ⌜ r ≡ vlast (now (vertices .entry)) v ⌝ }
 {
-    vt[8 * (v as usize) - 8 + 4]
+    vertices[8 * (v as usize) - 8 + 4]
 }
 
 // The vertex before v in Vseq.
-pub fn vertex_prev(vt: &[u32], v: u32) -> u32
-    requires { ⌜ VertexRowIn (now vt) v ⌝ }
-    ensures { λ r. ⌜ r ≡ vprev (now (vt .entry)) v ⌝ }
+pub fn vertex_prev(vertices: &[u32], v: u32) -> u32
+    requires { ⌜ VertexRowIn (now vertices) v ⌝ }
+    ensures { λ r. ⌜ r ≡ vprev (now (vertices .entry)) v ⌝ }
 {
-    vt[8 * (v as usize) - 8 + 6]
+    vertices[8 * (v as usize) - 8 + 6]
 }
 
 // The type of edge e.
-pub fn edge_type(et: &[u32], e: u32) -> u32
-    requires { ⌜ EdgeRowIn (now et) e ⌝ }
-    ensures { λ r. ⌜ r ≡ etype (now (et .entry)) e ⌝ }
+pub fn edge_type(edges: &[u32], e: u32) -> u32
+    requires { ⌜ EdgeRowIn (now edges) e ⌝ }
+    ensures { λ r. ⌜ r ≡ etype (now (edges .entry)) e ⌝ }
 {
-    et[12 * (e as usize) - 12 + 4]
+    edges[12 * (e as usize) - 12 + 4]
 }
 
 // The kind of e's reading.
-pub fn reading_kind(et: &[u32], e: u32) -> u32
-    requires { ⌜ EdgeRowIn (now et) e ⌝ }
-    ensures { λ r. ⌜ r ≡ ekind (now (et .entry)) e ⌝ }
+pub fn reading_kind(edges: &[u32], e: u32) -> u32
+    requires { ⌜ EdgeRowIn (now edges) e ⌝ }
+    ensures { λ r. ⌜ r ≡ ekind (now (edges .entry)) e ⌝ }
 {
-    et[12 * (e as usize) - 12 + 5]
+    edges[12 * (e as usize) - 12 + 5]
 }
 
 // The decimetres of e's reading.
-pub fn reading_decimetres(et: &[u32], e: u32) -> u32
-    requires { ⌜ EdgeRowIn (now et) e ⌝ }
-    ensures { λ r. ⌜ r ≡ edecimetres (now (et .entry)) e ⌝ }
+pub fn reading_decimetres(edges: &[u32], e: u32) -> u32
+    requires { ⌜ EdgeRowIn (now edges) e ⌝ }
+    ensures { λ r. ⌜ r ≡ edecimetres (now (edges .entry)) e ⌝ }
 {
-    et[12 * (e as usize) - 12 + 9]
+    edges[12 * (e as usize) - 12 + 9]
 }
 
 // The edge before e in Eseq.
-pub fn edge_prev(et: &[u32], e: u32) -> u32
-    requires { ⌜ EdgeRowIn (now et) e ⌝ }
-    ensures { λ r. ⌜ r ≡ eprev (now (et .entry)) e ⌝ }
+pub fn edge_prev(edges: &[u32], e: u32) -> u32
+    requires { ⌜ EdgeRowIn (now edges) e ⌝ }
+    ensures { λ r. ⌜ r ≡ eprev (now (edges .entry)) e ⌝ }
 {
-    et[12 * (e as usize) - 12 + 10]
+    edges[12 * (e as usize) - 12 + 10]
 }
 
 // The word before w in its list.
-pub fn word_prev(et: &[u32], w: u32) -> u32
-    requires { ⌜ HalfRowIn (now et) w ⌝ }
-    ensures { λ r. ⌜ r ≡ wprev (now (et .entry)) w ⌝ }
+pub fn word_prev(edges: &[u32], w: u32) -> u32
+    requires { ⌜ HalfRowIn (now edges) w ⌝ }
+    ensures { λ r. ⌜ r ≡ wprev (now (edges .entry)) w ⌝ }
 {
-    et[6 * (w as usize) - 12 + 0]
+    edges[6 * (w as usize) - 12 + 0]
 }
 
 // The word after w in its list.
-pub fn word_next(et: &[u32], w: u32) -> u32
-    requires { ⌜ HalfRowIn (now et) w ⌝ }
-    ensures { λ r. ⌜ r ≡ wnext (now (et .entry)) w ⌝ }
+pub fn word_next(edges: &[u32], w: u32) -> u32
+    requires { ⌜ HalfRowIn (now edges) w ⌝ }
+    ensures { λ r. ⌜ r ≡ wnext (now (edges .entry)) w ⌝ }
 {
-    et[6 * (w as usize) - 12 + 1]
+    edges[6 * (w as usize) - 12 + 1]
 }
 
 // The vertex that word w is seen from.
-pub fn this(et: &[u32], w: u32) -> u32
-    requires { ⌜ HalfRowIn (now et) w ⌝ }
-    ensures { λ r. ⌜ r ≡ wthis (now (et .entry)) w ⌝ }
+pub fn this(edges: &[u32], w: u32) -> u32
+    requires { ⌜ HalfRowIn (now edges) w ⌝ }
+    ensures { λ r. ⌜ r ≡ wthis (now (edges .entry)) w ⌝ }
 {
-    et[6 * (w as usize) - 12 + 2]
+    edges[6 * (w as usize) - 12 + 2]
 }
 
 // The ends of v's incidence list.
-pub fn ends_of(vt: &[u32], v: u32) -> Ends
-    requires { ⌜ VertexRowIn (now vt) v ⌝ }
-    ensures { λ r. ⌜ r ≡ endsAt (now (vt .entry)) v ⌝ }
+pub fn ends_of(vertices: &[u32], v: u32) -> Ends
+    requires { ⌜ VertexRowIn (now vertices) v ⌝ }
+    ensures { λ r. ⌜ r ≡ endsAt (now (vertices .entry)) v ⌝ }
 {
     let at = 8 * (v as usize) - 8;
-    let first = vt[at + 3];
-    let last = vt[at + 4];
+    let first = vertices[at + 3];
+    let last = vertices[at + 4];
     Ends { first, last }
 }
 
 // Writes the ends of v's incidence list.
-pub fn put_ends(vt: &mut [u32], v: u32, e: Ends)
-    requires { ⌜ VertexRowIn (now vt) v ⌝ }
-    ensures { λ _. ⌜ now (vt .exit) ≡ putEnds v e (now (vt .entry)) ⌝ }
+pub fn put_ends(vertices: &mut [u32], v: u32, ends: Ends)
+    requires { ⌜ VertexRowIn (now vertices) v ⌝ }
+    ensures { λ _. ⌜ now (vertices .exit) ≡ putEnds v ends (now (vertices .entry)) ⌝ }
 {
     let at = 8 * (v as usize) - 8;
-    vt[at + 3] = e.first;
-    vt[at + 4] = e.last;
+    vertices[at + 3] = ends.first;
+    vertices[at + 4] = ends.last;
 }
 
 // Writes v's own words: whether it is there, type and value.
-pub fn put_vertex(vt: &mut [u32], v: u32, live: u32, sort: u32, value: u32)
-    requires { ⌜ VertexRowIn (now vt) v ⌝ }
-    ensures { λ _. ⌜ now (vt .exit) ≡ rowVT v live sort value (now (vt .entry)) ⌝ }
+pub fn put_vertex(vertices: &mut [u32], v: u32, live: u32, sort: u32, value: u32)
+    requires { ⌜ VertexRowIn (now vertices) v ⌝ }
+    ensures { λ _. ⌜ now (vertices .exit) ≡ rowVT v live sort value (now (vertices .entry)) ⌝ }
 {
     let at = 8 * (v as usize) - 8;
-    vt[at + 0] = live;
-    vt[at + 1] = sort;
-    vt[at + 2] = value;
+    vertices[at + 0] = live;
+    vertices[at + 1] = sort;
+    vertices[at + 2] = value;
 }
 
-pub fn kind_of(r: Reading) -> u32
-    ensures { λ k. ⌜ k ≡ readingKind r ⌝ }
+pub fn kind_of(reading: Reading) -> u32
+    ensures { λ k. ⌜ k ≡ readingKind reading ⌝ }
 {
-    match r {
+    match reading {
         Reading::Untested => 0,
         Reading::Silent => 1,
         Reading::Heard(_) => 2,
     }
 }
 
-pub fn decimetres_of(r: Reading) -> u32
-    ensures { λ k. ⌜ k ≡ decimetres r ⌝ }
+pub fn decimetres_of(reading: Reading) -> u32
+    ensures { λ k. ⌜ k ≡ decimetres reading ⌝ }
 {
-    match r {
+    match reading {
         Reading::Untested => 0,
         Reading::Silent => 0,
         Reading::Heard(d) => d,
@@ -171,35 +171,35 @@ pub fn reading_of(k: u32, d: u32) -> Reading
 }
 
 // The reading of edge e.
-pub fn reading_at(et: &[u32], e: u32) -> Reading
-    requires { ⌜ EdgeRowIn (now et) e ⌝ }
-    ensures { λ r. ⌜ r ≡ readingAt (now (et .entry)) e ⌝ }
+pub fn reading_at(edges: &[u32], e: u32) -> Reading
+    requires { ⌜ EdgeRowIn (now edges) e ⌝ }
+    ensures { λ r. ⌜ r ≡ readingAt (now (edges .entry)) e ⌝ }
 {
-    let k = reading_kind(et, e);
-    let d = reading_decimetres(et, e);
+    let k = reading_kind(edges, e);
+    let d = reading_decimetres(edges, e);
     reading_of(k, d)
 }
 
 // Writes e's own words: whether it is there, type and reading.
-pub fn put_edge(et: &mut [u32], e: u32, live: u32, sort: u32, r: Reading)
-    requires { ⌜ EdgeRowIn (now et) e ⌝ }
-    ensures { λ _. ⌜ now (et .exit) ≡ rowET e live sort r (now (et .entry)) ⌝ }
+pub fn put_edge(edges: &mut [u32], e: u32, live: u32, sort: u32, reading: Reading)
+    requires { ⌜ EdgeRowIn (now edges) e ⌝ }
+    ensures { λ _. ⌜ now (edges .exit) ≡ rowET e live sort reading (now (edges .entry)) ⌝ }
 {
-    let k = kind_of(r);
-    let d = decimetres_of(r);
+    let k = kind_of(reading);
+    let d = decimetres_of(reading);
     let at = 12 * (e as usize) - 12;
-    et[at + 3] = live;
-    et[at + 4] = sort;
-    et[at + 5] = k;
-    et[at + 9] = d;
+    edges[at + 3] = live;
+    edges[at + 4] = sort;
+    edges[at + 5] = k;
+    edges[at + 9] = d;
 }
 
 // Writes e's two ends.
-pub fn put_this(et: &mut [u32], e: u32, a: u32, z: u32)
-    requires { ⌜ EdgeRowIn (now et) e ⌝ }
-    ensures { λ _. ⌜ now (et .exit) ≡ thisET e a z (now (et .entry)) ⌝ }
+pub fn put_this(edges: &mut [u32], e: u32, a: u32, z: u32)
+    requires { ⌜ EdgeRowIn (now edges) e ⌝ }
+    ensures { λ _. ⌜ now (edges .exit) ≡ thisET e a z (now (edges .entry)) ⌝ }
 {
     let w = 2 * (e as usize);
-    et[6 * w - 12 + 2] = a;
-    et[6 * (w + 1) - 12 + 2] = z;
+    edges[6 * w - 12 + 2] = a;
+    edges[6 * (w + 1) - 12 + 2] = z;
 }

@@ -5,37 +5,45 @@ use crate::rows::put_vertex;
 use linked_lists::Ends;
 use linked_lists::LinkLayout;
 ghost use mathlib.Core.Path.{_≡_};
-ghost use Rattle.graph_tables.specs.Tables.{state, vertexListEnds, vertexLinks, VertexRowIn, moveT, moveE};
+ghost use Rattle.graph_tables.specs.Tables.{
+  state,
+  vertexListEnds,
+  vertexLinks,
+  VertexRowIn,
+  moveT,
+  moveE,
+  entryState,
+};
 ghost use Rattle.graph_tables.specs.Tables.{CanMove, setVertexS, moveVertexS};
 ghost use Rattle.graph_tables.specs.Tables.{insertVertexS, CanInsertVertex, removeVertexS, CanRemoveVertex};
 
 // Sets type and value of v.
-pub fn set_vertex(head: Head, vt: &mut [u32], et: &[u32], v: u32, sort: u32, value: u32)
-    requires { ⌜ VertexRowIn (now vt) v ⌝ }
-    ensures { λ _. ⌜ state head (now (vt .exit)) (now (et .entry)) ≡ setVertexS v sort value
-        (state head (now (vt .entry)) (now (et .entry))) ⌝ }
+pub fn set_vertex(head: Head, vertices: &mut [u32], edges: &[u32], v: u32, sort: u32, value: u32)
+    requires { ⌜ VertexRowIn (now vertices) v ⌝ }
+    ensures { λ _. ⌜ state head (now (vertices .exit)) (now (edges .entry)) ≡ setVertexS v sort value
+        (entryState head vertices edges) ⌝ }
 {
-    put_vertex(vt, v, 1, sort, value);
+    put_vertex(vertices, v, 1, sort, value);
 }
 
 // Takes node n out and puts it after p.
-pub fn relink(t: &mut [u32], layout: LinkLayout, e: Ends, n: u32, p: u32) -> Ends
-    requires { ⌜ CanMove layout n p (now t) e ⌝ }
-    ensures { λ r. ⌜ (now (t .exit) ≡ moveT layout n p (now (t .entry)) e)
-        × (r ≡ moveE layout n p (now (t .entry)) e) ⌝ }
+pub fn relink(table: &mut [u32], layout: LinkLayout, ends: Ends, n: u32, p: u32) -> Ends
+    requires { ⌜ CanMove layout n p (now table) ends ⌝ }
+    ensures { λ r. ⌜ (now (table .exit) ≡ moveT layout n p (now (table .entry)) ends)
+        × (r ≡ moveE layout n p (now (table .entry)) ends) ⌝ }
 {
-    let o = linked_lists::unlink(t, layout, e, n);
-    linked_lists::insert_after(t, layout, o, p, n)
+    let o = linked_lists::unlink(table, layout, ends, n);
+    linked_lists::insert_after(table, layout, o, p, n)
 }
 
 // Puts vertex n after p in Vseq.
-pub fn move_vertex(head: Head, vt: &mut [u32], et: &[u32], n: u32, p: u32) -> Head
-    requires { ⌜ CanMove vertexLinks n p (now vt) (vertexListEnds head) ⌝ }
-    ensures { λ r. ⌜ state r (now (vt .exit)) (now (et .entry)) ≡ moveVertexS n p
-        (state head (now (vt .entry)) (now (et .entry))) ⌝ }
+pub fn move_vertex(head: Head, vertices: &mut [u32], edges: &[u32], n: u32, p: u32) -> Head
+    requires { ⌜ CanMove vertexLinks n p (now vertices) (vertexListEnds head) ⌝ }
+    ensures { λ r. ⌜ state r (now (vertices .exit)) (now (edges .entry)) ≡ moveVertexS n p
+        (entryState head vertices edges) ⌝ }
 {
     let e = relink(
-        vt,
+        vertices,
         LinkLayout {
             stride: 8,
             offset: 2,
@@ -60,19 +68,19 @@ pub fn move_vertex(head: Head, vt: &mut [u32], et: &[u32], n: u32, p: u32) -> He
 // Puts vertex n, with an empty list, into Vseq after p.
 pub fn insert_vertex(
     head: Head,
-    vt: &mut [u32],
-    et: &[u32],
+    vertices: &mut [u32],
+    edges: &[u32],
     n: u32,
     sort: u32,
     value: u32,
     p: u32,
 ) -> Head
-    requires { ⌜ CanInsertVertex n p (state head (now vt) (now et)) ⌝ }
-    ensures { λ r. ⌜ state r (now (vt .exit)) (now (et .entry)) ≡ insertVertexS n sort value p
-        (state head (now (vt .entry)) (now (et .entry))) ⌝ }
+    requires { ⌜ CanInsertVertex n p (state head (now vertices) (now edges)) ⌝ }
+    ensures { λ r. ⌜ state r (now (vertices .exit)) (now (edges .entry)) ≡ insertVertexS n sort value p
+        (entryState head vertices edges) ⌝ }
 {
     let e = linked_lists::insert_after(
-        vt,
+        vertices,
         LinkLayout {
             stride: 8,
             offset: 2,
@@ -84,7 +92,7 @@ pub fn insert_vertex(
         p,
         n,
     );
-    put_vertex(vt, n, 1, sort, value);
+    put_vertex(vertices, n, 1, sort, value);
     Head {
         vfirst: e.first,
         vlast: e.last,
@@ -96,13 +104,13 @@ pub fn insert_vertex(
 }
 
 // Takes vertex n, whose list is empty, out of Vseq.
-pub fn remove_vertex(head: Head, vt: &mut [u32], et: &[u32], n: u32) -> Head
-    requires { ⌜ CanRemoveVertex n (state head (now vt) (now et)) ⌝ }
-    ensures { λ r. ⌜ state r (now (vt .exit)) (now (et .entry)) ≡ removeVertexS n
-        (state head (now (vt .entry)) (now (et .entry))) ⌝ }
+pub fn remove_vertex(head: Head, vertices: &mut [u32], edges: &[u32], n: u32) -> Head
+    requires { ⌜ CanRemoveVertex n (state head (now vertices) (now edges)) ⌝ }
+    ensures { λ r. ⌜ state r (now (vertices .exit)) (now (edges .entry)) ≡ removeVertexS n
+        (entryState head vertices edges) ⌝ }
 {
     let e = linked_lists::unlink(
-        vt,
+        vertices,
         LinkLayout {
             stride: 8,
             offset: 2,
@@ -113,7 +121,7 @@ pub fn remove_vertex(head: Head, vt: &mut [u32], et: &[u32], n: u32) -> Head
         },
         n,
     );
-    put_vertex(vt, n, 0, 0, 0);
+    put_vertex(vertices, n, 0, 0, 0);
     Head {
         vfirst: e.first,
         vlast: e.last,

@@ -4,10 +4,11 @@ use mathlib.Core.Bool.{Bool, true, false}
 use mathlib.Core.List.{List, [], _∷_, _++_}
 use lib.ListN.{length, take}
 use lib.Dec.{ltb}
-use Rattle.lists.specs.Choice.{_⇒_else_, _==_}
+use Rattle.lists.specs.Choice.{_⇒_else_, _==_, within}
 use Rattle.lists.specs.Lists.{filter, sumOf, range}
 use Rattle.graph.specs.declared.Change.{Change}
 use Rattle.graph.specs.Graph.{Graph}
+use Rattle.graph.specs.Limits.{mostMarks}
 use Rattle.graph.specs.Changes.{changed, cost}
 
 -- a graph after the first, and what it cost to make
@@ -95,9 +96,13 @@ cut p (at q) = ltb p q ⇒ gone else at q
 abbrev pub cutMarks : ℕ → (ℕ → MarkPlace) → ℕ → MarkPlace
 cutMarks p ms k = cut p (ms k)
 
--- how many of marks 1 to 64 stand
+-- marks are numbered from 1
+abbrev pub isMark : ℕ → Bool
+isMark a = within 1 mostMarks a
+
+-- how many marks stand
 unfoldable pub countStanding : (ℕ → MarkPlace) → ℕ
-countStanding ms = length (filter (λ n. stands (ms (suc n))) (range 64))
+countStanding ms = length (filter (λ n. stands (ms (suc n))) (range mostMarks))
 
 -- ---- the machine
 

@@ -1,39 +1,25 @@
 -- What each call makes of the relation with the machine.
-use Prim.Native.Nat.{ℕ, _+_, _-_, _*_, _≤_, _<_}
+use Prim.Native.Nat.{ℕ, _-_, _≤_}
 use mathlib.Core.Path.{_≡_, refl, sym, ap, subst, _∙_}
 use mathlib.Core.Logic.{_≢_}
-use mathlib.Core.Bool.{Bool, true, false, not, _&&_}
+use mathlib.Core.Bool.{Bool, true, not}
 use mathlib.Core.List.{List}
 use native.Mathlib.Omega.{arith}
-use borrow.Author.Tests.{eq-eqb, ne-eqb, lt-ltb, le-ltb, ltb-false}
-use lib.Dec.{ltb}
+use borrow.Author.Tests.{eq-eqb, ne-eqb}
 use lib.ListN.{length, set}
 use Rattle.lists.specs.Choice.{_⇒_else_}
-use Rattle.lists.proofs.Bools.{and-both}
 use Rattle.lists.proofs.Picks.{same, differ, same?}
 use Rattle.graph.specs.Graph.{Graph}
 use Rattle.graph.specs.WellFormed.{Bounds}
-use Rattle.graph.specs.declared.Change.{Change}
-use Rattle.graph.specs.declared.Change.the-variants.{DeleteVertex}
-use Rattle.graph.specs.Changes.{cost, Allowed}
-use Rattle.graph.specs.Same.{alters}
-use Rattle.history.specs.Machine.{MarkPlace, gone, at, Machine, begun, placed, extended, freeOf, distance, noMarks, stands, placeOr, marked, cut, cutMarks, present, movedTo}
-use Rattle.history.proofs.Timelines.{length-cut}
-use Rattle.history.specs.Machine.{stepOf}
-use Rattle.machine.specs.Rules.{steps, nothing, effected, Deed, deed, changeDeed, changeRule, historyRule}
+use Rattle.history.specs.Machine.{MarkPlace, gone, at, Machine, begun, placed, distance, noMarks, stands, placeOr, marked, present, movedTo}
+use Rattle.machine.specs.Rules.{effected, historyRule}
 use Rattle.commands.specs.declared.HistoryCall.{HistoryCall}
 use Rattle.commands.specs.declared.HistoryCall.the-variants.{SetMark, DropMark, Commit, Between, Standing as StandingMarks, Free}
 use Rattle.marks.specs.Marked.{placeIn, withMark, withoutMark, Marked}
 use Rattle.marks.proofs.MarkLaws.{marked-same, marked-other, in-marks, in-set, place-is, with-is, without-is, mark-put, mark-gone, none-marked, count-is}
-use Rattle.journal.specs.Written.{Written}
-use Rattle.queries.specs.Plans.{planS, OneEdit}
-use Rattle.queries.proofs.PlanLaws.{one-edit}
-use Rattle.graph_tables.specs.declared.Head.{Head}
 use Rattle.graph_tables.specs.Tables.{state}
-use Rattle.timeline.specs.Current.{afterStep}
 use Rattle.timeline.specs.Steps.{Journal}
-use Rattle.timeline.proofs.Steps.{journal-free, journal-commit, at-record}
-use Rattle.vertex_deletion.proofs.Made.{single-step}
+use Rattle.timeline.proofs.Steps.{journal-free, journal-commit}
 use Rattle.history_calls.specs.declared.Store.{Store}
 use Rattle.history_calls.specs.declared.Called.{Called}
 use Rattle.history_calls.specs.Memory.{Memory, memory, capacityOf, tablesOf}
@@ -72,82 +58,9 @@ drop-inside ms a n f k q e = elim (same? k a) [
   | differ u v ↦ f k q (sym (marked-other a k gone ms u) ∙ e)
 ]
 
--- ---- a change cuts the marks above its place
-
--- what is left has a place up to p
-left-low : (p q : ℕ) (s : MarkPlace) → cut p s ≡ at q → q ≤ p
-left-low p q gone e = let z : _≡_ {A = ℕ} 0 1 = cc in absurd (omega arith)
-left-low p q (at r) e = go (ltb p r) refl e
-  where
-    go : (t : Bool) → ltb p r ≡ t → (t ⇒ gone else at r) ≡ at q → q ≤ p
-    go true l f = let z : _≡_ {A = ℕ} 0 1 = cc in absurd (omega arith)
-    go false l f = let z : r ≡ q = cc in omega (arith, ltb-false p r l)
-
--- where no mark is above p, none is cut
-cut-none : (p : ℕ) (ms : ℕ → MarkPlace) → ((k q : ℕ) → ms k ≡ at q → q ≤ p) → cutMarks p ms ≡ ms
-cut-none p ms f i k = go (ms k) refl i
-  where
-    go : (s : MarkPlace) → ms k ≡ s → cut p (ms k) ≡ ms k
-    go gone e = ap (cut p) e ∙ sym e
-    go (at q) e = ap (cut p) e ∙ ap (λ (t : Bool). t ⇒ gone else at q) (le-ltb p q (f k q e)) ∙ sym e
-
-pub cut-nothing : (p n set : ℕ) (places : List ℕ) (ms : ℕ → MarkPlace) → p ≡ n → Marked ms set places → ((k q : ℕ) → ms k ≡ at q → q ≤ n) → Marked (cutMarks p ms) set places
-cut-nothing p n set places ms e h f =
-    subst (λ (g : ℕ → MarkPlace). Marked g set places) (sym (cut-none p ms (λ k q i. omega (arith, f k q i, e)))) h
-
-pub deletion-alters : (a : ℕ) (g : Graph) → alters (DeleteVertex a) g ≡ true
-unfolding alters
-deletion-alters a g = refl
-
 module _ (b : Bounds) (x : Store) (mem : Memory) (m : Machine) (h : Represents b x mem m) where
-  -- ---- 1 to 16, where they alter the graph
-
-  module _ (c : Change) (n free : ℕ) (e : n ≡ cost c (present m)) (capacity : ℕ) (q : capacity ≡ capacityOf (mem .journal)) (f : free ≡ freeOf capacity (m .line)) (u : alters c (present m) ≡ true) where
-    altering : changeDeed c m ≡ deed (cost c (present m)) (steps (stepOf c (present m)))
-    altering = ap (λ (p : Bool). p ⇒ deed (cost c (present m)) (steps (stepOf c (present m))) else deed 0 nothing) u
-
-    free-is : freeOf (capacityOf (mem .journal)) (m .line) ≡ free
-    free-is = ap (λ (k : ℕ). freeOf k (m .line)) (sym q) ∙ sym f
-
-    pub change-refused : free < n → Follows (changeRule (capacityOf (mem .journal)) c) m b (done x 10 0) mem
-    change-refused l = refused (changeRule (capacityOf (mem .journal)) c) m b x mem 10
-        (sym (ap (λ (t : Bool). t ⇒ 10 else 0) (and-both _ _ (lt-ltb (freeOf (capacityOf (mem .journal)) (m .line)) (cost c (present m)) (omega (arith, free-is, e, l))) u))) (λ z. omega arith) h
-
-    -- there are rows for it
-    pub change-room : n ≤ free → 12 * (x .current .position .used + n) ≤ length (mem .journal)
-    change-room l =
-        omega (arith, f, l, q, h .journal .rows .within, h .journal .rows .upto, journal-free b (x .current .position) (tablesOf x mem) (mem .journal) (m .line) capacity (h .journal))
-
-    pub change-done : n ≤ free → (x′ : Store) (vt′ et′ t′ : List ℕ) → Journal b (x′ .current .position) (state (x′ .current .head) vt′ et′) t′ (extended (stepOf c (present m)) (m .line))
-        → Marked (cutMarks (x .current .position .place) (m .marks)) (x′ .set) (mem .marks) → Follows (changeRule (capacityOf (mem .journal)) c) m b (done x′ 0 n) (memory vt′ et′ t′ (mem .marks))
-    change-done l x′ vt′ et′ t′ j k = accepted (changeRule (capacityOf (mem .journal)) c) m b x′ (memory vt′ et′ t′ (mem .marks)) n
-        (ap (λ (t : Bool). (t && alters c (present m)) ⇒ 10 else 0) (le-ltb (freeOf (capacityOf (mem .journal)) (m .line)) (cost c (present m)) (omega (arith, free-is, e, l))))
-        (e ∙ sym (ap (λ (d : Deed). d .number) altering))
-        (subst (λ (d : Deed). Represents b x′ (memory vt′ et′ t′ (mem .marks)) (effected (d .effect) m)) (sym altering) (record {
-          journal = j;
-          marks = subst (λ (p : ℕ). Marked (cutMarks p (m .marks)) (x′ .set) (mem .marks)) (h .journal .place) k;
-          inside = λ i p y. omega (arith, left-low (m .line .place) p (m .marks i) y, length-cut (m .line .place) (m .line .steps) (stepOf c (present m)) (h .journal .inside));
-        }))
-
-  -- a change of one edit that was written down and carried out
-  pub change-made : (c : Change) (n : ℕ) → n ≡ 1 → OneEdit c → Allowed b (present m) c → alters c (present m) ≡ true → x .current .position .used + 1 ≤ capacityOf (mem .journal) → (head : Head) (vt′ et′ t′ : List ℕ)
-      → Written (planS c (tablesOf x mem)) 1 (x .current .position .used) (tablesOf x mem) (mem .journal) (state head vt′ et′) t′
-      → (x′ : Store) → x′ .current ≡ afterStep (x .current .position) head n → Marked (cutMarks (x .current .position .place) (m .marks)) (x′ .set) (mem .marks)
-      → Follows (changeRule (capacityOf (mem .journal)) c) m b (done x′ 0 n) (memory vt′ et′ t′ (mem .marks))
-  change-made c n q o a u r head vt′ et′ t′ w x′ y k =
-      let s = tablesOf x mem in
-      let t = mem .journal in
-      let e : n ≡ cost c (present m) = q ∙ sym (one-edit c o (present m) .1) in
-      let f = journal-free b (x .current .position) s t (m .line) (capacityOf t) (h .journal) in
-      let p = afterStep (x .current .position) head n .position in
-      let j = single-step c b (x .current .position) s t (m .line) (h .journal) a o (omega (arith, r)) (state head vt′ et′) t′ w p refl refl (omega (arith, q)) in
-      change-done c n (freeOf (capacityOf t) (m .line)) e (capacityOf t) refl refl u (omega (arith, q, r, f)) x′ vt′ et′ t′ (at-record b (x′ .current) _ vt′ et′ t′ _ y j) k
-
   pub mark-steps : (k q : ℕ) → m .marks k ≡ at q → q ≤ x .current .position .steps
   mark-steps k q y = omega (arith, h .inside k q y, h .journal .steps)
-
-  pub rows-fit : x .current .position .used ≤ capacityOf (mem .journal)
-  rows-fit = omega (arith, h .journal .rows .within, h .journal .rows .upto)
 
   -- ---- history calls
 
@@ -161,9 +74,9 @@ module _ (b : Bounds) (x : Store) (mem : Memory) (m : Machine) (h : Represents b
       → effected (historyRule (capacityOf (mem .journal)) c .deed m .effect) m ≡ m → ByRule c (done x 0 number) mem
   told c number e f i = accepted (historyRule (capacityOf (mem .journal)) c) m b x mem number e f (rw i h)
 
-  pub moved-to : (x′ : Store) (vt′ et′ : List ℕ) (p : ℕ) → x′ .set ≡ x .set → Journal b (x′ .current .position) (state (x′ .current .head) vt′ et′) (mem .journal) (placed p (m .line))
-      → Represents b x′ (memory vt′ et′ (mem .journal) (mem .marks)) (movedTo p m)
-  moved-to x′ vt′ et′ p e j = record {
+  pub moved-to : (x′ : Store) (vertices′ edges′ : List ℕ) (p : ℕ) → x′ .set ≡ x .set → Journal b (x′ .current .position) (state (x′ .current .head) vertices′ edges′) (mem .journal) (placed p (m .line))
+      → Represents b x′ (memory vertices′ edges′ (mem .journal) (mem .marks)) (movedTo p m)
+  moved-to x′ vertices′ edges′ p e j = record {
     journal = j;
     marks = subst (λ (s : ℕ). Marked (m .marks) s (mem .marks)) (sym e) (h .marks);
     inside = h .inside;

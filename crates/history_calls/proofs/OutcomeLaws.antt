@@ -71,15 +71,15 @@ module _ (x : Store) (places : List ℕ) (a c code : ℕ) (e : code ≡ pairCode
 abbrev codeIn : Called → ℕ
 codeIn d = d .answer .code
 
-module _ (x : Store) (a : ℕ) (r : Called) (vt et t places : List ℕ) where
-  pub leaves-drop : r ≡ markDropped x a → Leaves x (memory vt et t places) r (memory vt et t places)
+module _ (x : Store) (a : ℕ) (r : Called) (vertices edges t places : List ℕ) where
+  pub leaves-drop : r ≡ markDropped x a → Leaves x (memory vertices edges t places) r (memory vertices edges t places)
   leaves-drop e n =
       let k = without-kept (x .set) a (λ z. n (ap codeIn e ∙ z)) in
       (ap (λ (d : Called). d .store) e ∙ (λ i. record { current = x .current; set = k i }), refl)
 
-  pub leaves-set : (places′ : List ℕ) → r ≡ markSet x a → places′ ≡ placesSet x a places → Leaves x (memory vt et t places) r (memory vt et t places′)
+  pub leaves-set : (places′ : List ℕ) → r ≡ markSet x a → places′ ≡ placesSet x a places → Leaves x (memory vertices edges t places) r (memory vertices edges t places′)
   leaves-set places′ e f n =
       let z : newCode (x .set) a ≢ 0 = λ z. n (ap codeIn e ∙ z) in
       let k = with-kept (x .set) a z in
       let l : places′ ≡ places = rw (ne-eqb (newCode (x .set) a) 0 z) at f in
-      (ap (λ (d : Called). d .store) e ∙ (λ i. record { current = x .current; set = k i }), λ i. memory vt et t (l i))
+      (ap (λ (d : Called). d .store) e ∙ (λ i. record { current = x .current; set = k i }), λ i. memory vertices edges t (l i))

@@ -135,11 +135,11 @@ module _ (b : Bounds) (x : Store) (mem : Memory) (m : Machine) (h : Represents b
     pub way-reach : w .code ≡ 0 → Reach (w .back) (w .steps) (x .current .position .place) (x .current .position .steps)
     way-reach z = this .reach z
 
-    pub way-done : w .code ≡ 0 → (x′ : Store) (vt′ et′ : List ℕ) → x′ .set ≡ x .set
-        → Journal b (x′ .current .position) (state (x′ .current .head) vt′ et′) (mem .journal) (placed (shifted (w .back) (w .steps) (m .line .place)) (m .line))
-        → Follows (historyRule (capacityOf (mem .journal)) c) m b (done x′ 0 (w .steps)) (memory vt′ et′ (mem .journal) (mem .marks))
-    way-done z x′ vt′ et′ s j =
+    pub way-done : w .code ≡ 0 → (x′ : Store) (vertices′ edges′ : List ℕ) → x′ .set ≡ x .set
+        → Journal b (x′ .current .position) (state (x′ .current .head) vertices′ edges′) (mem .journal) (placed (shifted (w .back) (w .steps) (m .line .place)) (m .line))
+        → Follows (historyRule (capacityOf (mem .journal)) c) m b (done x′ 0 (w .steps)) (memory vertices′ edges′ (mem .journal) (mem .marks))
+    way-done z x′ vertices′ edges′ s j =
         let d = this .deeds z in
-        accepted (historyRule (capacityOf (mem .journal)) c) m b x′ (memory vt′ et′ (mem .journal) (mem .marks)) (w .steps) (sym (this .coded) ∙ z) (sym (ap (λ (y : Deed). y .number) d))
-        (subst (λ (y : Deed). Represents b x′ (memory vt′ et′ (mem .journal) (mem .marks)) (effected (y .effect) m)) (sym d)
-        (moved-to b x mem m h x′ vt′ et′ _ s j))
+        accepted (historyRule (capacityOf (mem .journal)) c) m b x′ (memory vertices′ edges′ (mem .journal) (mem .marks)) (w .steps) (sym (this .coded) ∙ z) (sym (ap (λ (y : Deed). y .number) d))
+        (subst (λ (y : Deed). Represents b x′ (memory vertices′ edges′ (mem .journal) (mem .marks)) (effected (y .effect) m)) (sym d)
+        (moved-to b x mem m h x′ vertices′ edges′ _ s j))

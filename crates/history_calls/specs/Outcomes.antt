@@ -7,7 +7,7 @@ use mathlib.Core.List.{List}
 use lib.Count.{ones}
 use lib.Dec.{ltb}
 use lib.ListN.{set as setAt}
-use Rattle.lists.specs.Choice.{_⇒_else_, _==_, within}
+use Rattle.lists.specs.Choice.{_⇒_else_, _==_}
 use Rattle.commands.specs.declared.HistoryCall.{HistoryCall}
 use Rattle.commands.specs.declared.HistoryCall.the-variants.{
   SetMark,
@@ -21,7 +21,7 @@ use Rattle.commands.specs.declared.HistoryCall.the-variants.{
   Free,
 }
 use Rattle.commands.specs.Answers.{answerOf}
-use Rattle.history.specs.Machine.{distance}
+use Rattle.history.specs.Machine.{distance, isMark}
 use Rattle.marks.specs.Marked.{inSet, placeIn, withMark, withoutMark}
 use Rattle.graph_tables.specs.declared.Head.{Head}
 use Rattle.timeline.specs.Current.{noSteps}
@@ -34,7 +34,7 @@ use Rattle.history_calls.specs.Memory.{Memory, capacityOf}
 
 -- REFERENCE 7.11
 abbrev pub noMark : ℕ → Bool
-noMark a = not (within 1 64 a)
+noMark a = not (isMark a)
 
 -- for a mark that must stand: 11, 13
 abbrev pub standingCode : ℕ → ℕ → ℕ

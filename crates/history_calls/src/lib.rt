@@ -1,31 +1,22 @@
 // The graph with its history: each history call on the tables, the journal and the marks.
-// A caller has a store and lent words that stand for a machine. `perform` takes any words of a call, `delete_vertex` a
-// vertex that is there, `made` an edit that was written down and carried out.
+// A caller has a store and lent words that stand for a machine; any call may be asked for.
 use commands::Answer;
 use commands::HistoryCall;
-use graph::Change;
+use graph::MOST_MARKS;
 use graph_tables::Head;
 use timeline::Current;
 use timeline::Position;
 ghost use mathlib.Core.Path.{_≡_};
-ghost use mathlib.Core.Bool.{true};
-ghost use mathlib.Core.List.{List};
-ghost use Prim.Native.Nat.{ℕ, _+_, _^_, _≤_, _<_};
+ghost use Prim.Native.Nat.{_^_, _<_};
 ghost use lib.ListN.{length};
 ghost use Rattle.graph.specs.Graph.{Graph};
 ghost use Rattle.graph.specs.WellFormed.{Bounds, Within};
-ghost use Rattle.graph.specs.Changes.{Allowed};
-ghost use Rattle.graph.specs.Same.{alters};
-ghost use Rattle.history.specs.Machine.{MarkPlace, at, Machine, cutMarks, present, fresh};
-ghost use Rattle.machine.specs.Rules.{changeRule};
-ghost use Rattle.marks.specs.Marked.{Marked};
-ghost use Rattle.journal.specs.Written.{Written};
-ghost use Rattle.queries.specs.Plans.{planS, OneEdit};
-ghost use Rattle.graph_tables.specs.Tables.{state};
+ghost use Rattle.history.specs.Machine.{fresh};
+ghost use Rattle.marks.specs.Marked.{markWords};
 ghost use Rattle.graph_tables.specs.Holds.{Holds};
 ghost use Rattle.graph_tables.specs.Capacities.{Sized};
-ghost use Rattle.history_calls.specs.Memory.{Memory, memory, entry, exit, capacityOf, tablesOf};
-ghost use Rattle.history_calls.specs.Represents.{Represents, Follows, Stands, Performs};
+ghost use Rattle.history_calls.specs.Memory.{Memory, memory, entry, tablesOf};
+ghost use Rattle.history_calls.specs.Represents.{Represents, Stands, Performs};
 ghost use Rattle.lists.specs.Choice.{_⇒_else_, _==_};
 ghost use Rattle.history_calls.specs.Outcomes.{
   standingCode,
@@ -58,28 +49,28 @@ pub struct Called {
 }
 
 // The same store, built word by word (see graph_tables::same).
-pub fn same(x: Store) -> Store
-    ensures { λ r. ⌜ r ≡ x ⌝ }
+pub fn same(store: Store) -> Store
+    ensures { λ r. ⌜ r ≡ store ⌝ }
 {
-    let head = graph_tables::same(x.current.head);
+    let head = graph_tables::same(store.current.head);
     Store {
         current: Current {
             head,
             position: Position {
-                place: x.current.position.place,
-                steps: x.current.position.steps,
-                used: x.current.position.used,
+                place: store.current.position.place,
+                steps: store.current.position.steps,
+                used: store.current.position.used,
             },
         },
-        set: x.set,
+        set: store.set,
     }
 }
 
 // A call that changes nothing.
-pub fn stay(x: Store, code: u32, number: u32) -> Called
-    ensures { λ r. ⌜ r ≡ done x code number ⌝ }
+pub fn stay(store: Store, code: u32, number: u32) -> Called
+    ensures { λ r. ⌜ r ≡ done store code number ⌝ }
 {
-    let store = same(x);
+    let store = same(store);
     Called {
         store,
         answer: Answer { code, number },
@@ -90,7 +81,7 @@ pub fn stay(x: Store, code: u32, number: u32) -> Called
 pub fn start(head: Head) -> Store
     ensures { λ r. ⌜ r ≡ begunAt head ⌝ }
     ensures { λ r. ⌜ ((b : Bounds) → (mem : Memory) → (g : Graph) → Sized b (tablesOf r mem) → Within b g
-        → Holds (tablesOf r mem) g → length (mem .journal) < 2 ^ 32 → length (mem .marks) ≡ 64
+        → Holds (tablesOf r mem) g → length (mem .journal) < 2 ^ 32 → length (mem .marks) ≡ markWords
         → Represents b r mem (fresh g)) ⌝ }
 {
     let position = timeline::begin();
@@ -101,76 +92,6 @@ pub fn start(head: Head) -> Store
     }
 }
 
-// A change at the present place: the marks above it go. Where no step is cut, none is above it.
-fn cut(set: u64, position: Position, marks: &[u32; 64]) -> u64
-    ensures { λ r. ⌜ ((ms : ℕ → MarkPlace) → Marked ms set (now (marks .entry))
-        → ((k q : ℕ) → ms k ≡ at q → q ≤ position .steps)
-        → Marked (cutMarks (position .place) ms) r (now (marks .entry))) ⌝ }
-{
-    if position.place == position.steps {
-        return set;
-    }
-    marks::cut_marks(set, marks, position.place)
-}
-
-// Kind 2, where its vertex is there: a row for each edge at it, and one for the vertex. It always alters the graph. The
-// words of tables and journal are left open, but for the machine that they stand for.
-pub fn delete_vertex(
-    x: Store,
-    vertices: &mut [u32],
-    edges: &mut [u32],
-    journal: &mut [u32],
-    marks: &[u32; 64],
-    a: u32,
-) -> Called
-    requires { ⌜ ((b : Bounds) × (m : Machine) × Allowed b (present m) (Change.DeleteVertex a)
-        × Represents b x (memory (now vertices) (now edges) (now journal) (now marks)) m) ⌝ }
-    ensures { λ r. ⌜ ((b : Bounds) → (m : Machine) → Allowed b (present m) (Change.DeleteVertex a)
-        → Represents b x (entry vertices edges journal marks) m
-        → Follows (changeRule (capacityOf (now (journal .entry))) (Change.DeleteVertex a)) m b r
-        (memory (now (vertices .exit)) (now (edges .exit)) (now (journal .exit)) (now (marks .entry)))) ⌝ }
-{
-    let old = x.current;
-    let cost = vertex_deletion::cost_of(old.head, vertices, edges, a);
-    let capacity = (journal.len() / 12) as u32;
-    let free = timeline::free_changes(old.position, capacity);
-    if free < cost {
-        return stay(x, 10, 0);
-    }
-    let current = vertex_deletion::make_step(old, vertices, edges, journal, a, cost);
-    let set = cut(x.set, old.position, marks);
-    Called {
-        store: Store { current, set },
-        answer: Answer {
-            code: 0,
-            number: cost,
-        },
-    }
-}
-
-// A change of one edit that altered the graph, was written down and carried out, and left this head: the step that it
-// is.
-pub fn made(x: Store, marks: &[u32; 64], head: Head, cost: u32) -> Called
-    requires { ⌜ (x .current .position .place + 1 < 2 ^ 32) × (x .current .position .used + cost < 2 ^ 32) ⌝ }
-    ensures { λ r. ⌜ ((b : Bounds) → (m : Machine) → (change : Change) → (vt et t vt′ et′ t′ : List ℕ)
-        → Allowed b (present m) change → alters change (present m) ≡ true → OneEdit change → cost ≡ 1
-        → x .current .position .used + 1 ≤ capacityOf t → Represents b x (memory vt et t (now (marks .entry))) m
-        → Written (planS change (state (x .current .head) vt et)) 1 (x .current .position .used)
-        (state (x .current .head) vt et) t (state head vt′ et′) t′
-        → Follows (changeRule (capacityOf t) change) m b r (memory vt′ et′ t′ (now (marks .entry)))) ⌝ }
-{
-    let old = x.current;
-    let current = timeline::lent::stepped(old, head, cost);
-    let set = cut(x.set, old.position, marks);
-    Called {
-        store: Store { current, set },
-        answer: Answer {
-            code: 0,
-            number: cost,
-        },
-    }
-}
-
 // Code 11, 13 or 0: mark a must stand.
 fn standing_code(set: u64, a: u32) -> u32
     ensures { λ r. ⌜ r ≡ standingCode set a ⌝ }
@@ -178,7 +99,7 @@ fn standing_code(set: u64, a: u32) -> u32
     if a == 0 {
         return 11;
     }
-    if 64 < a {
+    if MOST_MARKS < a {
         return 11;
     }
     if marks::stands(set, a) {
@@ -194,7 +115,7 @@ fn new_code(set: u64, a: u32) -> u32
     if a == 0 {
         return 11;
     }
-    if 64 < a {
+    if MOST_MARKS < a {
         return 11;
     }
     if marks::stands(set, a) {
@@ -237,10 +158,10 @@ fn end_code(place: u32, end: u32) -> u32
 }
 
 // Kind 19 is one step back, kind 20 one step on, kind 21 leads to the place of a mark. No other call leads anywhere.
-fn way_of(x: Store, marks: &[u32; 64], call: HistoryCall) -> Way
-    ensures { λ r. ⌜ r ≡ wayOf x (now (marks .entry)) call ⌝ }
+fn way_of(store: Store, marks: &[u32; marks::WORDS], call: HistoryCall) -> Way
+    ensures { λ r. ⌜ r ≡ wayOf store (now (marks .entry)) call ⌝ }
 {
-    let place = x.current.position.place;
+    let place = store.current.position.place;
     match call {
         HistoryCall::Undo => {
             let code = end_code(place, 0);
@@ -251,7 +172,7 @@ fn way_of(x: Store, marks: &[u32; 64], call: HistoryCall) -> Way
             }
         }
         HistoryCall::Redo => {
-            let code = end_code(place, x.current.position.steps);
+            let code = end_code(place, store.current.position.steps);
             Way {
                 code,
                 back: false,
@@ -259,7 +180,7 @@ fn way_of(x: Store, marks: &[u32; 64], call: HistoryCall) -> Way
             }
         }
         HistoryCall::GoTo(a) => {
-            let code = standing_code(x.set, a);
+            let code = standing_code(store.set, a);
             let q = marks::place_of(marks, a);
             let steps = marks::between(place, q);
             Way {
@@ -279,28 +200,28 @@ fn way_of(x: Store, marks: &[u32; 64], call: HistoryCall) -> Way
 // Kinds 19, 20 and 21: the steps on the way are undone or redone. Refused, it leaves every word; else those of the
 // tables are left open, but for the graph that they hold.
 fn go(
-    x: Store,
+    store: Store,
     vertices: &mut [u32],
     edges: &mut [u32],
     journal: &[u32],
-    marks: &[u32; 64],
+    marks: &[u32; marks::WORDS],
     call: HistoryCall,
 ) -> Called
-    requires { ⌜ Leads call × Stands x (memory (now vertices) (now edges) (now journal) (now marks)) ⌝ }
-    ensures { λ r. ⌜ Leaves x (entry vertices edges journal marks) r
+    requires { ⌜ Leads call × Stands store (memory (now vertices) (now edges) (now journal) (now marks)) ⌝ }
+    ensures { λ r. ⌜ Leaves store (entry vertices edges journal marks) r
         (memory (now (vertices .exit)) (now (edges .exit)) (now (journal .entry)) (now (marks .entry))) ⌝ }
-    ensures { λ r. ⌜ Performs call x (entry vertices edges journal marks) r
+    ensures { λ r. ⌜ Performs call store (entry vertices edges journal marks) r
         (memory (now (vertices .exit)) (now (edges .exit)) (now (journal .entry)) (now (marks .entry))) ⌝ }
 {
-    let w = way_of(x, marks, call);
+    let w = way_of(store, marks, call);
     if w.code != 0 {
-        return stay(x, w.code, 0);
+        return stay(store, w.code, 0);
     }
-    let current = timeline::go(x.current, vertices, edges, journal, w.back, w.steps);
+    let current = timeline::go(store.current, vertices, edges, journal, w.back, w.steps);
     Called {
         store: Store {
             current,
-            set: x.set,
+            set: store.set,
         },
         answer: Answer {
             code: 0,
@@ -310,16 +231,16 @@ fn go(
 }
 
 // Kind 17: mark a at the present place.
-fn set_mark(x: Store, marks: &mut [u32; 64], a: u32) -> Called
-    ensures { λ r. ⌜ r ≡ markSet x a ⌝ }
-    ensures { λ r. ⌜ now (marks .exit) ≡ placesSet x a (now (marks .entry)) ⌝ }
+fn set_mark(store: Store, marks: &mut [u32; marks::WORDS], a: u32) -> Called
+    ensures { λ r. ⌜ r ≡ markSet store a ⌝ }
+    ensures { λ r. ⌜ now (marks .exit) ≡ placesSet store a (now (marks .entry)) ⌝ }
 {
-    let current = x.current;
-    let code = new_code(x.set, a);
+    let current = store.current;
+    let code = new_code(store.set, a);
     if code != 0 {
-        return stay(x, code, 0);
+        return stay(store, code, 0);
     }
-    let set = marks::set_mark(x.set, marks, a, current.position.place);
+    let set = marks::set_mark(store.set, marks, a, current.position.place);
     Called {
         store: Store { current, set },
         answer: Answer { code: 0, number: 0 },
@@ -327,15 +248,15 @@ fn set_mark(x: Store, marks: &mut [u32; 64], a: u32) -> Called
 }
 
 // Kind 18: mark a goes.
-fn drop_mark(x: Store, a: u32) -> Called
-    ensures { λ r. ⌜ r ≡ markDropped x a ⌝ }
+fn drop_mark(store: Store, a: u32) -> Called
+    ensures { λ r. ⌜ r ≡ markDropped store a ⌝ }
 {
-    let current = x.current;
-    let code = standing_code(x.set, a);
+    let current = store.current;
+    let code = standing_code(store.set, a);
     if code != 0 {
-        return stay(x, code, 0);
+        return stay(store, code, 0);
     }
-    let set = marks::drop_mark(x.set, a);
+    let set = marks::drop_mark(store.set, a);
     Called {
         store: Store { current, set },
         answer: Answer { code: 0, number: 0 },
@@ -343,10 +264,10 @@ fn drop_mark(x: Store, a: u32) -> Called
 }
 
 // Kind 22: the present graph is the start, and no mark stands.
-fn commit(x: Store) -> Called
-    ensures { λ r. ⌜ r ≡ committed x ⌝ }
+fn commit(store: Store) -> Called
+    ensures { λ r. ⌜ r ≡ committed store ⌝ }
 {
-    let head = x.current.head;
+    let head = store.current.head;
     let position = timeline::begin();
     let set = marks::no_marks();
     Called {
@@ -356,68 +277,68 @@ fn commit(x: Store) -> Called
         },
         answer: Answer {
             code: 0,
-            number: x.current.position.place,
+            number: store.current.position.place,
         },
     }
 }
 
 // Kind 49: the steps between marks a and b.
-fn between(x: Store, marks: &[u32; 64], a: u32, b: u32) -> Called
-    ensures { λ r. ⌜ r ≡ betweenMarks x (now (marks .entry)) a b ⌝ }
+fn between(store: Store, marks: &[u32; marks::WORDS], a: u32, b: u32) -> Called
+    ensures { λ r. ⌜ r ≡ betweenMarks store (now (marks .entry)) a b ⌝ }
 {
-    let c = standing_code(x.set, a);
-    let d = standing_code(x.set, b);
+    let c = standing_code(store.set, a);
+    let d = standing_code(store.set, b);
     let code = both_code(c, d);
     if code != 0 {
-        return stay(x, code, 0);
+        return stay(store, code, 0);
     }
     let p = marks::place_of(marks, a);
     let q = marks::place_of(marks, b);
     let number = marks::between(p, q);
-    stay(x, 0, number)
+    stay(store, 0, number)
 }
 
 // Kind 50: how many marks stand.
-fn standing(x: Store) -> Called
-    ensures { λ r. ⌜ r ≡ marksStanding x ⌝ }
+fn standing(store: Store) -> Called
+    ensures { λ r. ⌜ r ≡ marksStanding store ⌝ }
 {
-    let number = marks::count_marks(x.set);
-    stay(x, 0, number)
+    let number = marks::count_marks(store.set);
+    stay(store, 0, number)
 }
 
 // Kind 51: free changes. The journal has fewer than 2 ^ 32 words, as code 103 saw to.
-fn free_changes(x: Store, journal: &[u32]) -> Called
+fn free_changes(store: Store, journal: &[u32]) -> Called
     requires { ⌜ length (now journal) < 2 ^ 32 ⌝ }
-    ensures { λ r. ⌜ r ≡ changesFree x (now (journal .entry)) ⌝ }
+    ensures { λ r. ⌜ r ≡ changesFree store (now (journal .entry)) ⌝ }
 {
     let capacity = (journal.len() / 12) as u32;
-    let number = timeline::free_changes(x.current.position, capacity);
-    stay(x, 0, number)
+    let number = timeline::free_changes(store.current.position, capacity);
+    stay(store, 0, number)
 }
 
 // Any history call. A refused one leaves every lent word; else those of the tables and marks are left open, but for
 // the machine that they stand for.
 pub fn perform(
-    x: Store,
+    store: Store,
     vertices: &mut [u32],
     edges: &mut [u32],
     journal: &[u32],
-    marks: &mut [u32; 64],
+    marks: &mut [u32; marks::WORDS],
     call: HistoryCall,
 ) -> Called
-    requires { ⌜ Stands x (memory (now vertices) (now edges) (now journal) (now marks)) ⌝ }
-    ensures { λ r. ⌜ Leaves x (entry vertices edges journal marks) r
+    requires { ⌜ Stands store (memory (now vertices) (now edges) (now journal) (now marks)) ⌝ }
+    ensures { λ r. ⌜ Leaves store (entry vertices edges journal marks) r
         (memory (now (vertices .exit)) (now (edges .exit)) (now (journal .entry)) (now (marks .exit))) ⌝ }
-    ensures { λ r. ⌜ Performs call x (entry vertices edges journal marks) r
+    ensures { λ r. ⌜ Performs call store (entry vertices edges journal marks) r
         (memory (now (vertices .exit)) (now (edges .exit)) (now (journal .entry)) (now (marks .exit))) ⌝ }
 {
     match call {
-        HistoryCall::SetMark(a) => set_mark(x, marks, a),
-        HistoryCall::DropMark(a) => drop_mark(x, a),
-        HistoryCall::Commit => commit(x),
-        HistoryCall::Between(a, b) => between(x, marks, a, b),
-        HistoryCall::Standing => standing(x),
-        HistoryCall::Free => free_changes(x, journal),
-        _ => go(x, vertices, edges, journal, marks, call),
+        HistoryCall::SetMark(a) => set_mark(store, marks, a),
+        HistoryCall::DropMark(a) => drop_mark(store, a),
+        HistoryCall::Commit => commit(store),
+        HistoryCall::Between(a, b) => between(store, marks, a, b),
+        HistoryCall::Standing => standing(store),
+        HistoryCall::Free => free_changes(store, journal),
+        _ => go(store, vertices, edges, journal, marks, call),
     }
 }

@@ -7,13 +7,14 @@ use native.Mathlib.Omega.{arith}
 use types.Run.{OneOf}
 use denote.Enum.Declared.{tagOf}
 use lib.ListN.{length, getD, drop, replicate, length-drop, length-replicate}
+use lib.Seq.{length-take-le}
 use borrow.Author.Tests.{eq-eqb, ne-eqb}
 use Rattle.lists.specs.Choice.{_==_, toBit}
 use Rattle.lists.specs.Lists.{member}
 use Rattle.graph.specs.WellFormed.{Bounds, wordsAt}
-use Rattle.image.specs.Image.{vertexOffset, edgeOffset, incidenceOffset, recordSize, soundHeader, vertexCount, edgeCount, part, edgesFrom}
+use Rattle.image.specs.Image.{vertexOffset, edgeOffset, incidenceOffset, recordSize, soundHeader, vertexCount, edgeCount, vertexPart, part, edgesFrom}
 use Rattle.image.specs.Checks.{bounds, vertexWalk, numbersIn, edgeWalk, degreeWalk, listWalk, soundCounts, ended, andThen, verdict}
-use Rattle.image.specs.Scratch.{vertexRun, vertexMarks, edgeRun, edgeDegrees, edgeOwners, degreeRun, incidenceRun, scratchRun}
+use Rattle.image.specs.Scratch.{vertexRun, vertexMarks, edgeRun, edgeDegrees, edgeOwners, degreeRun, incidenceRun, scratchRun, Ran}
 use Rattle.image.specs.declared.Verdict.{Verdict}
 use Rattle.image.specs.declared.Verdict.the-variants.{Sound, BadHeader}
 use Rattle.image.proofs.Verdict.{the-type}
@@ -128,17 +129,30 @@ module _ (ws : List ℕ) (h : soundHeader ws ≡ true) where
   incidences-few e he le is q =
       omega (arith, sound-length ws h, ap length (q ∙ part-3 ws h), length-drop (incidenceOffset (recordSize ws) (vertexCount ws) (edgeCount ws)) ws)
 
-  pub verdict-by : Small ws → (vcap ecap types size v e : ℕ) → vcap ≤ 1000 → ecap ≤ 4000 → size ≡ recordSize ws → v ≡ vertexCount ws → e ≡ edgeCount ws →
+  -- the records are all there
+  pub vertices-all : (size v : ℕ) → size ≡ recordSize ws → v ≡ vertexCount ws → (vs : List ℕ) → vs ≡ part 1 ws → size * v ≡ length vs
+  vertices-all size v hs hv vs q =
+      let n = recordSize ws * vertexCount ws in
+      let e : length (vertexPart (recordSize ws) ws) ≡ n = length-take-le n (drop vertexOffset ws) (omega (arith, sound-length ws h, length-drop vertexOffset ws)) in
+      rw (hs, hv) (sym e ∙ ap length (sym (q ∙ part-1 ws h)))
+
+  pub edges-all : (e : ℕ) → e ≡ edgeCount ws → (es : List ℕ) → es ≡ part 2 ws → 6 * e ≡ length es
+  edges-all e he es q =
+      let o = edgeOffset (recordSize ws) (vertexCount ws) in
+      let n = length-take-le (6 * edgeCount ws) (drop o ws) (omega (arith, sound-length ws h, length-drop o ws)) in
+      rw he (sym n ∙ ap length (sym (q ∙ part-2 ws h)))
+
+  pub verdict-by : Small ws → (vcap ecap types size v e : ℕ) → size ≡ recordSize ws → v ≡ vertexCount ws → e ≡ edgeCount ws →
       soundCounts vcap ecap v e ≡ true → (vs es is : List ℕ) → vs ≡ part 1 ws → es ≡ part 2 ws → is ≡ part 3 ws → (r : Verdict) →
-      r ≡ scratchRun (replicate 1001 0) (replicate 8002 0) (bounds vcap ecap types) size v e vs es is → r ≡ verdict (bounds vcap ecap types) ws
+      Ran (bounds vcap ecap types) size v e vs es is r → r ≡ verdict (bounds vcap ecap types) ws
   unfolding verdict
-  verdict-by m vcap ecap types size v e lv le hs hv he k vs es is p q s r g =
+  verdict-by m vcap ecap types size v e hs hv he k vs es is p q s r g =
       let k′ : soundCounts vcap ecap (vertexCount ws) (edgeCount ws) ≡ true = rw (hv, he) at k in
       let n = recordSize ws in
       let small : Small vs = subst (λ (l : List ℕ). Small l) (sym (p ∙ part-1 ws h)) (small-take (n * vertexCount ws) (drop vertexOffset ws) (small-drop vertexOffset ws m)) in
       let t =
-      scratch-agrees (replicate 1001 0) (replicate 8002 0) (zeros 1001) (zeros 8002) (bounds vcap ecap types) (rw length-replicate (omega arith)) (rw length-replicate (omega arith)) size v e vs es is small in
-      rw (h, k′) (rw (p ∙ part-1 ws h, q ∙ part-2 ws h, s ∙ part-3 ws h, hs, hv, he) at (g ∙ t))
+      scratch-agrees (replicate (g .degs) 0) (replicate (g .owns) 0) (zeros (g .degs)) (zeros (g .owns)) (bounds vcap ecap types) (rw length-replicate (g .vertices)) (rw length-replicate (g .edges)) size v e vs es is small in
+      rw (h, k′) (rw (p ∙ part-1 ws h, q ∙ part-2 ws h, s ∙ part-3 ws h, hs, hv, he) at (g .verdict ∙ t))
 
   -- without a vertex there is nothing to go through
   pub none-sound : Small ws → (vcap ecap types v e : ℕ) → vcap ≤ 1000 → ecap ≤ 4000 → v ≡ vertexCount ws → e ≡ edgeCount ws → soundCounts vcap ecap v e ≡ true → v ≡ 0 →
@@ -148,8 +162,8 @@ module _ (ws : List ℕ) (h : soundHeader ws ≡ true) where
       let y = counts-none vcap ecap v e k z in
       let few : length (part 3 ws) ≡ 0 =
       omega (arith, y, he, sound-length ws h, ap length (part-3 ws h), length-drop (incidenceOffset (recordSize ws) (vertexCount ws) (edgeCount ws)) ws) in
-      verdict-by m vcap ecap types (recordSize ws) v e lv le refl hv he k (part 1 ws) (part 2 ws) (part 3 ws) refl refl refl Sound
-      (rw (z, y) (sym (no-words (part 3 ws) few _)))
+      verdict-by m vcap ecap types (recordSize ws) v e refl hv he k (part 1 ws) (part 2 ws) (part 3 ws) refl refl refl Sound
+      (record { degs = 1001; owns = 8002; vertices = omega (arith, lv); edges = omega (arith, le); verdict = rw (z, y) (sym (no-words (part 3 ws) few _)) })
     where
       no-words : (is : List ℕ) → length is ≡ 0 → (at : ℕ) → ended is at ≡ Sound
       no-words [] l at = refl

@@ -1,17 +1,19 @@
 -- One turn of each loop: what a run says of the words from `at` on, by what stands there.
 use Prim.Native.Nat.{ℕ, zero, suc, _+_, _*_, _-_, _≤_, _<_}
 use mathlib.Core.Path.{_≡_, refl, sym, ap, ap₂, _∙_, subst}
-use mathlib.Core.Bool.{Bool, true, false, not, _&&_}
+use mathlib.Core.Bool.{Bool, true, false}
 use mathlib.Core.List.{List, [], _∷_}
 use native.Mathlib.Omega.{arith}
 use native.Mathlib.Nat.{add-zero}
-use lib.Dec.{leb, ltb, eqb}
+use lib.Dec.{eqb}
 use lib.ListN.{length, getD, drop, set, replicate, drop-of-length-le}
 use lib.Seq.{drop-cons, drop-drop, getD-drop}
-use borrow.Author.Tests.{eq-eqb, ne-eqb, lt-ltb, le-ltb, leb-true}
-use Rattle.lists.specs.Choice.{_==_, _⇒_else_}
-use Rattle.graph.specs.Graph.{isReading}
-use Rattle.image.specs.Checks.{goodVertex, goodEdge}
+use borrow.Author.Tests.{eq-eqb, ne-eqb, lt-ltb, le-ltb, ltb-true}
+use Rattle.lists.specs.Choice.{_==_, _⇒_else_, within}
+use Rattle.lists.proofs.Bools.{within-range}
+use Rattle.lists.proofs.Picks.{same?, same, differ}
+use Rattle.image.specs.Checks.{goodVertex, goodFields, goodEdge}
+use Rattle.image.proofs.Verdicts.{vertex-ok, edge-ok}
 use Rattle.image.specs.Scratch.{NoneAbove, bumped, withEnds, owned, edgeGood, edgeEnds, edgeOwned, vertexRun, vertexMarks, edgeRun, edgeDegrees, edgeOwners, degreeRun, listRun, listOwners, incidenceRun}
 use Rattle.image.specs.declared.Verdict.the-variants.{Sound, BadRecord, BadIncidence}
 
@@ -31,6 +33,10 @@ module _ (count i : ℕ) (ws : List ℕ) (from at : ℕ) (turn : i < count) wher
 
   along : (size : ℕ) → from + at + size ≡ from + (at + size)
   along size = omega arith
+
+  -- the records left are those behind this one, and it
+  pub row-next : (size n : ℕ) → at + size * (count - i) ≡ n → at + size + size * (count - (i + 1)) ≡ n
+  row-next size n e = let f : at + size * suc (count - (i + 1)) ≡ n = subst (λ (k : ℕ). at + size * k ≡ n) left e in omega (arith, f)
 
   module _ (size cap types : ℕ) (deg : List ℕ) (g : ℕ) (good : g ≡ goodVertex cap types (eqb (getD deg (getD ws at 0) 0) 0) (getD ws at 0) (getD ws (at + 1) 0) 0) where
     pub vertex-stop : g < 3 → BadRecord (from + at + g) ≡ vertexRun size cap types deg (count - i) (drop at ws) (from + at)
@@ -105,19 +111,32 @@ module _ (count i : ℕ) (ws : List ℕ) (at : ℕ) (over : count ≤ i) where
   unfolding degreeRun
   degree-end size deg = rw none
 
--- a good edge record's number is within the capacity
-good-number : (cap types : ℕ) (f a o : Bool) (n t k d : ℕ) → 6 ≤ goodEdge cap types f a o n t k d → n ≤ cap
-unfolding goodEdge
-good-number cap types f a o n t k d h = go (leb 1 n) (leb n cap) refl h
-  where
-    go : (x y : Bool) → leb n cap ≡ y →
-        6 ≤ (not ((x && y) && f) ⇒ 0 else not a ⇒ 1 else not o ⇒ 2 else not (ltb t types) ⇒ 3 else not (leb k 2) ⇒ 4 else not (isReading k d) ⇒ 5 else 6) → n ≤ cap
-    go true true e h = leb-true n cap e
-    go true false e h = absurd (omega arith)
-    go false y e h = absurd (omega arith)
+-- ---- where good records lead
 
-pub good-at : (cap types : ℕ) (deg own ws : List ℕ) (at g : ℕ) → g ≡ edgeGood cap types deg own ws at → 6 ≤ g → getD ws at 0 ≤ cap
-good-at cap types deg own ws at g e h = good-number cap types _ _ _ (getD ws at 0) _ _ _ (subst (λ (k : ℕ). 6 ≤ k) e h)
+-- a word that is not 0 is not past the end
+inside : (s : List ℕ) (i : ℕ) → 0 < getD s i 0 → i < length s
+inside [] i h = absurd (omega arith)
+inside (x ∷ s) zero h = omega arith
+inside (x ∷ s) (suc i) h = omega (arith, inside s i h)
+
+-- the number of a good vertex record is within the capacity
+pub vertex-in : (cap types : ℕ) (fresh : Bool) (n t g : ℕ) → g ≡ goodVertex cap types fresh n t 0 → 3 ≤ g → n ≤ cap
+vertex-in cap types fresh n t g e h = within-range 1 cap n (vertex-ok cap types fresh n t 0 (subst (λ (k : ℕ). 3 ≤ k) e h) .number) .1
+
+-- so is that of a good edge record, and its ends have counts
+pub record EdgeIn (cap : ℕ) (deg ws : List ℕ) (at : ℕ) : Type 0 where
+  pub number : getD ws at 0 ≤ cap
+  pub alpha : getD ws (at + 1) 0 < length deg
+  pub omega : getD ws (at + 2) 0 < length deg
+
+pub edge-in : (cap types : ℕ) (deg own ws : List ℕ) (at g : ℕ) → g ≡ edgeGood cap types deg own ws at → 6 ≤ g → EdgeIn cap deg ws at
+edge-in cap types deg own ws at g e h =
+    let k = edge-ok cap types _ _ _ (getD ws at 0) _ _ _ (subst (λ (m : ℕ). 6 ≤ m) e h) in
+    record {
+      number = within-range 1 cap (getD ws at 0) (k .number) .1;
+      alpha = inside deg (getD ws (at + 1) 0) (ltb-true 0 (getD deg (getD ws (at + 1) 0) 0) (k .starts));
+      omega = inside deg (getD ws (at + 2) 0) (ltb-true 0 (getD deg (getD ws (at + 2) 0) 0) (k .stops));
+    }
 
 -- ---- one vertex's list
 
@@ -128,7 +147,7 @@ module _ (v d k i : ℕ) (own ws : List ℕ) (turn : k < d) where
   more-left : d - k ≡ suc (d - (k + 1))
   more-left = omega arith
 
-  pub list-end : length ws ≤ i → listRun v (d - k) own (drop i ws) ≡ 0
+  list-end : length ws ≤ i → listRun v (d - k) own (drop i ws) ≡ 0
   unfolding listRun
   list-end h = rw (more-left, drop-of-length-le ws h)
 
@@ -144,9 +163,16 @@ module _ (v d k i : ℕ) (own ws : List ℕ) (turn : k < d) where
   unfolding listOwners
   list-owners h = rw (more-left, step-at ws i h)
 
-pub list-done : (v d k : ℕ) (own ws : List ℕ) → d ≤ k → (listRun v (d - k) own ws ≡ 0) × (listOwners (d - k) own ws ≡ own)
+list-done : (v d k : ℕ) (own ws : List ℕ) → d ≤ k → (listRun v (d - k) own ws ≡ 0) × (listOwners (d - k) own ws ≡ own)
 unfolding listRun listOwners
 list-done v d k own ws h = let e : d - k ≡ 0 = omega arith in (rw e, rw e)
+
+-- where d words are found, or no word is left, the list is gone through
+pub list-over : (v d k i : ℕ) (own ws : List ℕ) → k ≤ d → (k < d → length ws ≤ i) → (listRun v (d - k) own (drop i ws) ≡ 0) × (k ≡ d → listOwners (d - k) own (drop i ws) ≡ own)
+list-over v d k i own ws le h = elim (same? k d) [
+  | same e f ↦ let r = list-done v d k own (drop i ws) (omega (arith, e)) in (r .0, λ q. r .1)
+  | differ e f ↦ (list-end v d k i own ws (omega (arith, le, e)) (h (omega (arith, le, e))), λ q. absurd (e q))
+]
 
 pub list-le : (v d : ℕ) (own ws : List ℕ) → (listRun v d own ws ≤ d) × (listRun v d own ws ≤ length ws)
 unfolding listRun
@@ -215,7 +241,7 @@ unfolding vertexMarks
 below-marks size deg zero ws b = b
 below-marks size deg (suc k) ws b = below-marks size (set deg (getD ws 0 0) 1) k (drop size ws) (below-set 1 deg (getD ws 0 0) 1 b (omega arith))
 
-below-zeros : (n k : ℕ) → NoneAbove k (replicate n 0)
+pub below-zeros : (n k : ℕ) → NoneAbove k (replicate n 0)
 below-zeros zero k i = omega arith
 below-zeros (suc n) k zero = omega arith
 below-zeros (suc n) k (suc i) = below-zeros n k i
@@ -238,14 +264,38 @@ pub edge-owned-by : (own s ws : List ℕ) (at n a o : ℕ) → n ≡ getD ws at 
 edge-owned-by own s ws at n a o e f g h = cc
 
 -- no count is above 1 once the vertices are marked
-pub below-marked : (d : List ℕ) (n size k : ℕ) (ws : List ℕ) → d ≡ vertexMarks size (replicate n 0) k ws → NoneAbove 1 d
-below-marked d n size k ws e = subst (λ (l : List ℕ). NoneAbove 1 l) (sym e) (below-marks size (replicate n 0) k ws (below-zeros n 1))
+pub below-marked : (d deg : List ℕ) (size k : ℕ) (ws : List ℕ) → NoneAbove 0 deg → d ≡ vertexMarks size deg k ws → NoneAbove 1 d
+below-marked d deg size k ws b e = subst (λ (l : List ℕ). NoneAbove 1 l) (sym e) (below-marks size deg k ws (below-more 0 1 deg (omega arith) b))
 
-pub edge-by : (cap types : ℕ) (deg own ws : List ℕ) (at n m f a fa o fo t k d r : ℕ) →
-    n ≡ getD ws at 0 → m ≡ n → f ≡ getD own (2 * m) 0 → a ≡ getD ws (at + 1) 0 → fa ≡ getD deg a 0 → o ≡ getD ws (at + 2) 0 → fo ≡ getD deg o 0 →
-    t ≡ getD ws (at + 3) 0 → k ≡ getD ws (at + 4) 0 → d ≡ getD ws (at + 5) 0 →
-    r ≡ goodEdge cap types (eqb f 0) (ltb 0 fa) (ltb 0 fo) n t k d → r ≡ edgeGood cap types deg own ws at
-edge-by cap types deg own ws at n m f a fa o fo t k d r e1 e2 e3 e4 e5 e6 e7 e8 e9 e10 e = cc
+-- the words of an edge record in turn: the first that is bad says how many are sound
+module _ (cap types : ℕ) (deg own ws : List ℕ) (at n : ℕ) (number : n ≡ getD ws at 0) where
+  pub edge-unnumbered : within 1 cap n ≡ false → 0 ≡ edgeGood cap types deg own ws at
+  unfolding goodEdge
+  edge-unnumbered h = rw (← number, h)
+
+  module _ (numbered : within 1 cap n ≡ true) (m f : ℕ) (wide : m ≡ n) (found : f ≡ getD own (2 * m) 0) where
+    held : f ≡ getD own (2 * n) 0
+    held = found ∙ ap (λ (k : ℕ). getD own (2 * k) 0) wide
+
+    pub edge-twice : (f ≡ 0 → ⊥) → 0 ≡ edgeGood cap types deg own ws at
+    unfolding goodEdge
+    edge-twice h = rw (← number, numbered, ← held, ne-eqb f 0 h)
+
+    module _ (fresh : f ≡ 0) (a x : ℕ) (alpha : a ≡ getD ws (at + 1) 0) (out : x ≡ getD deg a 0) where
+      pub edge-no-start : x ≡ 0 → 1 ≡ edgeGood cap types deg own ws at
+      unfolding goodEdge
+      edge-no-start h = rw (← number, numbered, ← held, eq-eqb f 0 fresh, ← alpha, ← out, le-ltb 0 x (omega (arith, h)))
+
+      module _ (starts : x ≡ 0 → ⊥) (o y : ℕ) (omega-word : o ≡ getD ws (at + 2) 0) (into : y ≡ getD deg o 0) where
+        pub edge-no-stop : y ≡ 0 → 2 ≡ edgeGood cap types deg own ws at
+        unfolding goodEdge
+        edge-no-stop h =
+            rw (← number, numbered, ← held, eq-eqb f 0 fresh, ← alpha, ← out, lt-ltb 0 x (omega (arith, starts)), ← omega-word, ← into, le-ltb 0 y (omega (arith, h)))
+
+        pub edge-fields : (y ≡ 0 → ⊥) → (t k d g : ℕ) → t ≡ getD ws (at + 3) 0 → k ≡ getD ws (at + 4) 0 → d ≡ getD ws (at + 5) 0 → g ≡ goodFields types t k d → g ≡ edgeGood cap types deg own ws at
+        unfolding goodEdge
+        edge-fields h t k d g e1 e2 e3 e =
+            rw (← number, numbered, ← held, eq-eqb f 0 fresh, ← alpha, ← out, lt-ltb 0 x (omega (arith, starts)), ← omega-word, ← into, lt-ltb 0 y (omega (arith, h)), ← e1, ← e2, ← e3) e
 
 pub vertex-by : (cap types : ℕ) (deg ws : List ℕ) (at n m f t r : ℕ) → n ≡ getD ws at 0 → m ≡ n → f ≡ getD deg m 0 → t ≡ getD ws (at + 1) 0 →
     r ≡ goodVertex cap types (eqb f 0) n t 0 → r ≡ goodVertex cap types (eqb (getD deg (getD ws at 0) 0) 0) (getD ws at 0) (getD ws (at + 1) 0) 0

@@ -8,6 +8,7 @@ use Rattle.lists.specs.Choice.{_⇒_else_, _==_, within}
 use Rattle.lists.specs.Lists.{member}
 use Rattle.lists.specs.Keyed.{removeBy}
 use Rattle.graph.specs.Graph.{Edge, itself, isReading}
+use Rattle.graph.specs.Limits.{mostVertices, mostEdges}
 use Rattle.graph.specs.WellFormed.{Bounds, wordsAt}
 use Rattle.image.specs.Image.{
   vertexSize,
@@ -50,7 +51,7 @@ abbrev pub smaller : ℕ → ℕ → ℕ
 smaller limit n = ltb limit n ⇒ limit else n
 
 abbrev pub checked : ℕ → ℕ → ℕ → Bounds
-checked vertices edges types = bounds (smaller 1000 vertices) (smaller 4000 edges) types
+checked vertices edges types = bounds (smaller mostVertices vertices) (smaller mostEdges edges) types
 
 -- ---- one record
 
@@ -59,11 +60,13 @@ unfoldable pub goodVertex : ℕ → ℕ → Bool → ℕ → ℕ → ℕ → ℕ
 goodVertex cap types fresh n t x =
     not (within 1 cap n && fresh) ⇒ 0 else not (ltb t types) ⇒ 1 else not (ltb x (2 ^ 32)) ⇒ 2 else 3
 
--- how many words an edge record begins with are sound: 6 is all
+-- how many words an edge record begins with are sound: 6 is all; first where its number and both ends are
+abbrev pub goodFields : ℕ → ℕ → ℕ → ℕ → ℕ
+goodFields types t k d = not (ltb t types) ⇒ 3 else not (leb k 2) ⇒ 4 else not (isReading k d) ⇒ 5 else 6
+
 unfoldable pub goodEdge : ℕ → ℕ → Bool → Bool → Bool → ℕ → ℕ → ℕ → ℕ → ℕ
 goodEdge cap types fresh from to n t k d =
-    not (within 1 cap n && fresh) ⇒ 0 else not from ⇒ 1 else not to ⇒ 2 else not (ltb t types) ⇒ 3
-    else not (leb k 2) ⇒ 4 else not (isReading k d) ⇒ 5 else 6
+    not (within 1 cap n && fresh) ⇒ 0 else not from ⇒ 1 else not to ⇒ 2 else goodFields types t k d
 
 -- a record at `at` of which `good` words of `size` are sound, and what the rest says
 abbrev pub recordAt : ℕ → ℕ → ℕ → Verdict → Verdict

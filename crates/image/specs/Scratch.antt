@@ -1,9 +1,10 @@
 -- The same walks over scratch tables in place of lists: one lookup a word, so that a check is linear.
 -- deg has, for a vertex's number, 1 + its ends so far;
 -- own has, for an oriented word, its vertex until the word is used.
-use Prim.Native.Nat.{ℕ, zero, suc, _+_, _-_, _≤_}
+use Prim.Native.Nat.{ℕ, zero, suc, _+_, _*_, _-_, _≤_, _<_}
+use mathlib.Core.Path.{_≡_}
 use mathlib.Core.List.{List, [], _∷_}
-use lib.ListN.{getD, drop, set}
+use lib.ListN.{getD, drop, set, replicate}
 use lib.Dec.{ltb}
 use Rattle.lists.specs.Choice.{_⇒_else_, _==_}
 use Rattle.graph.specs.Graph.{outWord, inWord}
@@ -109,3 +110,15 @@ scratchRun deg own b size v e vs es is =
     (andThen (edgeRun (b .edges) (b .types) marks own e es (edgeOffset size v))
     (andThen (degreeRun size (edgeDegrees marks e es) v vs vertexOffset)
     (incidenceRun size (edgeDegrees marks e es) (edgeOwners own e es) v vs is (incidenceOffset size v e))))
+
+-- the verdict of the four passes over some scratch that is 0 and has room for the capacities
+pub record Ran (b : Bounds) (size v e : ℕ) (vs es is : List ℕ) (r : Verdict) : Type 0 where
+  pub degs : ℕ
+  pub owns : ℕ
+  pub vertices : b .vertices < degs
+  pub edges : 2 * b .edges + 1 < owns
+  pub verdict : r ≡ scratchRun (replicate degs 0) (replicate owns 0) b size v e vs es is
+
+-- capacities of up to so many have smaller scratch
+abbrev pub smallMost : ℕ
+smallMost = 127

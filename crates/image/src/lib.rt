@@ -1,10 +1,12 @@
 // The image of a graph: whether words can be loaded, and their parts. REFERENCE 10.5 to 10.7.
 pub mod layout; // layout.rt: the words of header and records, where the parts begin, and which records words have
-mod words; // words.rt: words of slices, with nothing past the end
+mod words; // words.rt: words of slices, at any place or at one known to be there
 mod header; // header.rt: the header and the counts in it
 mod records; // records.rt: one vertex record, one edge record
 mod passes; // passes.rt: each part in turn, over scratch
 
+use graph::MOST_EDGES;
+use graph::MOST_VERTICES;
 ghost use mathlib.Core.Path.{_≡_};
 ghost use Prim.Native.Nat.{_<_, _^_};
 ghost use Rattle.image.specs.Image.{part as partOf};
@@ -81,10 +83,10 @@ pub fn check(words: &[u32], vertices: u32, edges: u32, types: u32) -> Verdict
     if !header::sound(words) {
         return Verdict::BadHeader;
     }
-    let v = words::get(words, 0);
-    let e = words::get(words, 1);
-    let vcap = header::smaller(1000, vertices);
-    let ecap = header::smaller(4000, edges);
+    let v = lists::get(words, 0);
+    let e = lists::get(words, 1);
+    let vcap = header::smaller(MOST_VERTICES, vertices);
+    let ecap = header::smaller(MOST_EDGES, edges);
     if !header::counts(vcap, ecap, v, e) {
         return Verdict::BadHeader;
     }

@@ -1,8 +1,8 @@
 // One record: how many of its words are sound.
 ghost use mathlib.Core.Path.{_≡_};
-ghost use Rattle.lists.specs.Choice.{within};
+ghost use Rattle.lists.specs.Choice.{_⇒_else_, _==_, within};
 ghost use Rattle.graph.specs.Graph.{isReading};
-ghost use Rattle.image.specs.Checks.{goodVertex, goodEdge};
+ghost use Rattle.image.specs.Checks.{goodVertex, goodFields};
 
 pub fn numbered(cap: u32, n: u32) -> bool
     ensures { λ r. ⌜ r ≡ within 1 cap n ⌝ }
@@ -13,16 +13,23 @@ pub fn numbered(cap: u32, n: u32) -> bool
     n <= cap
 }
 
+// The most decimetres that a reading of this kind has.
+fn most(kind: u32) -> u32
+    ensures { λ r. ⌜ r ≡ ((kind == 2) ⇒ 9999 else 0) ⌝ }
+{
+    if kind == 2 {
+        return 9999;
+    }
+    0
+}
+
 pub fn reading(k: u32, d: u32) -> bool
     ensures { λ r. ⌜ r ≡ isReading k d ⌝ }
 {
-    if k <= 1 {
-        return d == 0;
+    if 2 < k {
+        return false;
     }
-    if k == 2 {
-        return d <= 9999;
-    }
-    false
+    d <= most(k)
 }
 
 // Of 3: number, type, value. A word is always a value.
@@ -41,39 +48,17 @@ pub fn good_vertex(cap: u32, types: u32, fresh: bool, n: u32, t: u32) -> u32
     1
 }
 
-// Of 6: number, alpha, omega, type, reading kind, decimetres.
-pub fn good_edge(
-    cap: u32,
-    types: u32,
-    fresh: bool,
-    from: bool,
-    to: bool,
-    n: u32,
-    t: u32,
-    k: u32,
-    d: u32,
-) -> u32
-    ensures { λ r. ⌜ r ≡ goodEdge cap types fresh from to n t k d ⌝ }
+// Of the 6 words of an edge record, behind number, alpha and omega: type, reading kind, decimetres.
+pub fn good_fields(types: u32, sort: u32, kind: u32, heard: u32) -> u32
+    ensures { λ r. ⌜ r ≡ goodFields types sort kind heard ⌝ }
 {
-    if !numbered(cap, n) {
-        return 0;
-    }
-    if !fresh {
-        return 0;
-    }
-    if !from {
-        return 1;
-    }
-    if !to {
-        return 2;
-    }
-    if types <= t {
+    if types <= sort {
         return 3;
     }
-    if 2 < k {
+    if 2 < kind {
         return 4;
     }
-    if !reading(k, d) {
+    if !reading(kind, heard) {
         return 5;
     }
     6

@@ -21,14 +21,17 @@ use Rattle.graph.specs.Edits.{attach}
 use Rattle.graph.proofs.Orders.{key-find}
 use Rattle.graph.proofs.Moves.{attach-last}
 use Rattle.image.specs.Image.{incidencesOf, load}
-use Rattle.graph_tables.specs.Tables.{State, incidenceLinks, vertexListEnds, endsAt, vlast, wthis, HalfRowIn, attachS, CanAttach}
+use Rattle.linked_lists.specs.declared.Ends.{Ends}
+use Rattle.linked_lists.specs.Links.{insertT, insertE, CanAppend}
+use Rattle.graph_tables.specs.Tables.{State, state, incidenceLinks, vertexListEnds, endsAt, putEnds, vlast, wthis, VertexRowIn, HalfRowIn, attachS, CanAttach}
+use Rattle.graph_tables.proofs.Steps.{attached}
 use Rattle.graph_tables.specs.Holds.{Core}
 use Rattle.graph_tables.proofs.Frames.{valid-i, row-v}
 use Rattle.graph_tables.proofs.Refines.{word-in}
 use Rattle.graph_tables.proofs.WordLaws.{can-attach, core-attach}
 use Rattle.image_tables.specs.Filling.{filled, wordS, CanWord, CanLoad}
 use Rattle.image_tables.proofs.Cuts.{count-append, count-here, count-map, map-same, keep-append, keep-all, keep-none, count-keep, read-first}
-use Rattle.linked_lists.proofs.Model.{held-last}
+use Rattle.linked_lists.proofs.Model.{held-last, held-end}
 use Rattle.image_tables.proofs.Parts.{given}
 use Rattle.image_tables.proofs.Fills.{Fill, Turn, fill-next}
 
@@ -165,44 +168,55 @@ module _ (g : Graph) (wf : WellFormed g) where
     edge : countBy edgeNumber (w / 2) (g .eseq) ≡ 1
     edge = word-edge w (subst (λ (l : List ℕ). 1 ≤ countBy itself w l) q (count-here itself ws w rest))
 
-    here : HalfRowIn (s .et) w
+    here : HalfRowIn (s .edges) w
     here = word-in s vs (g .eseq) c w (omega (arith, edge))
 
-    seen : wthis (s .et) w ≡ v
+    seen : wthis (s .edges) w ≡ v
     seen = c .this w (here .0)
 
     there : countBy vertexNumber v vs ≡ 1
     there = count-map vertexNumber (filled (g .eseq) ws) (λ y. refl) v (g .vseq) ∙ wf .ends w edge
 
     real : 1 ≤ v
-    real = row-v (s .vt) (vertexListEnds (s .head)) vs (c .vseq) v (omega (arith, there)) .0
+    real = row-v (s .vertices) (vertexListEnds (s .head)) vs (c .vseq) v (omega (arith, there)) .0
 
     free : (u : ℕ) → countBy itself w (listIn vs u) ≡ 0
     free u = omega (arith, count-filled (g .eseq) ws w u (g .vseq), count-append itself w ws (w ∷ rest), is-yes w w refl, ap (countBy itself w) q, word-once w)
 
-    last : vlast (s .vt) v ≡ lastBy itself 0 (listIn vs v)
-    last = held-last incidenceLinks (s .et) (endsAt (s .vt) v) (listIn vs v) (c .lists v real)
+    last : vlast (s .vertices) v ≡ lastBy itself 0 (listIn vs v)
+    last = held-last incidenceLinks (s .edges) (endsAt (s .vertices) v) (listIn vs v) (c .lists v real)
 
-    place : 1 ≤ indicator 0 (vlast (s .vt) v) + countBy itself (vlast (s .vt) v) (listIn vs v)
+    place : 1 ≤ indicator 0 (vlast (s .vertices) v) + countBy itself (vlast (s .vertices) v) (listIn vs v)
     place = rw last (last-in itself 0 (listIn vs v))
+
+    can : CanAttach v (vlast (s .vertices) v) w s
+    can = can-attach v (vlast (s .vertices) v) w s vs (g .eseq) c there free place here
+
+    can-last : CanAppend incidenceLinks (s .edges) (endsAt (s .vertices) v) w
+    can-last = record {
+      back = can .back;
+      node = λ z. omega (arith, here .0, z);
+      end = held-end incidenceLinks (s .edges) (endsAt (s .vertices) v) (listIn vs v) (c .lists v real);
+    }
 
     can-word : CanWord w s
     can-word = record {
       word = here;
-      back = subst (λ (x : ℕ). CanAttach x (vlast (s .vt) x) w s) (sym seen) (can-attach v (vlast (s .vt) v) w s vs (g .eseq) c there free place here);
+      row = subst (λ (x : ℕ). VertexRowIn (s .vertices) x) (sym seen) (can .row);
+      back = subst (λ (x : ℕ). CanAppend incidenceLinks (s .edges) (endsAt (s .vertices) x) w) (sym seen) can-last;
     }
 
-    next-list : attach vs v (vlast (s .vt) v) w ≡ map (filled (g .eseq) (ws ++ w ∷ [])) (g .vseq)
+    next-list : attach vs v (vlast (s .vertices) v) w ≡ map (filled (g .eseq) (ws ++ w ∷ [])) (g .vseq)
     next-list =
         ap (λ (p : ℕ). attach vs v p w) last
-        ∙ attach-last vs v w (λ n. omega (arith, count-map vertexNumber (filled (g .eseq) ws) (λ y. refl) n (g .vseq), wf .vorder n)) (ordered incidenceLinks (s .et) (endsAt (s .vt) v) (listIn vs v) valid-i (c .lists v real))
+        ∙ attach-last vs v w (λ n. omega (arith, count-map vertexNumber (filled (g .eseq) ws) (λ y. refl) n (g .vseq), wf .vorder n)) (ordered incidenceLinks (s .edges) (endsAt (s .vertices) v) (listIn vs v) valid-i (c .lists v real))
         ∙ append-filled (g .eseq) ws w (g .vseq)
 
     next-word : WCore g (wordS w s) (ws ++ w ∷ [])
     unfolding wordS
     next-word =
-        subst (λ (x : ℕ). Core (attachS x (vlast (s .vt) x) w s) (map (filled (g .eseq) (ws ++ w ∷ [])) (g .vseq)) (g .eseq)) (sym seen)
-        (subst (λ (l : List Vertex). Core (attachS v (vlast (s .vt) v) w s) l (g .eseq)) next-list (core-attach v (vlast (s .vt) v) w s vs (g .eseq) c there free place here))
+        subst (λ (x : ℕ). Core (attachS x (vlast (s .vertices) x) w s) (map (filled (g .eseq) (ws ++ w ∷ [])) (g .vseq)) (g .eseq)) (sym seen)
+        (subst (λ (l : List Vertex). Core (attachS v (vlast (s .vertices) v) w s) l (g .eseq)) next-list (core-attach v (vlast (s .vertices) v) w s vs (g .eseq) c there free place here))
 
   -- the next word of the part
   module _ (part : List ℕ) (s : State) (at : ℕ) (t : Turn (λ x. x ∷ []) (WCore g) words part s at) where
@@ -217,22 +231,25 @@ module _ (g : Graph) (wf : WellFormed g) where
 
 -- ---- for callers: a turn of the pass
 
-module _ (words vt₀ et₀ : List ℕ) (k : CanLoad words vt₀ et₀) (part : List ℕ) (s : State) (at : ℕ)
+module _ (words vertices₀ edges₀ : List ℕ) (k : CanLoad words vertices₀ edges₀) (part : List ℕ) (s : State) (at : ℕ)
     (t : Turn (λ x. x ∷ []) (WCore (load words)) (concatMap incidencesOf (load words .vseq)) part s at) where
   pub turn-can : CanWord (getD part at 0) s
-  turn-can = can-here (load words) (given words vt₀ et₀ k .formed) part s at t
+  turn-can = can-here (load words) (given words vertices₀ edges₀ k .formed) part s at t
 
   pub turn-next : (s′ : State) → s′ ≡ wordS (getD part at 0) s → Fill (λ x. x ∷ []) (WCore (load words)) (concatMap incidencesOf (load words .vseq)) part s′ (at + 1)
   turn-next s′ e =
       fill-next (λ x. x ∷ []) (WCore (load words)) (concatMap incidencesOf (load words .vseq)) part s at t 1 refl s′
-      (subst (λ (r : State). WCore (load words) r (t .past ++ t .here ∷ [])) (sym e) (next-here (load words) (given words vt₀ et₀ k .formed) part s at t))
+      (subst (λ (r : State). WCore (load words) r (t .past ++ t .here ∷ [])) (sym e) (next-here (load words) (given words vertices₀ edges₀ k .formed) part s at t))
 
 -- ---- for callers: the steps of `word`
 
-module _ (w : ℕ) (s : State) {v p : ℕ} (e : v ≡ wthis (s .et) w) (f : p ≡ vlast (s .vt) v) where
-  pub word-can : CanWord w s → CanAttach v p w s
+module _ (w : ℕ) (s : State) {v : ℕ} {o : Ends} (e : v ≡ wthis (s .edges) w) (f : o ≡ endsAt (s .vertices) v) where
+  pub word-can : CanWord w s → CanAppend incidenceLinks (s .edges) o w
   word-can c = rw (f, e) (c .back)
 
-  pub word-did : {s′ : State} → s′ ≡ attachS v p w s → s′ ≡ wordS w s
+  pub word-did : {r : Ends} {vertices′ edges′ : List ℕ} → (edges′ ≡ insertT incidenceLinks (s .edges) o (o .last) w) × (r ≡ insertE incidenceLinks (s .edges) o (o .last) w) → vertices′ ≡ putEnds v r (s .vertices) →
+      state (s .head) vertices′ edges′ ≡ wordS w s
   unfolding wordS
-  word-did q = q ∙ ap₂ (λ (x y : ℕ). attachS x y w s) e (f ∙ ap (vlast (s .vt)) e)
+  word-did b c =
+      attached (s .head) (s .vertices) (s .edges) v (o .last) w f b c
+      ∙ ap₂ (λ (x y : ℕ). attachS x y w s) e (ap (λ (x : Ends). x .last) f ∙ ap (vlast (s .vertices)) e)

@@ -11,10 +11,9 @@ use Rattle.lists.proofs.Picks.{is-yes, is-zero}
 use Rattle.lists.proofs.Places.{last-in, ins-last}
 use Rattle.linked_lists.specs.declared.LinkLayout.{LinkLayout}
 use Rattle.linked_lists.specs.declared.Ends.{Ends}
-use Rattle.linked_lists.specs.Links.{ValidLayout, Held}
+use Rattle.linked_lists.specs.Links.{ValidLayout, Held, insertT, insertE, CanAppend}
 use Rattle.linked_lists.proofs.Counted.{ordered}
-use Rattle.graph.specs.declared.Reading.{Reading}
-use Rattle.graph.specs.Graph.{Vertex, Edge, Graph, vertexNumber, edgeNumber, readingOf}
+use Rattle.graph.specs.Graph.{Vertex, Edge, Graph, vertexNumber, edgeNumber, readingKind, decimetres, readingOf, IsWords}
 use Rattle.graph.specs.WellFormed.{Bounds, Ordered, WellFormed, VertexIn, EdgeIn, Within}
 use Rattle.graph.specs.Edits.{WordsFit}
 use Rattle.graph.proofs.Readings.{reading-back}
@@ -22,7 +21,8 @@ use Rattle.image.specs.Image.{vertexRecord, edgeRecord, recordSize, load}
 use Rattle.image.proofs.Sizes.{size-range, record-size}
 use Rattle.image.proofs.RecordWords.{record-length}
 use Rattle.graph_tables.specs.declared.Head.{Head}
-use Rattle.graph_tables.specs.Tables.{State, state, vertexLinks, edgeLinks, vertexListEnds, edgeListEnds, VertexRowIn, EdgeRowIn, insertVertexS, CanInsertVertex, placeEdgeS, CanPlaceEdge}
+use Rattle.graph_tables.specs.Tables.{State, state, vertexLinks, edgeLinks, vertexListEnds, edgeListEnds, VertexRowIn, EdgeRowIn, insertVertexS, CanInsertVertex, countE, withEdgeEnds, rowET, thisET, placeEdgeS, CanPlaceEdge}
+use Rattle.graph_tables.proofs.Steps.{edge-placed}
 use Rattle.graph_tables.specs.Holds.{Core}
 use Rattle.graph_tables.specs.Capacities.{Sized}
 use Rattle.graph_tables.proofs.Keys.{keys-count, keys-last}
@@ -30,9 +30,9 @@ use Rattle.graph_tables.proofs.Frames.{valid-v, valid-e}
 use Rattle.graph_tables.proofs.Callers.{vertex-in, edge-in}
 use Rattle.graph_tables.proofs.VertexLaws.{can-put-vertex, core-insert-vertex}
 use Rattle.graph_tables.proofs.EdgeLaws.{can-put-edge, core-place-edge}
-use Rattle.image_tables.specs.Filling.{withoutList, vertexS, edgeS, CanLoad}
+use Rattle.image_tables.specs.Filling.{withoutList, vertexS, edgeS, CanEdge, CanLoad}
 use Rattle.image_tables.proofs.Cuts.{count-append, count-map, all-at, read, read-first}
-use Rattle.linked_lists.proofs.Model.{held-last}
+use Rattle.linked_lists.proofs.Model.{held-last, held-end}
 use Rattle.image_tables.proofs.Parts.{given, most-vertices, most-edges, sized-by}
 use Rattle.image_tables.proofs.Fills.{Fill, Turn, fill-room, fill-next}
 
@@ -86,10 +86,10 @@ module _ (size : ℕ) (b : Bounds) (g : Graph) (wf : WellFormed g) (wi : Within 
   fits-v = record {
     real = next-real vertexNumber u x (t .left) (g .vseq) (t .all) (wf .vorder);
     fresh = count-map vertexNumber withoutList (λ y. refl) (x .number) u ∙ next-fresh vertexNumber u x (t .left) (g .vseq) (t .all) (wf .vorder);
-    after = order-there vertexNumber vertexLinks (s .vt) (vertexListEnds (s .head)) (map withoutList u) valid-v (t .core .vseq);
+    after = order-there vertexNumber vertexLinks (s .vertices) (vertexListEnds (s .head)) (map withoutList u) valid-v (t .core .vseq);
   }
 
-  row-v : VertexRowIn (s .vt) (x .number)
+  row-v : VertexRowIn (s .vertices) (x .number)
   row-v = vertex-in b s z (x .number) (fits-v .real) (all-at u x (t .left) (subst (All (VertexIn b)) (sym (t .all)) (wi .vertices)) .number)
 
   can-v : CanInsertVertex (x .number) p s
@@ -102,7 +102,7 @@ module _ (size : ℕ) (b : Bounds) (g : Graph) (wf : WellFormed g) (wi : Within 
   core-v : Core (insertVertexS (x .number) (x .type) (x .value) p s) (map withoutList (u ++ x ∷ [])) []
   core-v =
       subst (λ (l : List Vertex). Core (insertVertexS (x .number) (x .type) (x .value) p s) l [])
-      (order-end vertexNumber vertexLinks (s .vt) (vertexListEnds (s .head)) (map withoutList u) valid-v (t .core .vseq) (withoutList x) ∙ sym (map-append withoutList u (x ∷ [])))
+      (order-end vertexNumber vertexLinks (s .vertices) (vertexListEnds (s .head)) (map withoutList u) valid-v (t .core .vseq) (withoutList x) ∙ sym (map-append withoutList u (x ∷ [])))
       (core-insert-vertex (x .number) (x .type) (x .value) p s (map withoutList u) [] (t .core) fits-v row-v)
 
   -- the words that are read are those of the vertex
@@ -138,10 +138,10 @@ module _ (b : Bounds) (g : Graph) (wf : WellFormed g) (wi : Within b g) (few : l
   fits-e = record {
     real = next-real edgeNumber w y (t .left) (g .eseq) (t .all) (wf .eorder);
     fresh = next-fresh edgeNumber w y (t .left) (g .eseq) (t .all) (wf .eorder);
-    after = order-there edgeNumber edgeLinks (s .et) (edgeListEnds (s .head)) w valid-e (t .core .eseq);
+    after = order-there edgeNumber edgeLinks (s .edges) (edgeListEnds (s .head)) w valid-e (t .core .eseq);
   }
 
-  row-e : EdgeRowIn (s .et) (y .number)
+  row-e : EdgeRowIn (s .edges) (y .number)
   row-e = edge-in b s z (y .number) (fits-e .real) (all-at w y (t .left) (subst (All (EdgeIn b)) (sym (t .all)) (wi .edges)) .number)
 
   can-e : CanPlaceEdge (y .number) e s
@@ -154,7 +154,7 @@ module _ (b : Bounds) (g : Graph) (wf : WellFormed g) (wi : Within b g) (few : l
   core-e : Core (placeEdgeS (y .number) (y .alpha) (y .omega) (y .type) (y .reading) e s) vs (w ++ y ∷ [])
   core-e =
       subst (λ (l : List Edge). Core (placeEdgeS (y .number) (y .alpha) (y .omega) (y .type) (y .reading) e s) vs l)
-      (order-end edgeNumber edgeLinks (s .et) (edgeListEnds (s .head)) w valid-e (t .core .eseq) y)
+      (order-end edgeNumber edgeLinks (s .edges) (edgeListEnds (s .head)) w valid-e (t .core .eseq) y)
       (core-place-edge (y .number) (y .alpha) (y .omega) (y .type) (y .reading) e s vs w (t .core) fits-e row-e)
 
   number-e : getD part at 0 ≡ y .number
@@ -163,8 +163,23 @@ module _ (b : Bounds) (g : Graph) (wf : WellFormed g) (wi : Within b g) (few : l
   reading-e : readingOf (getD part (at + 4) 0) (getD part (at + 5) 0) ≡ y .reading
   reading-e = (λ i. readingOf (read part at 4 _ (t .words) i) (read part at 5 _ (t .words) i)) ∙ reading-back (y .reading)
 
-  can-edge : CanPlaceEdge (getD part at 0) e s
-  can-edge = subst (λ (n : ℕ). CanPlaceEdge n e s) (sym number-e) can-e
+  written-e : IsWords (getD part (at + 4) 0) (getD part (at + 5) 0)
+  written-e = (ap readingKind reading-e ∙ sym (read part at 4 _ (t .words)), ap decimetres reading-e ∙ sym (read part at 5 _ (t .words)))
+
+  can-last : CanAppend edgeLinks (s .edges) (edgeListEnds (s .head)) (y .number)
+  can-last = record {
+    back = can-e .back;
+    node = λ z. omega (arith, fits-e .real, z);
+    end = held-end edgeLinks (s .edges) (edgeListEnds (s .head)) (map edgeNumber w) (t .core .eseq);
+  }
+
+  can-edge : CanEdge part at s
+  can-edge = record {
+    row = subst (λ (n : ℕ). EdgeRowIn (s .edges) n) (sym number-e) row-e;
+    room = can-e .room;
+    back = subst (λ (n : ℕ). CanAppend edgeLinks (s .edges) (edgeListEnds (s .head)) n) (sym number-e) can-last;
+    written = written-e;
+  }
 
   next-edge : ECore vs (edgeS part at s) (w ++ y ∷ [])
   unfolding edgeS
@@ -174,49 +189,51 @@ module _ (b : Bounds) (g : Graph) (wf : WellFormed g) (wi : Within b g) (few : l
 
 -- ---- for callers: a turn of each pass
 
-module _ (words vt₀ et₀ : List ℕ) (k : CanLoad words vt₀ et₀) (part : List ℕ) (at : ℕ) (h : Head) (vt et : List ℕ) (p : length vt ≡ length vt₀) (q : length et ≡ length et₀) where
-  module _ (t : Turn (vertexRecord (recordSize words)) VCore (load words .vseq) part (state h vt et) at) where
+module _ (words vertices₀ edges₀ : List ℕ) (k : CanLoad words vertices₀ edges₀) (part : List ℕ) (at : ℕ) (h : Head) (vertices edges : List ℕ) (p : length vertices ≡ length vertices₀) (q : length edges ≡ length edges₀) where
+  module _ (t : Turn (vertexRecord (recordSize words)) VCore (load words .vseq) part (state h vertices edges) at) where
     size : length (vertexRecord (recordSize words) (t .here)) ≡ recordSize words
     size = record-length (recordSize words) (record-size words) (t .here)
 
     -- the record stands in the part, and its vertex can be put in
-    pub vertex-can : (at + recordSize words ≤ length part) × (at + 3 ≤ length part) × CanInsertVertex (getD part at 0) (h .vlast) (state h vt et)
+    pub vertex-can : (at + recordSize words ≤ length part) × (at + 3 ≤ length part) × CanInsertVertex (getD part at 0) (h .vlast) (state h vertices edges)
     vertex-can =
-        let f = given words vt₀ et₀ k in
-        let r = fill-room (vertexRecord (recordSize words)) VCore (load words .vseq) part (state h vt et) at t (omega arith) in (
+        let f = given words vertices₀ edges₀ k in
+        let r = fill-room (vertexRecord (recordSize words)) VCore (load words .vseq) part (state h vertices edges) at t (omega arith) in (
           omega (arith, r, size),
           omega (arith, r, size, size-range (recordSize words) (record-size words) .0),
-          can-vertex (recordSize words) (k .bounds) (load words) (f .formed) (f .within) (most-vertices words vt₀ et₀ k) part (state h vt et) at (sized-by words vt₀ et₀ k h vt et p q) t,
+          can-vertex (recordSize words) (k .bounds) (load words) (f .formed) (f .within) (most-vertices words vertices₀ edges₀ k) part (state h vertices edges) at (sized-by words vertices₀ edges₀ k h vertices edges p q) t,
         )
 
-    pub vertex-next : (s′ : State) → s′ ≡ vertexS part at (state h vt et) → Fill (vertexRecord (recordSize words)) VCore (load words .vseq) part s′ (at + recordSize words)
+    pub vertex-next : (s′ : State) → s′ ≡ vertexS part at (state h vertices edges) → Fill (vertexRecord (recordSize words)) VCore (load words .vseq) part s′ (at + recordSize words)
     vertex-next s′ e =
-        let f = given words vt₀ et₀ k in
-        fill-next (vertexRecord (recordSize words)) VCore (load words .vseq) part (state h vt et) at t (recordSize words) size s′ (
+        let f = given words vertices₀ edges₀ k in
+        fill-next (vertexRecord (recordSize words)) VCore (load words .vseq) part (state h vertices edges) at t (recordSize words) size s′ (
         subst (λ (r : State). VCore r (t .past ++ t .here ∷ [])) (sym e)
-        (next-vertex (recordSize words) (k .bounds) (load words) (f .formed) (f .within) (most-vertices words vt₀ et₀ k) part (state h vt et) at (sized-by words vt₀ et₀ k h vt et p q) t)
+        (next-vertex (recordSize words) (k .bounds) (load words) (f .formed) (f .within) (most-vertices words vertices₀ edges₀ k) part (state h vertices edges) at (sized-by words vertices₀ edges₀ k h vertices edges p q) t)
         )
 
-  module _ (vs : List Vertex) (t : Turn edgeRecord (ECore vs) (load words .eseq) part (state h vt et) at) where
-    pub edge-can : (at + 6 ≤ length part) × CanPlaceEdge (getD part at 0) (h .elast) (state h vt et)
+  module _ (vs : List Vertex) (t : Turn edgeRecord (ECore vs) (load words .eseq) part (state h vertices edges) at) where
+    pub edge-can : (at + 6 ≤ length part) × CanEdge part at (state h vertices edges)
     edge-can =
-        let f = given words vt₀ et₀ k in (
-          fill-room edgeRecord (ECore vs) (load words .eseq) part (state h vt et) at t (omega arith),
-          can-edge (k .bounds) (load words) (f .formed) (f .within) (most-edges words vt₀ et₀ k) vs part (state h vt et) at (sized-by words vt₀ et₀ k h vt et p q) t,
+        let f = given words vertices₀ edges₀ k in (
+          fill-room edgeRecord (ECore vs) (load words .eseq) part (state h vertices edges) at t (omega arith),
+          can-edge (k .bounds) (load words) (f .formed) (f .within) (most-edges words vertices₀ edges₀ k) vs part (state h vertices edges) at (sized-by words vertices₀ edges₀ k h vertices edges p q) t,
         )
 
-    pub edge-next : (s′ : State) → s′ ≡ edgeS part at (state h vt et) → Fill edgeRecord (ECore vs) (load words .eseq) part s′ (at + 6)
+    pub edge-next : (s′ : State) → s′ ≡ edgeS part at (state h vertices edges) → Fill edgeRecord (ECore vs) (load words .eseq) part s′ (at + 6)
     edge-next s′ e =
-        let f = given words vt₀ et₀ k in
-        fill-next edgeRecord (ECore vs) (load words .eseq) part (state h vt et) at t 6 refl s′ (
+        let f = given words vertices₀ edges₀ k in
+        fill-next edgeRecord (ECore vs) (load words .eseq) part (state h vertices edges) at t 6 refl s′ (
         subst (λ (r : State). ECore vs r (t .past ++ t .here ∷ [])) (sym e)
-        (next-edge (k .bounds) (load words) (f .formed) (f .within) (most-edges words vt₀ et₀ k) vs part (state h vt et) at (sized-by words vt₀ et₀ k h vt et p q) t)
+        (next-edge (k .bounds) (load words) (f .formed) (f .within) (most-edges words vertices₀ edges₀ k) vs part (state h vertices edges) at (sized-by words vertices₀ edges₀ k h vertices edges p q) t)
         )
 
 -- ---- for callers: the step of `edge`
 
-pub edge-did : (part : List ℕ) (at : ℕ) (s : State) {s′ : State} {r : Reading} →
-    s′ ≡ placeEdgeS (getD part at 0) (getD part (at + 1) 0) (getD part (at + 2) 0) (getD part (at + 3) 0) r (s .head .elast) s →
-    r ≡ readingOf (getD part (at + 4) 0) (getD part (at + 5) 0) → s′ ≡ edgeS part at s
+pub edge-did : (part : List ℕ) (at : ℕ) (h : Head) (vertices edges : List ℕ) {t₁ t₂ t₃ : List ℕ} {o : Ends} →
+    (t₁ ≡ insertT edgeLinks edges (edgeListEnds h) (h .elast) (getD part at 0)) × (o ≡ insertE edgeLinks edges (edgeListEnds h) (h .elast) (getD part at 0)) →
+    t₂ ≡ rowET (getD part at 0) 1 (getD part (at + 3) 0) (readingOf (getD part (at + 4) 0) (getD part (at + 5) 0)) t₁ →
+    t₃ ≡ thisET (getD part at 0) (getD part (at + 1) 0) (getD part (at + 2) 0) t₂ →
+    state (countE (h .edges + 1) (withEdgeEnds o h)) vertices t₃ ≡ edgeS part at (state h vertices edges)
 unfolding edgeS
-edge-did part at s q e = q ∙ ap (λ (r : Reading). placeEdgeS (getD part at 0) (getD part (at + 1) 0) (getD part (at + 2) 0) (getD part (at + 3) 0) r (s .head .elast) s) e
+edge-did part at h vertices edges p q r = edge-placed h vertices edges (getD part at 0) (getD part (at + 1) 0) (getD part (at + 2) 0) (getD part (at + 3) 0) (readingOf (getD part (at + 4) 0) (getD part (at + 5) 0)) (h .elast) p q r

@@ -45,7 +45,7 @@ source b words h =
     }
 
 -- in the words of what loading asks
-module _ (words vt et : List ℕ) (k : CanLoad words vt et) where
+module _ (words vertices edges : List ℕ) (k : CanLoad words vertices edges) where
   pub given : Source (k .bounds) words (load words)
   given = source (k .bounds) words (k .sound)
 
@@ -56,13 +56,13 @@ module _ (words vt et : List ℕ) (k : CanLoad words vt et) where
   most-edges = omega (arith, given .fewEdges, k .sized .fewEdges)
 
   -- tables of the same lengths have the same capacities
-  pub sized-by : (h : Head) (vt′ et′ : List ℕ) → length vt′ ≡ length vt → length et′ ≡ length et → Sized (k .bounds) (state h vt′ et′)
-  sized-by h vt′ et′ p q = record {
+  pub sized-by : (h : Head) (vertices′ edges′ : List ℕ) → length vertices′ ≡ length vertices → length edges′ ≡ length edges → Sized (k .bounds) (state h vertices′ edges′)
+  sized-by h vertices′ edges′ p q = record {
     vertices = k .sized .vertices ∙ ap (λ (n : ℕ). n / 8) (sym p);
     edges = k .sized .edges ∙ ap (λ (n : ℕ). n / 12) (sym q);
     fewVertices = k .sized .fewVertices;
     fewEdges = k .sized .fewEdges;
   }
 
-  pub load-by : (vt′ et′ : List ℕ) → length vt′ ≡ length vt → length et′ ≡ length et → CanLoad words vt′ et′
-  load-by vt′ et′ p q = record { bounds = k .bounds; sized = sized-by noHead vt′ et′ p q; sound = k .sound }
+  pub load-by : (vertices′ edges′ : List ℕ) → length vertices′ ≡ length vertices → length edges′ ≡ length edges → CanLoad words vertices′ edges′
+  load-by vertices′ edges′ p q = record { bounds = k .bounds; sized = sized-by noHead vertices′ edges′ p q; sound = k .sound }

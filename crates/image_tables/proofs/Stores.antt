@@ -5,9 +5,7 @@ use mathlib.Core.List.{List, [], _∷_, _++_}
 use native.Mathlib.Omega.{arith}
 use lib.ListN.{length, set}
 use lib.Seq.{sets, set-comm}
-use Rattle.graph.specs.declared.Reading.{Reading}
-use Rattle.graph.specs.Graph.{readingKind, decimetres}
-use Rattle.graph_tables.specs.Tables.{etype, wthis, readingAt}
+use Rattle.graph_tables.specs.Tables.{etype, ekind, edecimetres, wthis}
 use Rattle.image_tables.specs.Words.{edgeWords}
 use Rattle.lists.proofs.Stores.{sets-append}
 
@@ -21,13 +19,13 @@ pub then-by : (l : List ℕ) {l₁ l₂ : List ℕ} (i j : ℕ) (us vs : List �
 then-by l i j us vs p q r = r ∙ ap₂ (λ (m : List ℕ) (k : ℕ). sets m k vs) p q ∙ sets-append l us vs i
 
 -- the two halves of an edge's record
-pub six-by : (l : List ℕ) {l₁ l₂ : List ℕ} (et : List ℕ) (at e : ℕ) {a z t k d : ℕ} {r : Reading} →
+pub six-by : (l : List ℕ) {l₁ l₂ : List ℕ} (edges : List ℕ) (at e : ℕ) {a z t k d : ℕ} →
     l₁ ≡ sets l at (e ∷ a ∷ z ∷ []) → l₂ ≡ sets l₁ (at + 3) (t ∷ k ∷ d ∷ []) →
-    a ≡ wthis et (2 * e) → z ≡ wthis et (2 * e + 1) → t ≡ etype et e → r ≡ readingAt et e → k ≡ readingKind r → d ≡ decimetres r →
-    l₂ ≡ sets l at (edgeWords et e)
-six-by l et at e {a} {z} {t} {k} {d} {r} p q ea ez et′ er ek ed =
+    a ≡ wthis edges (2 * e) → z ≡ wthis edges (2 * e + 1) → t ≡ etype edges e → k ≡ ekind edges e → d ≡ edecimetres edges e →
+    l₂ ≡ sets l at (edgeWords edges e)
+six-by l edges at e {a} {z} {t} {k} {d} p q ea ez edges′ ek ed =
     then-by l at (at + 3) (e ∷ a ∷ z ∷ []) (t ∷ k ∷ d ∷ []) p refl q
-    ∙ (λ i. sets l at (e ∷ ea i ∷ ez i ∷ et′ i ∷ (ek ∙ ap readingKind er) i ∷ (ed ∙ ap decimetres er) i ∷ []))
+    ∙ (λ i. sets l at (e ∷ ea i ∷ ez i ∷ edges′ i ∷ ek i ∷ ed i ∷ []))
 
 -- ---- stores at different places
 

@@ -6,7 +6,7 @@ use Rattle.lists.specs.Lists.{concatMap}
 use Rattle.linked_lists.specs.declared.LinkLayout.{LinkLayout}
 use Rattle.linked_lists.specs.declared.Ends.{Ends}
 use Rattle.linked_lists.specs.Links.{Held, nodes}
-use Rattle.graph.specs.Graph.{Graph, readingKind, decimetres}
+use Rattle.graph.specs.Graph.{Graph}
 use Rattle.graph.specs.WellFormed.{Bounds, Within}
 use Rattle.image.specs.Image.{imageLength}
 use Rattle.graph_tables.specs.declared.Head.{Head}
@@ -22,32 +22,32 @@ use Rattle.graph_tables.specs.Tables.{
   vvalue,
   etype,
   wthis,
-  readingAt,
+  ekind,
+  edecimetres,
 }
 use Rattle.graph_tables.specs.Holds.{Holds}
 use Rattle.graph_tables.specs.Capacities.{Sized}
 
 -- REFERENCE 10.2 to 10.4, read off tables: the list of v, the record of vertex v, of edge e
 abbrev pub listWords : List ℕ → List ℕ → ℕ → List ℕ
-listWords vt et v = nodes incidenceLinks et (endsAt vt v)
+listWords vertices edges v = nodes incidenceLinks edges (endsAt vertices v)
 
 abbrev pub vertexWords : List ℕ → List ℕ → ℕ → List ℕ
-vertexWords vt et v = v ∷ vtype vt v ∷ vvalue vt v ∷ length (listWords vt et v) ∷ []
+vertexWords vertices edges v = v ∷ vtype vertices v ∷ vvalue vertices v ∷ length (listWords vertices edges v) ∷ []
 
 abbrev pub edgeWords : List ℕ → ℕ → List ℕ
-edgeWords et e =
-    e ∷ wthis et (2 * e) ∷ wthis et (2 * e + 1) ∷ etype et e ∷ readingKind (readingAt et e) ∷ decimetres
-    (readingAt et e) ∷ []
+edgeWords edges e =
+    e ∷ wthis edges (2 * e) ∷ wthis edges (2 * e + 1) ∷ etype edges e ∷ ekind edges e ∷ edecimetres edges e ∷ []
 
 -- the three parts
 unfoldable pub vertexPartOf : Head → List ℕ → List ℕ → List ℕ
-vertexPartOf h vt et = concatMap (vertexWords vt et) (nodes vertexLinks vt (vertexListEnds h))
+vertexPartOf h vertices edges = concatMap (vertexWords vertices edges) (nodes vertexLinks vertices (vertexListEnds h))
 
 unfoldable pub edgePartOf : Head → List ℕ → List ℕ
-edgePartOf h et = concatMap (edgeWords et) (nodes edgeLinks et (edgeListEnds h))
+edgePartOf h edges = concatMap (edgeWords edges) (nodes edgeLinks edges (edgeListEnds h))
 
 unfoldable pub incidencePartOf : Head → List ℕ → List ℕ → List ℕ
-incidencePartOf h vt et = concatMap (listWords vt et) (nodes vertexLinks vt (vertexListEnds h))
+incidencePartOf h vertices edges = concatMap (listWords vertices edges) (nodes vertexLinks vertices (vertexListEnds h))
 
 -- words at a place of a slice that has room for them
 abbrev pub HasRoom : ℕ → List ℕ → List ℕ → Type 0

@@ -1,11 +1,10 @@
 // The parts of an image, from the tables: each function writes words from a place on.
 // A caller has tables that hold a graph and room for its image, as 106 saw to.
 use graph_tables::Head;
-use graph_tables::rows::decimetres_of;
 use graph_tables::rows::edge_type;
 use graph_tables::rows::ends_of;
-use graph_tables::rows::kind_of;
-use graph_tables::rows::reading_at;
+use graph_tables::rows::reading_decimetres;
+use graph_tables::rows::reading_kind;
 use graph_tables::rows::this;
 use graph_tables::rows::vertex_type;
 use graph_tables::rows::vertex_value;
@@ -21,6 +20,7 @@ ghost use mathlib.Core.List.{[], _∷_};
 ghost use Prim.Native.Nat.{ℕ, _+_, _≤_, _<_, _^_};
 ghost use lib.ListN.{length};
 ghost use lib.Seq.{sets};
+ghost use Rattle.graph.specs.Limits.{mostVertices, mostEdges};
 ghost use Rattle.image.specs.Image.{vertexSize, headerOf};
 ghost use Rattle.graph_tables.specs.Tables.{VertexRowIn, EdgeRowIn, vertexLinks, edgeLinks, incidenceLinks};
 ghost use Rattle.graph_tables.specs.Tables.{vertexListEnds, edgeListEnds, endsAt};
@@ -39,7 +39,7 @@ fn three(out: &mut [u32], at: usize, a: u32, b: u32, c: u32)
 
 // V, E, the three offsets, the total.
 pub fn header(out: &mut [u32], v: u32, e: u32)
-    requires { ⌜ (v ≤ 1000) × (e ≤ 4000) × (6 ≤ length (now out)) ⌝ }
+    requires { ⌜ (v ≤ mostVertices) × (e ≤ mostEdges) × (6 ≤ length (now out)) ⌝ }
     ensures { λ _. ⌜ now (out .exit) ≡ sets (now (out .entry)) 0 (headerOf vertexSize v e) ⌝ }
 {
     let edges = edge_offset(VERTEX, v as usize);
@@ -49,26 +49,25 @@ pub fn header(out: &mut [u32], v: u32, e: u32)
     three(out, 3, edges as u32, lists as u32, total as u32);
 }
 
-// The record of edge e.
-fn edge(et: &[u32], e: u32, out: &mut [u32], at: usize)
-    requires { ⌜ EdgeRowIn (now et) e × (e < 2 ^ 31) × HasRoom at (edgeWords (now et) e) (now out) ⌝ }
-    ensures { λ _. ⌜ now (out .exit) ≡ sets (now (out .entry)) at (edgeWords (now (et .entry)) e) ⌝ }
+// The record of edge e. The two words of its reading are saved as they stand, so that no branch asks for its kind.
+fn edge(edges: &[u32], e: u32, out: &mut [u32], at: usize)
+    requires { ⌜ EdgeRowIn (now edges) e × (e < 2 ^ 31) × HasRoom at (edgeWords (now edges) e) (now out) ⌝ }
+    ensures { λ _. ⌜ now (out .exit) ≡ sets (now (out .entry)) at (edgeWords (now (edges .entry)) e) ⌝ }
 {
-    let a = this(et, 2 * e);
-    let z = this(et, 2 * e + 1);
-    let t = edge_type(et, e);
-    let r = reading_at(et, e);
-    let k = kind_of(r);
-    let d = decimetres_of(r);
+    let a = this(edges, 2 * e);
+    let z = this(edges, 2 * e + 1);
+    let t = edge_type(edges, e);
+    let k = reading_kind(edges, e);
+    let d = reading_decimetres(edges, e);
     three(out, at, e, a, z);
     three(out, at + 3, t, k, d);
 }
 
 // The edge part.
-pub fn edges(head: Head, et: &[u32], out: &mut [u32], from: usize)
-    requires { ⌜ HoldsSome edgeLinks (now et) (edgeListEnds head) × (length (now et) < 2 ^ 31)
-        × HasRoom from (edgePartOf head (now et)) (now out) ⌝ }
-    ensures { λ _. ⌜ now (out .exit) ≡ sets (now (out .entry)) from (edgePartOf head (now (et .entry))) ⌝ }
+pub fn edges(head: Head, edges: &[u32], out: &mut [u32], from: usize)
+    requires { ⌜ HoldsSome edgeLinks (now edges) (edgeListEnds head) × (length (now edges) < 2 ^ 31)
+        × HasRoom from (edgePartOf head (now edges)) (now out) ⌝ }
+    ensures { λ _. ⌜ now (out .exit) ≡ sets (now (out .entry)) from (edgePartOf head (now (edges .entry))) ⌝ }
 {
     let layout = LinkLayout {
         stride: 12,
@@ -79,49 +78,51 @@ pub fn edges(head: Head, et: &[u32], out: &mut [u32], from: usize)
         last: head.elast,
     };
     let mut at = from;
-    let mut e = linked_lists::next(et, layout, ends, 0);
+    let mut e = linked_lists::next(edges, layout, ends, 0);
     while e != 0 {
-        edge(et, e, out, at);
+        edge(edges, e, out, at);
         at += EDGE;
-        e = linked_lists::next(et, layout, ends, e);
+        e = linked_lists::next(edges, layout, ends, e);
     }
 }
 
 // The incidence list of v.
-fn list(vt: &[u32], et: &[u32], v: u32, out: &mut [u32], from: usize) -> usize
-    requires { ⌜ VertexRowIn (now vt) v × HoldsSome incidenceLinks (now et) (endsAt (now vt) v)
-        × HasRoom from (listWords (now vt) (now et) v) (now out) ⌝ }
-    ensures { λ r. ⌜ (now (out .exit) ≡ sets (now (out .entry)) from (listWords (now (vt .entry)) (now (et .entry)) v))
-        × (r ≡ from + length (listWords (now (vt .entry)) (now (et .entry)) v)) ⌝ }
+fn list(vertices: &[u32], edges: &[u32], v: u32, out: &mut [u32], from: usize) -> usize
+    requires { ⌜ VertexRowIn (now vertices) v × HoldsSome incidenceLinks (now edges) (endsAt (now vertices) v)
+        × HasRoom from (listWords (now vertices) (now edges) v) (now out) ⌝ }
+    ensures { λ r. ⌜ (now (out .exit) ≡ sets (now (out .entry)) from
+        (listWords (now (vertices .entry)) (now (edges .entry)) v))
+        × (r ≡ from + length (listWords (now (vertices .entry)) (now (edges .entry)) v)) ⌝ }
 {
     let layout = LinkLayout {
         stride: 6,
         offset: 12,
     };
-    let ends = ends_of(vt, v);
+    let ends = ends_of(vertices, v);
     let mut at = from;
-    let mut w = linked_lists::next(et, layout, ends, 0);
+    let mut w = linked_lists::next(edges, layout, ends, 0);
     while w != 0 {
         out[at] = w;
         at += 1;
-        w = linked_lists::next(et, layout, ends, w);
+        w = linked_lists::next(edges, layout, ends, w);
     }
     at
 }
 
 // The record of vertex v at `at`, and its list at `to`, behind the records: the list comes first, and its length is the
 // degree. Tells the place behind the list.
-fn vertex(vt: &[u32], et: &[u32], v: u32, out: &mut [u32], at: usize, to: usize) -> usize
-    requires { ⌜ VertexRowIn (now vt) v × HoldsSome incidenceLinks (now et) (endsAt (now vt) v) × (at + 4 ≤ to)
-        × HasRoom to (listWords (now vt) (now et) v) (now out) × (length (listWords (now vt) (now et) v) < 2 ^ 32) ⌝ }
+fn vertex(vertices: &[u32], edges: &[u32], v: u32, out: &mut [u32], at: usize, to: usize) -> usize
+    requires { ⌜ VertexRowIn (now vertices) v × HoldsSome incidenceLinks (now edges) (endsAt (now vertices) v)
+        × (at + 4 ≤ to) × HasRoom to (listWords (now vertices) (now edges) v) (now out)
+        × (length (listWords (now vertices) (now edges) v) < 2 ^ 32) ⌝ }
     ensures { λ r. ⌜ (now (out .exit)
-        ≡ sets (sets (now (out .entry)) to (listWords (now (vt .entry)) (now (et .entry)) v))
-        at (vertexWords (now (vt .entry)) (now (et .entry)) v))
-        × (r ≡ to + length (listWords (now (vt .entry)) (now (et .entry)) v)) ⌝ }
+        ≡ sets (sets (now (out .entry)) to (listWords (now (vertices .entry)) (now (edges .entry)) v))
+        at (vertexWords (now (vertices .entry)) (now (edges .entry)) v))
+        × (r ≡ to + length (listWords (now (vertices .entry)) (now (edges .entry)) v)) ⌝ }
 {
-    let end = list(vt, et, v, out, to);
-    let t = vertex_type(vt, v);
-    let x = vertex_value(vt, v);
+    let end = list(vertices, edges, v, out, to);
+    let t = vertex_type(vertices, v);
+    let x = vertex_value(vertices, v);
     three(out, at, v, t, x);
     out[at + 3] = (end - to) as u32;
     end
@@ -131,21 +132,21 @@ fn vertex(vt: &[u32], et: &[u32], v: u32, out: &mut [u32], at: usize, to: usize)
 // behind the lists.
 pub fn vertices(
     head: Head,
-    vt: &[u32],
-    et: &[u32],
+    vertices: &[u32],
+    edges: &[u32],
     out: &mut [u32],
     from: usize,
     behind: usize,
 ) -> usize
-    requires { ⌜ HoldsSome vertexLinks (now vt) (vertexListEnds head) × ((v : ℕ) → 1 ≤ v
-        → HoldsSome incidenceLinks (now et) (endsAt (now vt) v))
-        × (from + length (vertexPartOf head (now vt) (now et)) ≤ behind)
-        × HasRoom behind (incidencePartOf head (now vt) (now et)) (now out)
-        × (length (incidencePartOf head (now vt) (now et)) < 2 ^ 32) ⌝ }
+    requires { ⌜ HoldsSome vertexLinks (now vertices) (vertexListEnds head) × ((v : ℕ) → 1 ≤ v
+        → HoldsSome incidenceLinks (now edges) (endsAt (now vertices) v))
+        × (from + length (vertexPartOf head (now vertices) (now edges)) ≤ behind)
+        × HasRoom behind (incidencePartOf head (now vertices) (now edges)) (now out)
+        × (length (incidencePartOf head (now vertices) (now edges)) < 2 ^ 32) ⌝ }
     ensures { λ r. ⌜ (now (out .exit)
-        ≡ sets (sets (now (out .entry)) from (vertexPartOf head (now (vt .entry)) (now (et .entry))))
-        behind (incidencePartOf head (now (vt .entry)) (now (et .entry))))
-        × (r ≡ behind + length (incidencePartOf head (now (vt .entry)) (now (et .entry)))) ⌝ }
+        ≡ sets (sets (now (out .entry)) from (vertexPartOf head (now (vertices .entry)) (now (edges .entry))))
+        behind (incidencePartOf head (now (vertices .entry)) (now (edges .entry))))
+        × (r ≡ behind + length (incidencePartOf head (now (vertices .entry)) (now (edges .entry)))) ⌝ }
 {
     let layout = LinkLayout {
         stride: 8,
@@ -157,11 +158,11 @@ pub fn vertices(
     };
     let mut at = from;
     let mut to = behind;
-    let mut v = linked_lists::next(vt, layout, ends, 0);
+    let mut v = linked_lists::next(vertices, layout, ends, 0);
     while v != 0 {
-        to = vertex(vt, et, v, out, at, to);
+        to = vertex(vertices, edges, v, out, at, to);
         at += VERTEX;
-        v = linked_lists::next(vt, layout, ends, v);
+        v = linked_lists::next(vertices, layout, ends, v);
     }
     to
 }

@@ -1,20 +1,22 @@
 -- A row that was written is read back, and the rows before it stand.
 use Prim.Native.Nat.{ℕ, zero, suc, _+_, _*_, _≤_, _<_}
 use mathlib.Core.Path.{_≡_, refl, sym, ap, _∙_}
+use mathlib.Core.Logic.{_≢_}
 use mathlib.Core.Bool.{Bool}
 use mathlib.Core.List.{List, [], _∷_}
 use native.Mathlib.Omega.{arith}
 use lib.ListN.{length, getD, set, length-set}
 use lib.Seq.{getD-set-same, getD-set-other}
+use borrow.Author.Tests.{ne-eqb}
 use Rattle.graph.specs.declared.Reading.{Reading}
 use Rattle.graph.specs.declared.Edit.{Edit}
 use Rattle.graph.specs.declared.Edit.the-variants.{InsertVertex, RemoveVertex, InsertEdge, RemoveEdge, SetVertex, SetEdge, MoveVertex, MoveEdge, MoveWord}
-use Rattle.graph.specs.Graph.{readingKind, decimetres, readingOf}
+use Rattle.graph.specs.Graph.{readingKind, decimetres, readingOf, IsWords}
 use Rattle.graph.proofs.Readings.{reading-back}
 use Rattle.graph_tables.specs.Tables.{State, removeEdgeS}
 use Rattle.journal.specs.declared.removal.EdgeWords.{EdgeWords}
 use Rattle.journal.specs.Written.{Written, edgeWords, removalOf}
-use Rattle.journal.specs.Rows.{rowWords, editOf, editAt, storeFrom, rowAt, costAt, rowed, SameBelow, turned, IsWords}
+use Rattle.journal.specs.Rows.{rowWords, editOf, editAt, storeFrom, RowStep, costing, rowAt, stepAt, rowed, SameBelow, turned}
 
 -- ---- words stored one after another
 
@@ -34,6 +36,26 @@ store-at q (x ∷ l) t (suc i) h f =
     rw e (store-at (q + 1) l (set t (q + 0) x) i (omega arith) (simp length-set (omega arith)))
 
 -- ---- an edit as words, and back
+
+-- as a `match` on k says it of its last arm, the last number first
+abbrev NoneOf : ℕ → List ℕ → Type 0
+NoneOf k [] = Unit {0}
+NoneOf k (n ∷ ns) = NoneOf k ns × (k ≢ n)
+
+-- what is none of the first eight is the ninth
+pub ninth : (f g h i : ℕ) {k a b c d e : ℕ} → NoneOf k (8 ∷ 7 ∷ 6 ∷ 5 ∷ 4 ∷ 3 ∷ 2 ∷ 1 ∷ []) → editOf k a b c d e f g h i ≡ MoveWord a b c d e
+unfolding editOf
+ninth f g h i r =
+    simp (
+      ne-eqb _ _ (r .1),
+      ne-eqb _ _ (r .0 .1),
+      ne-eqb _ _ (r .0 .0 .1),
+      ne-eqb _ _ (r .0 .0 .0 .1),
+      ne-eqb _ _ (r .0 .0 .0 .0 .1),
+      ne-eqb _ _ (r .0 .0 .0 .0 .0 .1),
+      ne-eqb _ _ (r .0 .0 .0 .0 .0 .0 .1),
+      ne-eqb _ _ (r .0 .0 .0 .0 .0 .0 .0 .1),
+    )
 
 pub words-length : (e : Edit) → length (rowWords e) ≡ 10
 words-length (InsertVertex n t v p) = refl
@@ -89,30 +111,30 @@ row-agree u i t t′ b h =
       b (12 * i + 9) (omega arith),
     )
 
-pub cost-agree : (u i : ℕ) (t t′ : List ℕ) → SameBelow u t t′ → i < u → costAt t′ i ≡ costAt t i
-unfolding costAt
-cost-agree u i t t′ b h = b (12 * i + 10) (omega arith)
+pub stepAt-agree : (u i : ℕ) (t t′ : List ℕ) → SameBelow u t t′ → i < u → stepAt t′ i ≡ stepAt t i
+unfolding stepAt
+stepAt-agree u i t t′ b h = ap costing (b (12 * i + 10) (omega arith))
 
 -- ---- row u is written
 
-module _ (u : ℕ) (e : Edit) (c : ℕ) (t t′ : List ℕ) (q : t′ ≡ rowed u e c t) (room : 12 * u + 12 ≤ length t) where
+module _ (u : ℕ) (e : Edit) (x : RowStep) (t t′ : List ℕ) (q : t′ ≡ rowed u e x t) (room : 12 * u + 12 ≤ length t) where
   pub rowed-length : length t′ ≡ length t
   unfolding rowed
   rowed-length = rw q (simp (length-set, store-length (12 * u) (rowWords e) t))
 
   pub rowed-below : SameBelow u t t′
   unfolding rowed
-  rowed-below j l = rw q (getD-set-other (storeFrom (12 * u) (rowWords e) t) (12 * u + 10) j c 0 (λ x. omega arith) ∙ store-before (12 * u) (rowWords e) t j l)
+  rowed-below j l = rw q (getD-set-other (storeFrom (12 * u) (rowWords e) t) (12 * u + 10) j (x .cost) 0 (λ p. omega arith) ∙ store-before (12 * u) (rowWords e) t j l)
 
-  pub rowed-cost : costAt t′ u ≡ c
-  unfolding rowed costAt
-  rowed-cost = rw q (getD-set-same (storeFrom (12 * u) (rowWords e) t) (12 * u + 10) c 0 (omega (arith, store-length (12 * u) (rowWords e) t)))
+  pub rowed-step : stepAt t′ u ≡ x
+  unfolding rowed stepAt
+  rowed-step = rw q (ap costing (getD-set-same (storeFrom (12 * u) (rowWords e) t) (12 * u + 10) (x .cost) 0 (omega (arith, store-length (12 * u) (rowWords e) t))))
 
   pub rowed-row : rowAt t′ u ≡ e
   unfolding rowed rowAt
   rowed-row =
       let w = storeFrom (12 * u) (rowWords e) t in
-      edit-at t′ (rowWords e) (12 * u) (λ i h. rw q (getD-set-other w (12 * u + 10) (12 * u + i) c 0 (λ x. omega arith)
+      edit-at t′ (rowWords e) (12 * u) (λ i h. rw q (getD-set-other w (12 * u + 10) (12 * u + i) (x .cost) 0 (λ p. omega arith)
       ∙ store-at (12 * u) (rowWords e) t i (omega (arith, words-length e)) (omega (arith, words-length e))))
       ∙ listed-words e
 
@@ -122,8 +144,8 @@ pub row-read : (t : List ℕ) (i w : ℕ) (e : Edit) (back : Bool) → e ≡ tur
 unfolding rowAt
 row-read t i w e back a b = a ∙ ap (λ (x : ℕ). turned back (editAt t (12 * x))) b
 
-pub cost-read : (t : List ℕ) (i w c : ℕ) → c ≡ getD t (12 * w + 10) 0 → w ≡ i → c ≡ costAt t i
-unfolding costAt
+pub cost-read : (t : List ℕ) (i w c : ℕ) → c ≡ getD t (12 * w + 10) 0 → w ≡ i → c ≡ stepAt t i .cost
+unfolding stepAt
 cost-read t i w c a b = a ∙ ap (λ (x : ℕ). getD t (12 * x + 10) 0) b
 
 -- ---- a row, word by word
@@ -131,7 +153,7 @@ cost-read t i w c a b = a ∙ ap (λ (x : ℕ). getD t (12 * x + 10) 0) b
 pub words-written : (t t′ : List ℕ) (i w c : ℕ) (l : List ℕ) → t′ ≡ storeFrom (12 * w) l t → w ≡ i → set t′ (12 * w + 10) c ≡ set (storeFrom (12 * i) l t) (12 * i + 10) c
 words-written t t′ i w c l a b = ap (λ (x : List ℕ). set x (12 * w + 10) c) a ∙ ap (λ (x : ℕ). set (storeFrom (12 * x) l t) (12 * x + 10) c) b
 
-pub rowed-by : (i : ℕ) (e : Edit) (c : ℕ) (t t′ l : List ℕ) → l ≡ rowWords e → t′ ≡ set (storeFrom (12 * i) l t) (12 * i + 10) c → t′ ≡ rowed i e c t
+pub rowed-by : (i : ℕ) (e : Edit) (c : ℕ) (t t′ l : List ℕ) → l ≡ rowWords e → t′ ≡ set (storeFrom (12 * i) l t) (12 * i + 10) c → t′ ≡ rowed i e (costing c) t
 unfolding rowed
 rowed-by i e c t t′ l q p = p ∙ ap (λ (x : List ℕ). set (storeFrom (12 * i) x t) (12 * i + 10) c) q
 
@@ -140,11 +162,11 @@ pub removed-words : (n : ℕ) (w : EdgeWords) → IsWords (w .kind) (w .decimetr
 removed-words n w h = λ j. 4 ∷ n ∷ w .alpha ∷ w .omega ∷ w .sort ∷ sym (h .0) j ∷ sym (h .1) j ∷ w .order ∷ w .out ∷ w .into ∷ []
 
 -- an edge taken out by the words that were read off its row
-pub removal-written : (s : State) (n c i : ℕ) (t : List ℕ) (w : EdgeWords) → w ≡ edgeWords (s .et) n → (s′ : State) (t′ : List ℕ)
-    → s′ ≡ removeEdgeS n (w .alpha) (w .omega) s → t′ ≡ rowed i (removalOf n w) c t → Written (removalOf n (edgeWords (s .et) n)) c i s t s′ t′
+pub removal-written : (s : State) (n c i : ℕ) (t : List ℕ) (w : EdgeWords) → w ≡ edgeWords (s .edges) n → (s′ : State) (t′ : List ℕ)
+    → s′ ≡ removeEdgeS n (w .alpha) (w .omega) s → t′ ≡ rowed i (removalOf n w) (costing c) t → Written (removalOf n (edgeWords (s .edges) n)) (costing c) i s t s′ t′
 removal-written s n c i t w e s′ t′ p q = record {
   state = p ∙ ap (λ (x : EdgeWords). removeEdgeS n (x .alpha) (x .omega) s) e;
-  row = q ∙ ap (λ (x : EdgeWords). rowed i (removalOf n x) c t) e;
+  row = q ∙ ap (λ (x : EdgeWords). rowed i (removalOf n x) (costing c) t) e;
 }
 
 pub edge-words : (n s k d s′ k′ d′ : ℕ) → IsWords k d → IsWords k′ d′ → 6 ∷ n ∷ s ∷ k ∷ d ∷ s′ ∷ k′ ∷ d′ ∷ 0 ∷ 0 ∷ [] ≡ rowWords (SetEdge n s (readingOf k d) s′ (readingOf k′ d′))

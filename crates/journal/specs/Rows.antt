@@ -64,21 +64,24 @@ storeFrom q (x ∷ l) t = storeFrom (q + 1) l (set t (q + 0) x)
 
 -- ---- rows, counted from 0
 
--- the edit of row i, and the cost of its step
+-- what a row says of its step
+pub record RowStep : Type 0 where
+  pub cost : ℕ
+
+abbrev pub costing : ℕ → RowStep
+costing c = record { cost = c }
+
+-- the edit of row i, and what it says of its step
 unfoldable pub rowAt : List ℕ → ℕ → Edit
 rowAt t i = editAt t (12 * i)
 
-unfoldable pub costAt : List ℕ → ℕ → ℕ
-costAt t i = getD t (12 * i + 10) 0
+unfoldable pub stepAt : List ℕ → ℕ → RowStep
+stepAt t i = costing (getD t (12 * i + 10) 0)
 
 -- the words with row i written
-unfoldable pub rowed : ℕ → Edit → ℕ → List ℕ → List ℕ
-rowed i e c t = set (storeFrom (12 * i) (rowWords e) t) (12 * i + 10) c
+unfoldable pub rowed : ℕ → Edit → RowStep → List ℕ → List ℕ
+rowed i e x t = set (storeFrom (12 * i) (rowWords e) t) (12 * i + 10) (x .cost)
 
 -- the words below row u are as they were
 abbrev pub SameBelow : ℕ → List ℕ → List ℕ → Type 0
 SameBelow u t t′ = (j : ℕ) → j < 12 * u → getD t′ j 0 ≡ getD t j 0
-
--- kind and decimetres are those of the reading that they are read as
-abbrev pub IsWords : ℕ → ℕ → Type 0
-IsWords k d = (readingKind (readingOf k d) ≡ k) × (decimetres (readingOf k d) ≡ d)

@@ -9,26 +9,26 @@ use Rattle.graph.specs.Graph.{readingOf}
 use Rattle.graph_tables.specs.Tables.{State, wthis, wprev, etype, ekind, edecimetres, eprev}
 use Rattle.graph_tables.specs.Edits.{applyS}
 use Rattle.journal.specs.declared.removal.EdgeWords.{EdgeWords}
-use Rattle.journal.specs.Rows.{rowed}
+use Rattle.journal.specs.Rows.{RowStep, rowed}
 
--- the edit is row i, of a step of cost c, and the tables have it behind them
-pub record Written (e : Edit) (c i : ℕ) (s : State) (t : List ℕ) (s′ : State) (t′ : List ℕ) : Type 0 where
+-- the edit is row i, which says this of its step, and the tables have it behind them
+pub record Written (e : Edit) (x : RowStep) (i : ℕ) (s : State) (t : List ℕ) (s′ : State) (t′ : List ℕ) : Type 0 where
   pub state : s′ ≡ applyS e s
-  pub row : t′ ≡ rowed i e c t
+  pub row : t′ ≡ rowed i e x t
 
 -- ---- the removal of an edge
 
 -- read off its row: the in word goes first, so where it stands right before the out word, the out word's place is its
 abbrev pub edgeWords : List ℕ → ℕ → EdgeWords
-edgeWords et n = record {
-  alpha = wthis et (2 * n);
-  omega = wthis et (2 * n + 1);
-  sort = etype et n;
-  kind = ekind et n;
-  decimetres = edecimetres et n;
-  order = eprev et n;
-  out = ifEqual (wprev et (2 * n)) (2 * n + 1) (wprev et (2 * n + 1)) (wprev et (2 * n));
-  into = wprev et (2 * n + 1);
+edgeWords edges n = record {
+  alpha = wthis edges (2 * n);
+  omega = wthis edges (2 * n + 1);
+  sort = etype edges n;
+  kind = ekind edges n;
+  decimetres = edecimetres edges n;
+  order = eprev edges n;
+  out = ifEqual (wprev edges (2 * n)) (2 * n + 1) (wprev edges (2 * n + 1)) (wprev edges (2 * n));
+  into = wprev edges (2 * n + 1);
 }
 
 abbrev pub removalOf : ℕ → EdgeWords → Edit

@@ -1,5 +1,5 @@
 // The journal's rows: twelve words each, of which ten are an edit and one is the cost of the edit's step.
-// A caller has room for row i, or rows that the run wrote.
+// A caller has room for the row, or rows that the run wrote.
 use graph::Edit;
 use graph_tables::rows::reading_of;
 ghost use mathlib.Core.Path.{_≡_};
@@ -7,7 +7,7 @@ ghost use mathlib.Core.List.{[], _∷_};
 ghost use Prim.Native.Nat.{_+_, _*_, _≤_};
 ghost use lib.ListN.{length, set};
 ghost use Rattle.graph.specs.Edits.{inverse};
-ghost use Rattle.journal.specs.Rows.{editOf, turned, editAt, storeFrom, rowAt, costAt};
+ghost use Rattle.journal.specs.Rows.{editOf, turned, editAt, storeFrom, rowAt, stepAt};
 
 pub mod removal; // the words of an edge that goes
 
@@ -20,94 +20,95 @@ pub struct Five {
     pub e: u32,
 }
 
-fn put_five(t: &mut [u32], q: usize, x: Five)
-    requires { ⌜ q + 5 ≤ length (now t) ⌝ }
-    ensures { λ _. ⌜ now (t .exit) ≡ storeFrom q (x .a ∷ x .b ∷ x .c ∷ x .d ∷ x .e ∷ []) (now (t .entry)) ⌝ }
+fn put_five(journal: &mut [u32], q: usize, words: Five)
+    requires { ⌜ q + 5 ≤ length (now journal) ⌝ }
+    ensures { λ _. ⌜ now (journal .exit) ≡ storeFrom q (words .a ∷ words .b ∷ words .c ∷ words .d ∷ words .e ∷ [])
+        (now (journal .entry)) ⌝ }
 {
-    t[q + 0] = x.a;
-    t[q + 1 + 0] = x.b;
-    t[q + 1 + 1 + 0] = x.c;
-    t[q + 1 + 1 + 1 + 0] = x.d;
-    t[q + 1 + 1 + 1 + 1 + 0] = x.e;
+    journal[q + 0] = words.a;
+    journal[q + 1 + 0] = words.b;
+    journal[q + 1 + 1 + 0] = words.c;
+    journal[q + 1 + 1 + 1 + 0] = words.d;
+    journal[q + 1 + 1 + 1 + 1 + 0] = words.e;
 }
 
-fn decode(k: u32, x: Five, f: u32, g: u32, h: u32, i: u32) -> Edit
-    ensures { λ r. ⌜ r ≡ editOf k (x .a) (x .b) (x .c) (x .d) (x .e) f g h i ⌝ }
+fn decode(k: u32, words: Five, f: u32, g: u32, h: u32, i: u32) -> Edit
+    ensures { λ r. ⌜ r ≡ editOf k (words .a) (words .b) (words .c) (words .d) (words .e) f g h i ⌝ }
 {
     match k {
-        1 => Edit::InsertVertex(x.a, x.b, x.c, x.d),
-        2 => Edit::RemoveVertex(x.a, x.b, x.c, x.d),
+        1 => Edit::InsertVertex(words.a, words.b, words.c, words.d),
+        2 => Edit::RemoveVertex(words.a, words.b, words.c, words.d),
         3 => {
-            let r = reading_of(x.e, f);
-            Edit::InsertEdge(x.a, x.b, x.c, x.d, r, g, h, i)
+            let r = reading_of(words.e, f);
+            Edit::InsertEdge(words.a, words.b, words.c, words.d, r, g, h, i)
         }
         4 => {
-            let r = reading_of(x.e, f);
-            Edit::RemoveEdge(x.a, x.b, x.c, x.d, r, g, h, i)
+            let r = reading_of(words.e, f);
+            Edit::RemoveEdge(words.a, words.b, words.c, words.d, r, g, h, i)
         }
-        5 => Edit::SetVertex(x.a, x.b, x.c, x.d, x.e),
+        5 => Edit::SetVertex(words.a, words.b, words.c, words.d, words.e),
         6 => {
-            let r = reading_of(x.c, x.d);
+            let r = reading_of(words.c, words.d);
             let s = reading_of(f, g);
-            Edit::SetEdge(x.a, x.b, r, x.e, s)
+            Edit::SetEdge(words.a, words.b, r, words.e, s)
         }
-        7 => Edit::MoveVertex(x.a, x.b, x.c),
-        8 => Edit::MoveEdge(x.a, x.b, x.c),
-        _ => Edit::MoveWord(x.a, x.b, x.c, x.d, x.e),
+        7 => Edit::MoveVertex(words.a, words.b, words.c),
+        8 => Edit::MoveEdge(words.a, words.b, words.c),
+        _ => Edit::MoveWord(words.a, words.b, words.c, words.d, words.e),
     }
 }
 
 // What undoes the edit, read off the same words: one choice by the kind instead of two.
-fn decode_back(k: u32, x: Five, f: u32, g: u32, h: u32, i: u32) -> Edit
-    ensures { λ r. ⌜ r ≡ inverse (editOf k (x .a) (x .b) (x .c) (x .d) (x .e) f g h i) ⌝ }
+fn decode_back(k: u32, words: Five, f: u32, g: u32, h: u32, i: u32) -> Edit
+    ensures { λ r. ⌜ r ≡ inverse (editOf k (words .a) (words .b) (words .c) (words .d) (words .e) f g h i) ⌝ }
 {
     match k {
-        1 => Edit::RemoveVertex(x.a, x.b, x.c, x.d),
-        2 => Edit::InsertVertex(x.a, x.b, x.c, x.d),
+        1 => Edit::RemoveVertex(words.a, words.b, words.c, words.d),
+        2 => Edit::InsertVertex(words.a, words.b, words.c, words.d),
         3 => {
-            let r = reading_of(x.e, f);
-            Edit::RemoveEdge(x.a, x.b, x.c, x.d, r, g, h, i)
+            let r = reading_of(words.e, f);
+            Edit::RemoveEdge(words.a, words.b, words.c, words.d, r, g, h, i)
         }
         4 => {
-            let r = reading_of(x.e, f);
-            Edit::InsertEdge(x.a, x.b, x.c, x.d, r, g, h, i)
+            let r = reading_of(words.e, f);
+            Edit::InsertEdge(words.a, words.b, words.c, words.d, r, g, h, i)
         }
-        5 => Edit::SetVertex(x.a, x.d, x.e, x.b, x.c),
+        5 => Edit::SetVertex(words.a, words.d, words.e, words.b, words.c),
         6 => {
-            let r = reading_of(x.c, x.d);
+            let r = reading_of(words.c, words.d);
             let s = reading_of(f, g);
-            Edit::SetEdge(x.a, x.e, s, x.b, r)
+            Edit::SetEdge(words.a, words.e, s, words.b, r)
         }
-        7 => Edit::MoveVertex(x.a, x.c, x.b),
-        8 => Edit::MoveEdge(x.a, x.c, x.b),
-        _ => Edit::MoveWord(x.a, x.d, x.e, x.b, x.c),
+        7 => Edit::MoveVertex(words.a, words.c, words.b),
+        8 => Edit::MoveEdge(words.a, words.c, words.b),
+        _ => Edit::MoveWord(words.a, words.d, words.e, words.b, words.c),
     }
 }
 
-fn decode_turned(k: u32, x: Five, f: u32, g: u32, h: u32, i: u32, back: bool) -> Edit
-    ensures { λ r. ⌜ r ≡ turned back (editOf k (x .a) (x .b) (x .c) (x .d) (x .e) f g h i) ⌝ }
+fn decode_turned(k: u32, words: Five, f: u32, g: u32, h: u32, i: u32, back: bool) -> Edit
+    ensures { λ r. ⌜ r ≡ turned back (editOf k (words .a) (words .b) (words .c) (words .d) (words .e) f g h i) ⌝ }
 {
     if back {
-        return decode_back(k, x, f, g, h, i);
+        return decode_back(k, words, f, g, h, i);
     }
-    decode(k, x, f, g, h, i)
+    decode(k, words, f, g, h, i)
 }
 
 // The edit that stands at word q, or what undoes it.
-fn get_edit(t: &[u32], q: usize, back: bool) -> Edit
-    requires { ⌜ q + 10 ≤ length (now t) ⌝ }
-    ensures { λ r. ⌜ r ≡ turned back (editAt (now (t .entry)) q) ⌝ }
+fn get_edit(journal: &[u32], q: usize, back: bool) -> Edit
+    requires { ⌜ q + 10 ≤ length (now journal) ⌝ }
+    ensures { λ r. ⌜ r ≡ turned back (editAt (now (journal .entry)) q) ⌝ }
 {
-    let k = t[q + 0];
-    let a = t[q + 1];
-    let b = t[q + 2];
-    let c = t[q + 3];
-    let d = t[q + 4];
-    let e = t[q + 5];
-    let f = t[q + 6];
-    let g = t[q + 7];
-    let h = t[q + 8];
-    let i = t[q + 9];
+    let k = journal[q + 0];
+    let a = journal[q + 1];
+    let b = journal[q + 2];
+    let c = journal[q + 3];
+    let d = journal[q + 4];
+    let e = journal[q + 5];
+    let f = journal[q + 6];
+    let g = journal[q + 7];
+    let h = journal[q + 8];
+    let i = journal[q + 9];
     decode_turned(k, Five { a, b, c, d, e }, f, g, h, i, back)
 }
 
@@ -117,26 +118,26 @@ fn wide(x: u32) -> usize
     x as usize
 }
 
-// The edit of row i, or what undoes it.
-pub fn row_at(t: &[u32], i: u32, back: bool) -> Edit
-    requires { ⌜ 12 * i + 12 ≤ length (now t) ⌝ }
-    ensures { λ r. ⌜ r ≡ turned back (rowAt (now (t .entry)) i) ⌝ }
+// The edit of a row, or what undoes it.
+pub fn row_at(journal: &[u32], row: u32, back: bool) -> Edit
+    requires { ⌜ 12 * row + 12 ≤ length (now journal) ⌝ }
+    ensures { λ r. ⌜ r ≡ turned back (rowAt (now (journal .entry)) row) ⌝ }
 {
-    get_edit(t, 12 * wide(i), back)
+    get_edit(journal, 12 * wide(row), back)
 }
 
-// The cost of row i's step.
-pub fn cost_at(t: &[u32], i: u32) -> u32
-    requires { ⌜ 12 * i + 12 ≤ length (now t) ⌝ }
-    ensures { λ r. ⌜ r ≡ costAt (now (t .entry)) i ⌝ }
+// The cost of the step that a row is of.
+pub fn cost_at(journal: &[u32], row: u32) -> u32
+    requires { ⌜ 12 * row + 12 ≤ length (now journal) ⌝ }
+    ensures { λ r. ⌜ r ≡ stepAt (now (journal .entry)) row .cost ⌝ }
 {
-    t[12 * wide(i) + 10]
+    journal[12 * wide(row) + 10]
 }
 
-// Ten words and the cost of their step as row i: the writer of every row. Which words an edit is, `wordsOf` says.
+// Ten words and the cost of their step as one row: the writer of every row. Which words an edit is, `rowWords` says.
 pub fn put_row(
-    t: &mut [u32],
-    i: u32,
+    journal: &mut [u32],
+    row: u32,
     cost: u32,
     k: u32,
     a: u32,
@@ -149,13 +150,14 @@ pub fn put_row(
     h: u32,
     j: u32,
 )
-    requires { ⌜ 12 * i + 12 ≤ length (now t) ⌝ }
-    ensures { λ _. ⌜ now (t .exit) ≡ set
-        (storeFrom (12 * i) (k ∷ a ∷ b ∷ c ∷ d ∷ e ∷ f ∷ g ∷ h ∷ j ∷ []) (now (t .entry))) (12 * i + 10) cost ⌝ }
+    requires { ⌜ 12 * row + 12 ≤ length (now journal) ⌝ }
+    ensures { λ _. ⌜ now (journal .exit) ≡ set
+        (storeFrom (12 * row) (k ∷ a ∷ b ∷ c ∷ d ∷ e ∷ f ∷ g ∷ h ∷ j ∷ []) (now (journal .entry))) (12 * row + 10)
+        cost ⌝ }
 {
-    let q = 12 * wide(i);
+    let q = 12 * wide(row);
     put_five(
-        t,
+        journal,
         q,
         Five {
             a: k,
@@ -166,7 +168,7 @@ pub fn put_row(
         },
     );
     put_five(
-        t,
+        journal,
         q + 1 + 1 + 1 + 1 + 1,
         Five {
             a: e,
@@ -176,5 +178,5 @@ pub fn put_row(
             e: j,
         },
     );
-    t[q + 10] = cost;
+    journal[q + 10] = cost;
 }

@@ -1,4 +1,5 @@
 // What the row of an edge's removal says of the edge, read off its row in the table.
+use graph_tables::choice::choose;
 use graph_tables::rows::edge_prev;
 use graph_tables::rows::edge_type;
 use graph_tables::rows::reading_decimetres;
@@ -7,7 +8,6 @@ use graph_tables::rows::this;
 use graph_tables::rows::word_prev;
 ghost use mathlib.Core.Path.{_≡_};
 ghost use Prim.Native.Nat.{_^_, _<_};
-ghost use Rattle.lists.specs.Choice.{ifEqual};
 ghost use Rattle.graph_tables.specs.Tables.{EdgeRowIn};
 ghost use Rattle.journal.specs.Written.{edgeWords};
 
@@ -23,30 +23,20 @@ pub struct EdgeWords {
     pub into: u32,
 }
 
-// What stands before a word once `gone` is out of the list, which stood after `into`.
-fn before_word(p: u32, gone: u32, into: u32) -> u32
-    ensures { λ r. ⌜ r ≡ ifEqual p gone into p ⌝ }
-{
-    if p == gone {
-        return into;
-    }
-    p
-}
-
 // These words of edge n, read off its row.
-pub fn edge_words(et: &[u32], n: u32) -> EdgeWords
-    requires { ⌜ (n < 2 ^ 31) × EdgeRowIn (now et) n ⌝ }
-    ensures { λ r. ⌜ r ≡ edgeWords (now (et .entry)) n ⌝ }
+pub fn edge_words(edges: &[u32], n: u32) -> EdgeWords
+    requires { ⌜ (n < 2 ^ 31) × EdgeRowIn (now edges) n ⌝ }
+    ensures { λ r. ⌜ r ≡ edgeWords (now (edges .entry)) n ⌝ }
 {
-    let alpha = this(et, 2 * n);
-    let omega = this(et, 2 * n + 1);
-    let sort = edge_type(et, n);
-    let kind = reading_kind(et, n);
-    let decimetres = reading_decimetres(et, n);
-    let order = edge_prev(et, n);
-    let p = word_prev(et, 2 * n);
-    let into = word_prev(et, 2 * n + 1);
-    let out = before_word(p, 2 * n + 1, into);
+    let alpha = this(edges, 2 * n);
+    let omega = this(edges, 2 * n + 1);
+    let sort = edge_type(edges, n);
+    let kind = reading_kind(edges, n);
+    let decimetres = reading_decimetres(edges, n);
+    let order = edge_prev(edges, n);
+    let p = word_prev(edges, 2 * n);
+    let into = word_prev(edges, 2 * n + 1);
+    let out = choose(p, 2 * n + 1, into, p);
     EdgeWords {
         alpha,
         omega,

@@ -34,6 +34,10 @@ module _ (n p : ℕ → ℕ) where
   last-link a [] b c = c .1
   last-link a (x ∷ v) b c = last-link x v b (c .1)
 
+  pub next-last : (a : ℕ) (v : List ℕ) (b : ℕ) → Chain n p a v b → n (lastOr a v) ≡ b
+  next-last a [] b c = c .0
+  next-last a (x ∷ v) b c = next-last x v b (c .1)
+
   pub head-rest : (a : ℕ) (v : List ℕ) (b : ℕ) → Chain n p a v b → Rest n p v b
   head-rest a [] b c = tt
   head-rest a (x ∷ v) b c = c .1

@@ -1,7 +1,7 @@
 -- The laws of held lists with membership as a count, in the words of keyed lists: `countBy`, `rem`, `ins`, `prev`.
 use Prim.Native.Nat.{ℕ, _+_, _≤_}
 use mathlib.Core.Path.{_≡_, refl, sym}
-use mathlib.Core.List.{List, [], _∷_, _++_}
+use mathlib.Core.List.{List, [], _∷_}
 use mathlib.Core.Bool.{true}
 use mathlib.Core.Logic.{_⊎_, inl, inr}
 use native.Mathlib.Omega.{arith}
@@ -18,7 +18,6 @@ use Rattle.linked_lists.specs.Links.{ValidLayout, backward, forward, Ins
 use Rattle.linked_lists.proofs.HeldLaws.{can-unlink, held-unlink, can-insert, held-insert, held-pred, held-inside}
 use Rattle.linked_lists.proofs.Frames.{frame-unlink, frame-insert}
 use Rattle.linked_lists.proofs.Walks.{next-after}
-use Rattle.linked_lists.proofs.AppendLaws.{can-append, held-append}
 
 -- how often x is in l
 abbrev pub times : ℕ → List ℕ → ℕ
@@ -83,14 +82,6 @@ module _ (layout : LinkLayout) (t : List ℕ) (e : Ends) (l : List ℕ) (valid :
 
     pub held-ins : Held layout (insertT layout t e p x) (insertE layout t e p x) (insertAfterBy (λ k. k) 0 p x l)
     held-ins = held-insert layout t e l p x valid h (new x r l f) i (split-after-is p l a)
-
-  -- x last
-  module _ (x : ℕ) (r : 1 ≤ x) (f : times x l ≡ 0) (i : Inside layout (length t) x) where
-    pub can-end : CanInsert layout t e (e .last) x
-    can-end = can-append layout t e l x valid h (new x r l f) i
-
-    pub held-end : Held layout (insertT layout t e (e .last) x) (insertE layout t e (e .last) x) (l ++ x ∷ [])
-    held-end = held-append layout t e l x valid h (new x r l f) i
 
   -- another list of the same lane
   module _ (e′ : Ends) (l′ : List ℕ) (h′ : Held layout t e′ l′) (apart : (k : ℕ) → times k l + times k l′ ≤ 1) where

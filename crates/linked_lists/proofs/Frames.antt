@@ -90,17 +90,6 @@ module _ (layout : LinkLayout) (valid : ValidLayout layout) where
   frame-nodes a b t e l fa fb h =
       frame-join layout layout a b t e l (off-nodes a (length t) l (h .distinct .0) (h .inside) fa) (off-nodes b (length t) l (h .distinct .0) (h .inside) fb) h
 
--- ---- another lane
-
--- no word of a node of one lane is a word of a node of the other
-abbrev pub Apart : LinkLayout → LinkLayout → Type 0
-Apart layout′ layout = (k a : ℕ) → HasAddress layout′ k → HasAddress layout a → (r s : Side) → linkAddress r layout′ k ≡ linkAddress s layout a → ⊥
-
-module _ (layout′ layout : LinkLayout) (apart : Apart layout′ layout) where
-  off-layout : (a n : ℕ) (l : List ℕ) → Fresh 0 l → All (Inside layout′ n) l → All (Off layout′ layout a) l
-  off-layout a n [] z i = tt
-  off-layout a n (k ∷ l) z i = ((λ o. apart k a (i .0 (λ q. z .0 (sym q)) .0) o), off-layout a n l (z .1) (i .1))
-
 -- ---- a list of other nodes in the same lane, after a whole step
 
 module _ (layout : LinkLayout) (valid : ValidLayout layout) (t : List ℕ) (e : Ends) (l : List ℕ) (e′ : Ends) (l′ : List ℕ)

@@ -1,16 +1,16 @@
--- Laws of the lists of node numbers: where a node stands, and that removal and insertion undo each other.
+-- Laws of the lists of node numbers: where a node stands, and removal and insertion there.
 use Prim.Native.Nat.{ℕ}
 use mathlib.Core.Path.{_≡_, refl, sym, ap, _∙_}
-use mathlib.Core.List.{List, [], _∷_, _++_, append-nil}
+use mathlib.Core.List.{List, [], _∷_, _++_}
 use mathlib.Core.Bool.{Bool, true, false, _||_}
 use mathlib.Core.Logic.{_≢_, _⊎_, inl, inr}
-use borrow.Author.Tests.{eqb-true, eqb-false, eq-eqb, ne-eqb}
+use borrow.Author.Tests.{eqb-true, eqb-false}
 use Rattle.lists.specs.Choice.{_==_}
 use Rattle.lists.specs.Lists.{member}
 use Rattle.lists.specs.Keyed.{insertAfterBy, prevBy, lastBy}
-use Rattle.lists.proofs.Bools.{tf, ft, or-right}
+use Rattle.lists.proofs.Bools.{tf, ft}
 use Rattle.lists.proofs.Picks.{pick-yes, pick-no, pick-self}
-use Rattle.linked_lists.specs.Lists.{Fresh, Distinct, All, remove, insertAfter}
+use Rattle.linked_lists.specs.Lists.{Fresh, Distinct, All, remove}
 
 -- the last of a ∷ u, and the first of v ++ b ∷ []
 abbrev pub lastOr : ℕ → List ℕ → ℕ
@@ -30,14 +30,6 @@ module _ (P : ℕ → Type 0) where
   pub all-right : (u v : List ℕ) → All P (u ++ v) → All P v
   all-right [] v h = h
   all-right (x ∷ u) v h = all-right u v (h .1)
-
-  pub all-append : (u v : List ℕ) → All P u → All P v → All P (u ++ v)
-  all-append [] v a b = b
-  all-append (x ∷ u) v a b = (a .0, all-append u v (a .1) b)
-
-  pub all-map : (Q : ℕ → Type 0) (u : List ℕ) → ((k : ℕ) → P k → Q k) → All P u → All Q u
-  all-map Q [] f h = tt
-  all-map Q (x ∷ u) f h = (f x (h .0), all-map Q u f (h .1))
 
   pub all-last : (a : ℕ) (u : List ℕ) → P a → All P u → P (lastOr a u)
   all-last a [] h k = h
@@ -178,17 +170,11 @@ insert-at p x a (y ∷ u) v d e =
     let o : a ≢ p = λ q. fresh-last a y u (d .0) (q ∙ e) in
     rw (pick-no a p) (ap (λ k. y ∷ k) (insert-at p x y u v (d .1) e))
 
--- x put in after the last node is last
-pub insert-last : (x : ℕ) (l : List ℕ) → Distinct (0 ∷ l) → insertAfter (lastOr 0 l) x l ≡ l ++ x ∷ []
-insert-last x l d = rw append-nil at (insert-at (lastOr 0 l) x 0 l [] d refl)
-
--- ---- they undo each other
-
 pub fresh-first : (x b : ℕ) (v : List ℕ) → Fresh x (b ∷ v) → x ≡ headOr b v → ⊥
 fresh-first x b [] h e = h .0 e
 fresh-first x b (y ∷ v) h e = h .1 .0 e
 
--- a test that fails says that the node is not there, and the other way
+-- a test that fails says that the node is not there
 pub has-fresh : (x : ℕ) (l : List ℕ) → member x l ≡ false → Fresh x l
 has-fresh x [] h = tt
 has-fresh x (y ∷ l) h = go (y == x) refl (has-fresh x l) h
@@ -196,18 +182,3 @@ has-fresh x (y ∷ l) h = go (y == x) refl (has-fresh x l) h
     go : (b : Bool) → (y == x) ≡ b → (member x l ≡ false → Fresh x l) → (b || member x l) ≡ false → (x ≡ y → ⊥) × Fresh x l
     go true e r m = tf m
     go false e r m = ((λ q. eqb-false y x e (sym q)), r m)
-
-pub fresh-has : (x : ℕ) (l : List ℕ) → Fresh x l → member x l ≡ false
-fresh-has x [] h = refl
-fresh-has x (y ∷ l) h = rw (ne-eqb y x (λ q. h .0 (sym q))) (fresh-has x l (h .1))
-
--- ---- where a node goes back
-
--- the last of a ∷ u is a, or is in u
-pub last-has : (a : ℕ) (u v : List ℕ) → (lastOr a u ≡ a) ⊎ (member (lastOr a u) (u ++ v) ≡ true)
-last-has a [] v = inl refl
-last-has a (y ∷ u) v = inr (go (last-has y u v))
-  where
-    go : (lastOr y u ≡ y) ⊎ (member (lastOr y u) (u ++ v) ≡ true) → member (lastOr y u) (y ∷ (u ++ v)) ≡ true
-    go (inl e) = rw (eq-eqb y (lastOr y u) (sym e))
-    go (inr m) = or-right (y == lastOr y u) (member (lastOr y u) (u ++ v)) m

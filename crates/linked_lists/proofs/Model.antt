@@ -1,6 +1,6 @@
 -- The list read off a table is the one list that it holds.
 use Prim.Native.Nat.{ℕ, zero, suc, _+_, _*_, _≤_, _<_}
-use mathlib.Core.Path.{_≡_, refl, sym}
+use mathlib.Core.Path.{_≡_, refl, sym, ap, _∙_}
 use mathlib.Core.List.{List, [], _∷_}
 use native.Mathlib.Omega.{arith}
 use native.Mathlib.Nat.{mul-le-mul-right}
@@ -11,7 +11,7 @@ use Rattle.linked_lists.specs.declared.Ends.{Ends}
 use Rattle.linked_lists.specs.Lists.{Fresh}
 use Rattle.linked_lists.specs.Links.{ValidLayout, forward, backward, nodeAddress, HasAddress, linkOf, Chain, Held, nodesFrom, nodes}
 use Rattle.linked_lists.proofs.ListLaws.{lastOr}
-use Rattle.linked_lists.proofs.Chains.{last-link}
+use Rattle.linked_lists.proofs.Chains.{last-link, next-last}
 use Rattle.linked_lists.proofs.Pigeonhole.{held-length}
 
 -- the nodes read off a chain are its nodes
@@ -38,3 +38,8 @@ held-nodes layout t e valid l h =
 pub held-last : (layout : LinkLayout) (t : List ℕ) (e : Ends) (l : List ℕ) → Held layout t e l → e .last ≡ lastOr 0 l
 unfolding linkOf
 held-last layout t e l h = last-link (linkOf forward layout t e) (linkOf backward layout t e) 0 l 0 (h .chain)
+
+-- no node follows the last
+pub held-end : (layout : LinkLayout) (t : List ℕ) (e : Ends) (l : List ℕ) → Held layout t e l → linkOf forward layout t e (e .last) ≡ 0
+held-end layout t e l h =
+    ap (linkOf forward layout t e) (held-last layout t e l h) ∙ next-last (linkOf forward layout t e) (linkOf backward layout t e) 0 l 0 (h .chain)

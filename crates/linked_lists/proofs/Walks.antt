@@ -9,14 +9,13 @@ use lib.ListN.{length}
 use borrow.Author.Tests.{eq-eqb, ne-eqb}
 use Rattle.lists.specs.Choice.{_⇒_else_, _==_}
 use Rattle.lists.specs.Lists.{member, first, dropThrough, after, before}
-use Rattle.lists.specs.Keyed.{prevBy}
 use Rattle.lists.proofs.Bools.{ft, or-right}
-use Rattle.lists.proofs.Picks.{pick-no, same, differ, same?}
+use Rattle.lists.proofs.Picks.{same, differ, same?}
 use Rattle.linked_lists.specs.declared.LinkLayout.{LinkLayout}
 use Rattle.linked_lists.specs.declared.Ends.{Ends}
 use Rattle.linked_lists.specs.Lists.{Fresh, Distinct}
 use Rattle.linked_lists.specs.Links.{ValidLayout, backward, forward, Inside, linkOf, Held, HeldAt, nodes}
-use Rattle.linked_lists.proofs.ListLaws.{lastOr, headOr, Split, split, fresh-has}
+use Rattle.linked_lists.proofs.ListLaws.{headOr, Split, split}
 use Rattle.linked_lists.proofs.Chains.{head-link}
 use Rattle.linked_lists.proofs.HeldLaws.{after-x, held-inside}
 use Rattle.linked_lists.proofs.Model.{held-nodes}
@@ -63,14 +62,6 @@ after-in x l = go (dropThrough x l) (λ k. has-behind k x l)
     go [] f = inl refl
     go (z ∷ v) f = inr (f z (rw (eq-eqb z z refl)))
 
--- no node is before itself
-pub before-self : (x : ℕ) (l : List ℕ) → Distinct l → before x x l ≡ false
-before-self x [] d = refl
-before-self x (y ∷ l) d = elim (same? y x) [
-  | same e i ↦ rw (behind-here x y l e) (fresh-has x l (rw e at (d .0)))
-  | differ e i ↦ rw (behind-later x y l e) (before-self x l (d .1))
-]
-
 -- ---- the part of a list that starts with x
 
 abbrev pub suffix : ℕ → List ℕ → List ℕ
@@ -112,12 +103,6 @@ suffix-after x (y ∷ l) d =
     ]
 
 -- ---- a held list
-
-pred-0 : (a : ℕ) (l : List ℕ) → Fresh 0 l → prevBy (λ k. k) a 0 l ≡ lastOr a l
-pred-0 a [] f = refl
-pred-0 a (y ∷ l) f =
-    let o : y ≢ 0 = λ q. f .0 (sym q) in
-    rw (pick-no y 0) (pred-0 y l (f .1))
 
 module _ (layout : LinkLayout) (t : List ℕ) (e : Ends) (l : List ℕ) (h : Held layout t e l) where
   -- the first node follows 0

@@ -136,3 +136,9 @@ pub record CanInsert (layout : LinkLayout) (t : List ℕ) (e : Ends) (p x : ℕ)
   pub here : Inside layout (length t) x
   pub prev : Inside layout (length t) p
   pub next : Inside layout (length t) (linkOf forward layout t e p)
+
+-- what putting x behind the last node asks: no node follows that one
+pub record CanAppend (layout : LinkLayout) (t : List ℕ) (e : Ends) (x : ℕ) : Type 0 where
+  pub back : CanInsert layout t e (e .last) x
+  pub node : x ≡ 0 → ⊥
+  pub end : linkOf forward layout t e (e .last) ≡ 0

@@ -3,13 +3,14 @@
 ghost use mathlib.Core.Path.{_≡_};
 ghost use Prim.Native.Nat.{_+_, _<_, _^_};
 ghost use lib.ListN.{length};
+ghost use Rattle.lists.specs.Choice.{_⇒_else_, _==_};
 ghost use Rattle.lists.specs.Lists.{before as isBefore};
 ghost use Rattle.linked_lists.specs.Links.{ValidLayout, Inside, HasAddress, nodeAddress, linkOf, putT, putE};
 ghost use Rattle.linked_lists.specs.Links.{backward, forward, joinT, joinE};
 ghost use Rattle.linked_lists.specs.Links.{unlinkT, unlinkE, insertT, insertE, CanUnlink, CanInsert, HeldAt};
-ghost use Rattle.linked_lists.specs.Links.{nodes};
+ghost use Rattle.linked_lists.specs.Links.{CanAppend, nodes};
 
-// Where a list's links stand in a table: node x has its prev word at stride * x - skip and its next word just after it.
+// Where a list's links stand in a table: node x has its prev word at stride * x - offset, its next word just after it.
 pub struct LinkLayout {
     pub stride: usize,
     pub offset: usize,
@@ -33,36 +34,37 @@ fn place(n: usize, layout: LinkLayout, x: u32) -> usize
 }
 
 // The node after x, 0 after the last; the first node where x is 0.
-pub fn next(t: &[u32], layout: LinkLayout, ends: Ends, x: u32) -> u32
+pub fn next(table: &[u32], layout: LinkLayout, ends: Ends, x: u32) -> u32
     requires { ⌜ ValidLayout layout ⌝ }
-    requires { ⌜ Inside layout (length (now t)) x ⌝ }
-    ensures { λ r. ⌜ r ≡ linkOf forward layout (now (t .entry)) ends x ⌝ }
+    requires { ⌜ Inside layout (length (now table)) x ⌝ }
+    ensures { λ r. ⌜ r ≡ linkOf forward layout (now (table .entry)) ends x ⌝ }
 {
     if x == 0 {
         return ends.first;
     }
-    let at = place(t.len(), layout, x);
-    t[at + 1]
+    let at = place(table.len(), layout, x);
+    table[at + 1]
 }
 
 // The node before x, 0 before the first; the last node where x is 0.
-pub fn prev(t: &[u32], layout: LinkLayout, ends: Ends, x: u32) -> u32
+pub fn prev(table: &[u32], layout: LinkLayout, ends: Ends, x: u32) -> u32
     requires { ⌜ ValidLayout layout ⌝ }
-    requires { ⌜ Inside layout (length (now t)) x ⌝ }
-    ensures { λ r. ⌜ r ≡ linkOf backward layout (now (t .entry)) ends x ⌝ }
+    requires { ⌜ Inside layout (length (now table)) x ⌝ }
+    ensures { λ r. ⌜ r ≡ linkOf backward layout (now (table .entry)) ends x ⌝ }
 {
     if x == 0 {
         return ends.last;
     }
-    let at = place(t.len(), layout, x);
-    t[at]
+    let at = place(table.len(), layout, x);
+    table[at]
 }
 
 // Makes v the node after x.
-fn put_next(t: &mut [u32], layout: LinkLayout, ends: Ends, x: u32, v: u32) -> Ends
+fn put_next(table: &mut [u32], layout: LinkLayout, ends: Ends, x: u32, v: u32) -> Ends
     requires { ⌜ ValidLayout layout ⌝ }
-    requires { ⌜ Inside layout (length (now t)) x ⌝ }
-    ensures { λ r. ⌜ (now (t .exit) ≡ putT forward layout x v (now (t .entry))) × (r ≡ putE forward x v ends) ⌝ }
+    requires { ⌜ Inside layout (length (now table)) x ⌝ }
+    ensures { λ r. ⌜ (now (table .exit) ≡ putT forward layout x v (now (table .entry)))
+        × (r ≡ putE forward x v ends) ⌝ }
 {
     if x == 0 {
         return Ends {
@@ -70,16 +72,17 @@ fn put_next(t: &mut [u32], layout: LinkLayout, ends: Ends, x: u32, v: u32) -> En
             last: ends.last,
         };
     }
-    let at = place(t.len(), layout, x);
-    t[at + 1] = v;
+    let at = place(table.len(), layout, x);
+    table[at + 1] = v;
     ends
 }
 
 // Makes v the node before x.
-fn put_prev(t: &mut [u32], layout: LinkLayout, ends: Ends, x: u32, v: u32) -> Ends
+fn put_prev(table: &mut [u32], layout: LinkLayout, ends: Ends, x: u32, v: u32) -> Ends
     requires { ⌜ ValidLayout layout ⌝ }
-    requires { ⌜ Inside layout (length (now t)) x ⌝ }
-    ensures { λ r. ⌜ (now (t .exit) ≡ putT backward layout x v (now (t .entry))) × (r ≡ putE backward x v ends) ⌝ }
+    requires { ⌜ Inside layout (length (now table)) x ⌝ }
+    ensures { λ r. ⌜ (now (table .exit) ≡ putT backward layout x v (now (table .entry)))
+        × (r ≡ putE backward x v ends) ⌝ }
 {
     if x == 0 {
         return Ends {
@@ -87,56 +90,83 @@ fn put_prev(t: &mut [u32], layout: LinkLayout, ends: Ends, x: u32, v: u32) -> En
             last: v,
         };
     }
-    let at = place(t.len(), layout, x);
-    t[at] = v;
+    let at = place(table.len(), layout, x);
+    table[at] = v;
     ends
 }
 
 // Links a and b to each other: b follows a, and a precedes b.
-fn join(t: &mut [u32], layout: LinkLayout, ends: Ends, a: u32, b: u32) -> Ends
+fn join(table: &mut [u32], layout: LinkLayout, ends: Ends, a: u32, b: u32) -> Ends
     requires { ⌜ ValidLayout layout ⌝ }
-    requires { ⌜ Inside layout (length (now t)) a ⌝ }
-    requires { ⌜ Inside layout (length (now t)) b ⌝ }
-    ensures { λ r. ⌜ (now (t .exit) ≡ joinT layout a b (now (t .entry))) × (r ≡ joinE a b ends) ⌝ }
+    requires { ⌜ Inside layout (length (now table)) a ⌝ }
+    requires { ⌜ Inside layout (length (now table)) b ⌝ }
+    ensures { λ r. ⌜ (now (table .exit) ≡ joinT layout a b (now (table .entry))) × (r ≡ joinE a b ends) ⌝ }
 {
-    let e = put_next(t, layout, ends, a, b);
-    put_prev(t, layout, e, b, a)
+    let e = put_next(table, layout, ends, a, b);
+    put_prev(table, layout, e, b, a)
 }
 
 // Takes node x out of its list.
-pub fn unlink(t: &mut [u32], layout: LinkLayout, ends: Ends, x: u32) -> Ends
-    requires { ⌜ CanUnlink layout (now t) ends x ⌝ }
-    ensures { λ r. ⌜ (now (t .exit) ≡ unlinkT layout (now (t .entry)) ends x)
-        × (r ≡ unlinkE layout (now (t .entry)) ends x) ⌝ }
+pub fn unlink(table: &mut [u32], layout: LinkLayout, ends: Ends, x: u32) -> Ends
+    requires { ⌜ CanUnlink layout (now table) ends x ⌝ }
+    ensures { λ r. ⌜ (now (table .exit) ≡ unlinkT layout (now (table .entry)) ends x)
+        × (r ≡ unlinkE layout (now (table .entry)) ends x) ⌝ }
 {
-    let p = prev(t, layout, ends, x);
-    let n = next(t, layout, ends, x);
-    join(t, layout, ends, p, n)
+    let p = prev(table, layout, ends, x);
+    let n = next(table, layout, ends, x);
+    join(table, layout, ends, p, n)
 }
 
 // Puts node x after node p, or at the front where p is 0.
-pub fn insert_after(t: &mut [u32], layout: LinkLayout, ends: Ends, p: u32, x: u32) -> Ends
-    requires { ⌜ CanInsert layout (now t) ends p x ⌝ }
-    ensures { λ r. ⌜ (now (t .exit) ≡ insertT layout (now (t .entry)) ends p x)
-        × (r ≡ insertE layout (now (t .entry)) ends p x) ⌝ }
+pub fn insert_after(table: &mut [u32], layout: LinkLayout, ends: Ends, p: u32, x: u32) -> Ends
+    requires { ⌜ CanInsert layout (now table) ends p x ⌝ }
+    ensures { λ r. ⌜ (now (table .exit) ≡ insertT layout (now (table .entry)) ends p x)
+        × (r ≡ insertE layout (now (table .entry)) ends p x) ⌝ }
 {
-    let n = next(t, layout, ends, p);
-    let e = join(t, layout, ends, p, x);
-    join(t, layout, e, x, n)
+    let n = next(table, layout, ends, p);
+    let e = join(table, layout, ends, p, x);
+    join(table, layout, e, x, n)
+}
+
+// One word or another: by whether there is a node.
+fn either(node: u32, without: u32, with: u32) -> u32
+    ensures { λ r. ⌜ r ≡ ((node == 0) ⇒ without else with) ⌝ }
+{
+    if node == 0 {
+        return without;
+    }
+    with
+}
+
+// Puts node x behind the last. Which nodes are the first of a list follows no pattern, so no branch asks for it: in an
+// empty list x's own next word is written where the last node's would be, and is then overwritten.
+pub fn append(table: &mut [u32], layout: LinkLayout, ends: Ends, x: u32) -> Ends
+    requires { ⌜ CanAppend layout (now table) ends x ⌝ }
+    ensures { λ r. ⌜ (now (table .exit) ≡ insertT layout (now (table .entry)) ends (ends .last) x)
+        × (r ≡ insertE layout (now (table .entry)) ends (ends .last) x) ⌝ }
+{
+    let p = ends.last;
+    let before = place(table.len(), layout, either(p, x, p));
+    let at = place(table.len(), layout, x);
+    let first = either(p, x, ends.first);
+    table[before + 1] = x;
+    table[at] = p;
+    table[at + 1] = 0;
+    Ends { first, last: x }
 }
 
 // Is a before b in the list: a walk from a to the end. No node is before itself.
-pub fn before(t: &[u32], layout: LinkLayout, ends: Ends, a: u32, b: u32) -> bool
+pub fn before(table: &[u32], layout: LinkLayout, ends: Ends, a: u32, b: u32) -> bool
     requires { ⌜ ValidLayout layout ⌝ }
-    requires { ⌜ HeldAt layout (now t) ends a ⌝ }
-    ensures { λ r. ⌜ r ≡ isBefore a b (nodes layout (now (t .entry)) ends) ⌝ }
+    requires { ⌜ HeldAt layout (now table) ends a ⌝ }
+    ensures { λ r. ⌜ r ≡ isBefore a b (nodes layout (now (table .entry)) ends) ⌝ }
 {
-    let mut x = next(t, layout, ends, a);
+    let mut x = next(table, layout, ends, a);
     while x != 0 {
         if x == b {
             return true;
         }
-        x = next(t, layout, ends, x);
+        x = next(table, layout, ends, x);
     }
     false
 }

@@ -99,10 +99,6 @@ module _ {A : Type 0} (key : A → ℕ) where
     count-upd n k [] = refl
     count-upd n k (y ∷ l) = rw (key-upd k y, count-upd n k l)
 
-    pub prev-upd : (q n k : ℕ) (l : List A) → prevBy key q n (updateBy key k f l) ≡ prevBy key q n l
-    prev-upd q n k [] = refl
-    prev-upd q n k (y ∷ l) = rw (key-upd k y) (ap (λ (t : ℕ). ifEqual (key y) n q t) (prev-upd (key y) n k l))
-
     pub find-upd : (d : A) (k : ℕ) (l : List A) → 1 ≤ countBy key k l → findBy key d k (updateBy key k f l) ≡ f (findBy key d k l)
     find-upd d k [] h = absurd (omega arith)
     find-upd d k (y ∷ l) h = rw (key-upd k y) (elim (same? (key y) k) [

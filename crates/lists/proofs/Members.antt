@@ -1,7 +1,6 @@
 -- The elements of lists of numbers: by count, and those that a list operation picks.
 use Prim.Native.Nat.{ℕ, suc, _+_, _≤_}
 use mathlib.Core.Path.{_≡_, refl, subst}
-use mathlib.Core.Logic.{_⊎_, inl, inr}
 use mathlib.Core.Bool.{Bool, true, false}
 use mathlib.Core.List.{List, [], _∷_, map}
 use native.Mathlib.Omega.{arith}
@@ -9,7 +8,6 @@ use lib.ListN.{length}
 use borrow.Author.Tests.{eqb-true, eq-eqb}
 use Rattle.lists.specs.Choice.{_⇒_else_, _==_, toBit}
 use Rattle.lists.specs.Lists.{filter, member, count, first, dropThrough, after, dedupFrom, dedup, All, done, more}
-use Rattle.lists.proofs.Sums.{count-has}
 
 module _ {P : ℕ → Type 0} where
   -- what holds of each number that stands in a list holds of every element, and the other way round
@@ -59,16 +57,6 @@ module _ {P : ℕ → Type 0} where
   pub all-keys : {A : Type 0} (f : A → ℕ) → {xs : List A} → All (λ (x : A). P (f x)) xs → All P (map f xs)
   all-keys f done = done
   all-keys f (more p s) = more p (all-keys f s)
-
--- the first and the one after a are in the list, or 0 where there is none
-abbrev pub NoneOrIn : List ℕ → ℕ → Type 0
-NoneOrIn xs n = (n ≡ 0) ⊎ (member n xs ≡ true)
-
-all-in : (xs : List ℕ) → All (NoneOrIn xs) xs
-all-in xs = all-counted xs (λ n c. inr (count-has n xs c))
-
-pub first-there : (xs : List ℕ) → NoneOrIn xs (first xs)
-first-there xs = all-first (inl refl) (all-in xs)
 
 pub keep-length : {A : Type 0} (p : A → Bool) (xs : List A) → length (filter p xs) ≤ length xs
 keep-length p [] = omega arith

@@ -2,7 +2,7 @@
 use Prim.Native.Nat.{ℕ, suc, _+_, _≤_}
 use mathlib.Core.Path.{_≡_, refl, sym, ap, _∙_, subst}
 use mathlib.Core.Bool.{Bool, true, false, not}
-use mathlib.Core.List.{List, [], _∷_, _++_, map}
+use mathlib.Core.List.{List, [], _∷_, _++_}
 use native.Mathlib.Omega.{arith}
 use lib.ListN.{length}
 use borrow.Author.Tests.{eqb-true, eq-eqb, not-true}
@@ -23,10 +23,6 @@ module _ {A : Type 0} where
   pub all-append : {P : A → Type 0} {xs ys : List A} → All P xs → All P ys → All P (xs ++ ys)
   all-append done b = b
   all-append (more p a) b = more p (all-append a b)
-
-  pub all-map : {P : A → Type 0} (Q : A → Type 0) (c : A → A) → ((x : A) → P x → Q (c x)) → {xs : List A} → All P xs → All Q (map c xs)
-  all-map Q c h done = done
-  all-map Q c h (more {x = x} a as′) = more (h x a) (all-map Q c h as′)
 
   pub all-bool : {P : A → Type 0} (p : A → Bool) → ((x : A) → p x ≡ true → P x) → (xs : List A) → all p xs ≡ true → All P xs
   all-bool p h [] e = done

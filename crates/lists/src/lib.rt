@@ -1,1 +1,13 @@
-// Shared definitions and laws on choices, lists and counts. There is no code here.
+// Shared definitions and laws on choices, lists and counts, and one function: the word of a slice at any place.
+ghost use mathlib.Core.Path.{_≡_};
+ghost use lib.ListN.{getD};
+
+// The word at a place; past the end it is 0.
+pub fn get(words: &[u32], i: usize) -> u32
+    ensures { λ r. ⌜ r ≡ getD (now (words .entry)) i 0 ⌝ }
+{
+    if i < words.len() {
+        return words[i];
+    }
+    0
+}

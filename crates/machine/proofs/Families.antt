@@ -16,7 +16,7 @@ use Rattle.graph.specs.Changes.{cost}
 use Rattle.graph.specs.Same.{alters}
 use Rattle.history.specs.Machine.{Step, stepOf, Machine, present}
 use Rattle.machine.specs.HistoryCodes.{tooDear, historyTable}
-use Rattle.machine.specs.Rules.{Effect, steps, marks, unmarks, goes, clears, nothing, deed, changeDeed, historyDeed, historyRule}
+use Rattle.machine.specs.Rules.{Effect, steps, marks, unmarks, goes, clears, nothing, deed, changeDeed, historyDeed, firstCode, changeRule, historyRule}
 use Rattle.commands.specs.declared.HistoryCall.{HistoryCall}
 use Rattle.commands.specs.declared.HistoryCall.the-variants.{SetMark, DropMark, Undo, Redo, GoTo, Commit, Between, Standing, Free}
 use Rattle.commands.specs.declared.Question.{Question}
@@ -34,19 +34,15 @@ use Rattle.machine.specs.Codes.{chartTable, lastTable, refusal, changeCo
 abbrev pub Coded : List Row → Type 0
 Coded rs = All (λ (r : Row). 1 ≤ r .code) rs
 
--- the first code that is not 0
-abbrev pub orElse : ℕ → ℕ → ℕ
-orElse r s = (r == 0) ⇒ s else r
-
-lowest-both : (rs ss : List Row) → Coded rs → lowest (rs ++ ss) ≡ orElse (lowest rs) (lowest ss)
+lowest-both : (rs ss : List Row) → Coded rs → lowest (rs ++ ss) ≡ firstCode (lowest rs) (lowest ss)
 lowest-both [] ss done = refl
 lowest-both (r ∷ rs) ss (more h hs) = go (r .applies) (lowest-both rs ss hs)
   where
-    go : (t : Bool) → lowest (rs ++ ss) ≡ orElse (lowest rs) (lowest ss) → (t ⇒ r .code else lowest (rs ++ ss)) ≡ orElse (t ⇒ r .code else lowest rs) (lowest ss)
+    go : (t : Bool) → lowest (rs ++ ss) ≡ firstCode (lowest rs) (lowest ss) → (t ⇒ r .code else lowest (rs ++ ss)) ≡ firstCode (t ⇒ r .code else lowest rs) (lowest ss)
     go true i = rw (ne-eqb (r .code) 0 (omega arith))
     go false i = i
 
-both-zero : (r : ℕ) (t : Bool) → orElse r (t ⇒ 10 else 0) ≡ 0 → (r ≡ 0) × (t ≡ false)
+both-zero : (r : ℕ) (t : Bool) → firstCode r (t ⇒ 10 else 0) ≡ 0 → (r ≡ 0) × (t ≡ false)
 both-zero r t e = go (r == 0) refl t e
   where
     go : (s : Bool) → (r == 0) ≡ s → (t : Bool) → _≡_ {A = ℕ} (s ⇒ (t ⇒ 10 else 0) else r) 0 → (r ≡ 0) × (t ≡ false)
@@ -76,12 +72,12 @@ module _ (w : Parameters) (m : Machine) where
   room-only (WordBefore a b) = refl
   room-only (WordAfter a b) = refl
 
-  pub change-refusal : (c : Change) → refusal w m (Alter c) ≡ orElse (changeCode (boundsIn w) (present m) c) (tooDear (w .changes) m c ⇒ 10 else 0)
+  pub change-refusal : (c : Change) → refusal w m (Alter c) ≡ changeRule (boundsIn w) (w .changes) c .code m
   unfolding refusal
   change-refusal c =
       let t = chartTable (boundsIn w) (present m) (changeCall c) in
       lowest-both t (historyTable (w .changes) m (changeCall c) ++ lastTable (present m) (changeCall c)) (all-bool (λ (r : Row). leb 1 (r .code)) (λ r e. leb-true 1 (r .code) e) t refl)
-      ∙ ap (orElse (lowest t)) (room-only c)
+      ∙ ap (firstCode (lowest t)) (room-only c)
 
   -- what an accepted change has passed
   pub change-passed : (c : Change) → (refusal w m (Alter c) == 0) ≡ true → (changeCode (boundsIn w) (present m) c ≡ 0) × (tooDear (w .changes) m c ≡ false)

@@ -10,8 +10,6 @@ use Rattle.graph.specs.Graph.{Graph}
 use Rattle.graph.specs.WellFormed.{wellFormed}
 use Rattle.graph.proofs.Facts.{to-facts}
 use Rattle.graph.proofs.ChangeLaws.{change-keeps}
-use Rattle.image.specs.Image.{save, loadable}
-use Rattle.image.proofs.Loads.{saved-loads}
 use Rattle.history.specs.Machine.{Step, Machine, graphAt, fresh, present}
 use Rattle.history.specs.Machine.{stepOf}
 use Rattle.machine.specs.Rules.{Effect, steps, marks, unmarks, goes, clears, nothing, effected}
@@ -90,6 +88,3 @@ fresh-formed w g h = record { start = h; steps = done }
 -- after any list of calls
 pub end-formed : (w : Parameters) (g : Graph) (xs : List Call) → Formed w g → All Words xs → Formed w (present (last w (fresh g) xs))
 end-formed w g xs h fs = present-formed w (last w (fresh g) xs) (last-formed w (fresh g) xs fs (fresh-formed w g h))
-
-pub end-loads : (w : Parameters) (g : Graph) (xs : List Call) → Formed w g → All Words xs → loadable (boundsIn w) (save (present (last w (fresh g) xs))) ≡ true
-end-loads w g xs h fs = saved-loads (boundsIn w) (present (last w (fresh g) xs)) (end-formed w g xs h fs)

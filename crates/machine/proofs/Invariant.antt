@@ -21,7 +21,7 @@ use Rattle.machine.proofs.Accepts.{accepted-step, refused-step}
 use Rattle.machine.proofs.Families.{Makes, change-effect, history-makes}
 use Rattle.machine.specs.Calls.{Parameters}
 use Rattle.machine.specs.Codes.{free, refusal}
-use Rattle.machine.specs.Machine.{deedOf, stepTo, step, last}
+use Rattle.machine.specs.Machine.{deedOf, stepTo, step}
 use Rattle.machine.proofs.GraphBounds.{cost-real}
 use Rattle.machine.proofs.Graphs.{Formed, AllFormed, step-formed, fresh-formed}
 use Rattle.machine.proofs.MarkLaws.{PlacesInRange, fresh-places, places-step}
@@ -88,11 +88,6 @@ step-invariant w m x f i = record {
   costs-fit = costs-fit-step w m x (i .costs-fit);
   costed = costed-step w m x (i .costed);
 }
-
-pub last-invariant : (w : Parameters) (m : Machine) (xs : List Call) → All Words xs → Invariant w m → Invariant w (last w m xs)
-unfolding last
-last-invariant w m [] done i = i
-last-invariant w m (x ∷ xs) (more f fs) i = last-invariant w (step w m x) xs fs (step-invariant w m x f i)
 
 -- ---- steps, places and distances are at most the capacity of changes
 

@@ -14,7 +14,7 @@ use Rattle.history.specs.Machine.{Machine, fresh, present}
 use Rattle.commands.specs.declared.PriceCall.{PriceCall}
 use Rattle.commands.specs.declared.PriceCall.the-variants.{Range, Grade}
 use Rattle.commands.specs.declared.Command.the-variants.{Quote}
-use Rattle.commands.specs.Calls.{Call, five}
+use Rattle.commands.specs.Calls.{Call}
 use Rattle.commands.specs.Commands.{commandOf}
 use Rattle.machine.specs.Calls.{Parameters}
 use Rattle.prices.specs.Prices.{nothingHeard}
@@ -51,15 +51,6 @@ price-list-code g a b c =
     )
 
 -- ---- marks
-
--- kinds 53 and 54 by their words
-pub range-call : (a b c d : ℕ) → commandOf (five 53 a b c d) ≡ Quote (Range a b)
-unfolding commandOf
-range-call a b c d = refl
-
-pub grade-call : (a b c d : ℕ) → commandOf (five 54 a b c d) ≡ Quote (Grade a b c)
-unfolding commandOf
-grade-call a b c d = refl
 
 -- at every point, after a call that goes to a standing mark: what is answered on the graph h, held as the mark was last set
 pub price-comes-back : (w : Parameters) (g : Graph) (xs : List Call) (k q : ℕ) (h : Graph) (b c d : ℕ) →

@@ -12,7 +12,7 @@ use Rattle.graph.specs.Same.{alters}
 use Rattle.commands.specs.Calls.{Call}
 use Rattle.commands.specs.Tables.{Row, row, some}
 use Rattle.commands.specs.Commands.{changeOf}
-use Rattle.history.specs.Machine.{Machine, freeOf, stands, present}
+use Rattle.history.specs.Machine.{Machine, freeOf, stands, present, isMark}
 
 abbrev pub isChange : ℕ → Bool
 isChange k = within 1 16 k
@@ -34,7 +34,7 @@ noRoom capacity m x = isChange (x .kind) && tooDear capacity m (changeOf x)
 
 -- REFERENCE 7.11
 abbrev pub markOutside : Call → Bool
-markOutside x = some (λ n. not (within 1 64 n)) (marksNamed x)
+markOutside x = some (λ n. not (isMark n)) (marksNamed x)
 
 -- REFERENCE 7.12
 abbrev pub markStands : Machine → Call → Bool

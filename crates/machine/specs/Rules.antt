@@ -3,6 +3,7 @@
 use Prim.Native.Nat.{ℕ, suc, _-_}
 use Rattle.lists.specs.Choice.{_⇒_else_, _==_}
 use Rattle.graph.specs.declared.Change.{Change}
+use Rattle.graph.specs.WellFormed.{Bounds}
 use Rattle.graph.specs.Changes.{cost}
 use Rattle.graph.specs.Same.{alters}
 use Rattle.commands.specs.declared.HistoryCall.{HistoryCall}
@@ -37,6 +38,7 @@ use Rattle.history.specs.Machine.{
   afterCommit,
 }
 use Rattle.machine.specs.HistoryCodes.{tooDear, historyTable}
+use Rattle.machine.specs.Codes.{changeCode}
 
 -- what an accepted call does: a step, a mark set or dropped, another place, a commit, or nothing
 pub data Effect : Type 0 where
@@ -93,9 +95,16 @@ answered r m = answerOf (r .code m) (r .deed m .number)
 abbrev pub followed : Rule → Machine → Machine
 followed r m = (r .code m == 0) ⇒ effected (r .deed m .effect) m else m
 
--- a change whose codes 2 to 9 do not apply: 10
-abbrev pub changeRule : ℕ → Change → Rule
-changeRule capacity c = record { code = λ m. tooDear capacity m c ⇒ 10 else 0; deed = changeDeed c }
+-- the first of two codes that is not 0
+abbrev pub firstCode : ℕ → ℕ → ℕ
+firstCode r s = (r == 0) ⇒ s else r
+
+-- a change: the lowest of 2 to 9 that applies, else 10 where it is too dear
+abbrev pub changeRule : Bounds → ℕ → Change → Rule
+changeRule b capacity c = record {
+  code = λ m. firstCode (changeCode b (present m) c) (tooDear capacity m c ⇒ 10 else 0);
+  deed = changeDeed c;
+}
 
 abbrev pub historyRule : ℕ → HistoryCall → Rule
 historyRule capacity h = record {

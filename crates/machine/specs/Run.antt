@@ -14,6 +14,7 @@ use Rattle.commands.specs.Calls.{callsOf}
 use Rattle.commands.specs.Tables.{Row, row, inTurn}
 use Rattle.machine.specs.Calls.{Parameters, boundsIn}
 use Rattle.commands.specs.declared.Answer.{Answer}
+use Rattle.graph.specs.Limits.{mostVertices, mostEdges, mostChanges, mostTypes}
 use Rattle.machine.specs.Machine.{answers, last}
 
 -- REFERENCE 9.1. Of the tables only the lengths matter
@@ -48,13 +49,13 @@ parametersOf l = record {
 -- REFERENCE 12.1
 pub record Limits (w : Parameters) : Type 0 where
   pub some-vertices : 1 ≤ w .vertices
-  pub few-vertices : w .vertices ≤ 1000
+  pub few-vertices : w .vertices ≤ mostVertices
   pub some-edges : 1 ≤ w .edges
-  pub few-edges : w .edges ≤ 4000
+  pub few-edges : w .edges ≤ mostEdges
   pub some-changes : 1 ≤ w .changes
-  pub few-changes : w .changes ≤ 20000
+  pub few-changes : w .changes ≤ mostChanges
   pub some-types : 1 ≤ length (w .rows)
-  pub few-types : length (w .rows) ≤ 64
+  pub few-types : length (w .rows) ≤ mostTypes
 
 -- The codes of a list in turn: 101 to 104, then what is bad in the start chart, 105, 108 or 109, then 106, which asks
 -- for as many words as an image with as many vertices and edges as the capacities.
@@ -63,7 +64,8 @@ unfolding goodRows verdict
 listTable l =
     row 101 (not (length (l .calls) % 5 == 0)) ∷
     row 102 (ltb (length (l .answers)) (2 * (length (l .calls) / 5))) ∷
-    row 103 (not (within 1 1000 (w .vertices) && within 1 4000 (w .edges) && within 1 20000 (w .changes))) ∷
+    row 103 (not (within 1 mostVertices (w .vertices) && within 1 mostEdges (w .edges)
+    && within 1 mostChanges (w .changes))) ∷
     row 104 (not (goodRows (l .rows))) ∷
     row 105 (start == 105) ∷
     row 108 (start == 108) ∷

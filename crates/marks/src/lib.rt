@@ -1,4 +1,5 @@
 // The standing marks: one 64-bit set, and the place of each.
+use graph::MOST_MARKS;
 ghost use mathlib.Core.Path.{_≡_};
 ghost use mathlib.Core.Bool.{true, false, _&&_};
 ghost use mathlib.Core.List.{List};
@@ -6,21 +7,25 @@ ghost use Prim.Native.Nat.{ℕ, _-_, _%_};
 ghost use lib.Count.{ones};
 ghost use lib.Dec.{ltb};
 ghost use lib.ListN.{length, set as setAt};
-ghost use Rattle.lists.specs.Choice.{_==_, _⇒_else_, within};
-ghost use Rattle.history.specs.Machine.{MarkPlace, gone, at, noMarks, marked, cutMarks, countStanding, distance};
-ghost use Rattle.marks.specs.Marked.{inSet, placeIn, withMark, withoutMark, cutSet, Marked};
+ghost use Rattle.lists.specs.Choice.{_==_, _⇒_else_};
+ghost use Rattle.history.specs.Machine.{MarkPlace, isMark, gone, at, noMarks};
+ghost use Rattle.history.specs.Machine.{marked, cutMarks, countStanding, distance};
+ghost use Rattle.marks.specs.Marked.{markWords, inSet, placeIn, withMark, withoutMark, cutSet, Marked};
 
-// Is it one of the marks 1 to 64?
+// The words lent for the marks: a place each.
+pub const WORDS: usize = MOST_MARKS as usize;
+
+// Is it the number of a mark?
 fn is_mark(a: u32) -> bool
-    ensures { λ r. ⌜ r ≡ within 1 64 a ⌝ }
+    ensures { λ r. ⌜ r ≡ isMark a ⌝ }
 {
     if a == 0 {
         return false;
     }
-    a <= 64
+    a <= MOST_MARKS
 }
 
-// Does mark a stand? No where a is not 1 to 64.
+// Does mark a stand? No where a is no mark.
 pub fn stands(set: u64, a: u32) -> bool
     ensures { λ r. ⌜ r ≡ inSet set a ⌝ }
 {
@@ -31,8 +36,8 @@ pub fn stands(set: u64, a: u32) -> bool
     (set >> k) % 2 == 1
 }
 
-// The place of mark a; 0 where a is not 1 to 64.
-pub fn place_of(places: &[u32; 64], a: u32) -> u32
+// The place of mark a; 0 where a is no mark.
+pub fn place_of(places: &[u32; WORDS], a: u32) -> u32
     ensures { λ r. ⌜ r ≡ placeIn (now (places .entry)) a ⌝ }
 {
     if !is_mark(a) {
@@ -42,12 +47,12 @@ pub fn place_of(places: &[u32; 64], a: u32) -> u32
     places[k as usize]
 }
 
-// Kind 17: mark a at place p. Where a is not 1 to 64, nothing changes.
-pub fn set_mark(set: u64, places: &mut [u32; 64], a: u32, p: u32) -> u64
+// Kind 17: mark a at place p. Where a is no mark, nothing changes.
+pub fn set_mark(set: u64, places: &mut [u32; WORDS], a: u32, p: u32) -> u64
     ensures { λ r. ⌜ r ≡ withMark a set ⌝ }
     ensures { λ r. ⌜ now (places .exit)
-        ≡ (within 1 64 a ⇒ setAt (now (places .entry)) (a - 1) p else now (places .entry)) ⌝ }
-    ensures { λ r. ⌜ ((ms : ℕ → MarkPlace) → within 1 64 a ≡ true → inSet set a ≡ false
+        ≡ (isMark a ⇒ setAt (now (places .entry)) (a - 1) p else now (places .entry)) ⌝ }
+    ensures { λ r. ⌜ ((ms : ℕ → MarkPlace) → isMark a ≡ true → inSet set a ≡ false
         → Marked ms set (now (places .entry)) → Marked (marked a (at p) ms) r (now (places .exit))) ⌝ }
 {
     if !is_mark(a) {
@@ -72,7 +77,7 @@ pub fn drop_mark(set: u64, a: u32) -> u64
 }
 
 // Where the lowest digit of `left` says that mark a stands: it goes if its place is above p.
-fn cut_mark(set: u64, left: u64, places: &[u32; 64], a: u32, p: u32) -> u64
+fn cut_mark(set: u64, left: u64, places: &[u32; WORDS], a: u32, p: u32) -> u64
     ensures { λ r. ⌜ r ≡ (left % 2 == 1 && ltb p (placeIn (now (places .entry)) a) ⇒ withoutMark a set else set) ⌝ }
 {
     if left % 2 != 1 {
@@ -87,7 +92,7 @@ fn cut_mark(set: u64, left: u64, places: &[u32; 64], a: u32, p: u32) -> u64
 
 // A change at place p: the marks whose place is above p go. The marks above a, still to be looked at, are the digits of
 // `left`; only the places of standing marks are read.
-pub fn cut_marks(set: u64, places: &[u32; 64], p: u32) -> u64
+pub fn cut_marks(set: u64, places: &[u32; WORDS], p: u32) -> u64
     ensures { λ r. ⌜ r ≡ cutSet p (now (places .entry)) set ⌝ }
     ensures { λ r. ⌜ ((ms : ℕ → MarkPlace) → Marked ms set (now (places .entry))
         → Marked (cutMarks p ms) r (now (places .entry))) ⌝ }
@@ -124,7 +129,7 @@ pub fn between(p: u32, q: u32) -> u32
 // No mark stands.
 pub fn no_marks() -> u64
     ensures { λ r. ⌜ r ≡ 0 ⌝ }
-    ensures { λ r. ⌜ ((places : List ℕ) → length places ≡ 64 → Marked noMarks r places) ⌝ }
+    ensures { λ r. ⌜ ((places : List ℕ) → length places ≡ markWords → Marked noMarks r places) ⌝ }
 {
     0
 }

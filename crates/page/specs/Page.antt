@@ -5,6 +5,7 @@ use lib.ListN.{length}
 use lib.Dec.{ltb}
 use Rattle.lists.specs.Choice.{_⇒_else_, _==_}
 use Rattle.lists.specs.Lists.{overwritten}
+use Rattle.graph.specs.Limits.{mostVertices, mostEdges, mostTypes}
 use Rattle.graph.specs.WellFormed.{Bounds}
 use Rattle.image.specs.Image.{load}
 use Rattle.image.specs.Checks.{bounds, loadCode, loadOffset}
@@ -13,7 +14,7 @@ use Rattle.page.specs.declared.Printed.{Printed}
 
 -- what the words are held against, whatever a run elsewhere is lent
 abbrev pub pageBounds : Bounds
-pageBounds = bounds 1000 4000 64
+pageBounds = bounds mostVertices mostEdges mostTypes
 
 pub record PageResult : Type 0 where
   pub code : ℕ

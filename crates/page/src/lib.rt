@@ -8,6 +8,9 @@ ghost use Rattle.graph.specs.Graph.{readingOf};
 ghost use Rattle.page.specs.Rows.{column, cell, readingColumn, rowOf, edgeRead, rowsFrom};
 ghost use Rattle.page.specs.Page.{pageOf, printed};
 use decimal::bytes;
+use graph::MOST_EDGES;
+use graph::MOST_TYPES;
+use graph::MOST_VERTICES;
 use image::check;
 use image::code_of;
 use image::layout::EDGE;
@@ -110,7 +113,7 @@ fn rows(words: &[u32], count: usize, out: &mut [u8]) -> usize
 pub fn print(words: &[u32], page: &mut [u8]) -> Printed
     ensures { λ r. ⌜ printed r (now (page .exit)) ≡ pageOf (now (words .entry)) (now (page .entry)) ⌝ }
 {
-    let found = check(words, 1000, 4000, 64);
+    let found = check(words, MOST_VERTICES, MOST_EDGES, MOST_TYPES);
     let code = code_of(found);
     if code != 0 {
         return Printed {

@@ -32,7 +32,7 @@ both-is g a b = both (way g a b) (way g b a)
 
 -- the price that the tables give is that of the graph
 pub price-is : (s : State) (g : Graph) → Holds s g → (a b : ℕ) → VertexThere g a → VertexThere g b →
-    priceAt (s .vt) (s .et) a b ≡ answerOf (nothingHeard g a b ⇒ 16 else 0) (twoWay g a b)
+    priceAt (s .vertices) (s .edges) a b ≡ answerOf (nothingHeard g a b ⇒ 16 else 0) (twoWay g a b)
 price-is s g h a b there back = (λ i. bothWays (way-is s g h a b there i) (way-is s g h b a back i)) ∙ both-is g a b
 
 -- ---- a way that is not heard: untested or silent, by its number

@@ -27,18 +27,18 @@ same-along f k r done = refl
 same-along f k r (more {x = w} {xs = ws} e s) = ap (λ (x : Reading). lastTested f (later r x) ws) e ∙ same-along f k (later r (k w)) s
 
 module _ (s : State) (g : Graph) (h : Holds s g) (a b : ℕ) where
-  word-is : (w : ℕ) → 1 ≤ countBy itself w (listOf g a) → readingTo (s .et) b w ≡ readingOut g b w
+  word-is : (w : ℕ) → 1 ≤ countBy itself w (listOf g a) → readingTo (s .edges) b w ≡ readingOut g b w
   word-is w i = elim (same? (w % 2) 0) [
     | differ p q ↦ pick-no (w % 2) 0 _ _ p ∙ sym (pick-no (w % 2) 0 _ _ p)
     | same p q ↦
         let c : EdgeThere g (edgeOf w) = omega (arith, h .sound .lists a w, pick-le (this g w) a (countBy edgeNumber (edgeOf w) (g .eseq)), h .sound .eorder (edgeOf w)) in
-        let z : wthis (s .et) (Prim.Native.Nat._+_ w 1) ≡ edge g (edgeOf w) .omega =
-        ap (wthis (s .et)) (omega arith) ∙ omega-is s g h (edgeOf w) c in
+        let z : wthis (s .edges) (Prim.Native.Nat._+_ w 1) ≡ edge g (edgeOf w) .omega =
+        ap (wthis (s .edges)) (omega arith) ∙ omega-is s g h (edgeOf w) c in
         pick-yes (w % 2) 0 _ _ p ∙ ap₂ (λ (x : ℕ) (y : Reading). ifEqual x b y Untested) z (reading-at s g h (edgeOf w) c) ∙ sym (pick-yes (w % 2) 0 _ _ p)
   ]
 
-  pub way-is : VertexThere g a → wayAt (s .vt) (s .et) a b ≡ way g a b
+  pub way-is : VertexThere g a → wayAt (s .vertices) (s .edges) a b ≡ way g a b
   unfolding way wayAt
   way-is c =
-      ap (lastTested (readingTo (s .et) b) Untested) (held-nodes incidenceLinks (s .et) (endsAt (s .vt) a) valid-i (listOf g a) (h .core .lists a (vertex-row s g h a c .0)))
-      ∙ same-along (readingTo (s .et) b) (readingOut g b) Untested (all-counted (listOf g a) (λ w i. word-is w (omega (arith, count-same w (listOf g a)))))
+      ap (lastTested (readingTo (s .edges) b) Untested) (held-nodes incidenceLinks (s .edges) (endsAt (s .vertices) a) valid-i (listOf g a) (h .core .lists a (vertex-row s g h a c .0)))
+      ∙ same-along (readingTo (s .edges) b) (readingOut g b) Untested (all-counted (listOf g a) (λ w i. word-is w (omega (arith, count-same w (listOf g a)))))

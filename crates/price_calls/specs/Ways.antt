@@ -13,11 +13,11 @@ use Rattle.prices.specs.Prices.{lastTested}
 
 -- the reading of the edge of word w where it goes out to b, else untested
 abbrev pub readingTo : List ℕ → ℕ → ℕ → Reading
-readingTo et b w = bySide w (ifEqual (wthis et (w + 1)) b (readingAt et (w / 2)) Untested) Untested
+readingTo edges b w = bySide w (ifEqual (wthis edges (w + 1)) b (readingAt edges (w / 2)) Untested) Untested
 
 -- one way from a to b, along the nodes of a's list: the last reading that is not untested (REFERENCE 6.1)
 unfoldable pub wayAt : List ℕ → List ℕ → ℕ → ℕ → Reading
-wayAt vt et a b = lastTested (readingTo et b) Untested (nodes incidenceLinks et (endsAt vt a))
+wayAt vertices edges a b = lastTested (readingTo edges b) Untested (nodes incidenceLinks edges (endsAt vertices a))
 
 -- the smaller of both ways; code 16 where one is not heard (REFERENCE 7.16)
 abbrev pub bothWays : Reading → Reading → Answer
@@ -29,4 +29,4 @@ bothWays (Heard x) (Heard y) = accepts (min x y)
 
 -- the two-way range of a and b
 abbrev pub priceAt : List ℕ → List ℕ → ℕ → ℕ → Answer
-priceAt vt et a b = bothWays (wayAt vt et a b) (wayAt vt et b a)
+priceAt vertices edges a b = bothWays (wayAt vertices edges a b) (wayAt vertices edges b a)

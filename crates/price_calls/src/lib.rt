@@ -18,7 +18,7 @@ ghost use mathlib.Core.Path.{_≡_};
 ghost use Prim.Native.Nat.{_/_, min};
 ghost use Rattle.graph.specs.Graph.{Graph};
 ghost use Rattle.graph_tables.specs.declared.Head.{Head};
-ghost use Rattle.graph_tables.specs.Tables.{EdgeRowIn, state};
+ghost use Rattle.graph_tables.specs.Tables.{EdgeRowIn, state, entryState};
 ghost use Rattle.graph.specs.WellFormed.{Bounds};
 ghost use Rattle.graph_tables.specs.Capacities.{Sized};
 ghost use Rattle.graph_tables.specs.Holds.{Holds};
@@ -42,31 +42,31 @@ fn with_reading(way: Reading, reading: Reading) -> Reading
 }
 
 // The reading of the edge of word w where it goes out to b, else untested.
-fn reading_to(et: &[u32], b: u32, w: u32) -> Reading
-    requires { ⌜ EdgeRowIn (now et) (w / 2) ⌝ }
-    ensures { λ r. ⌜ r ≡ readingTo (now (et .entry)) b w ⌝ }
+fn reading_to(edges: &[u32], b: u32, w: u32) -> Reading
+    requires { ⌜ EdgeRowIn (now edges) (w / 2) ⌝ }
+    ensures { λ r. ⌜ r ≡ readingTo (now (edges .entry)) b w ⌝ }
 {
     if w % 2 != 0 {
         return Reading::Untested;
     }
-    let z = this(et, w + 1);
+    let z = this(edges, w + 1);
     if z != b {
         return Reading::Untested;
     }
-    reading_at(et, w / 2)
+    reading_at(edges, w / 2)
 }
 
 // One way from a to b: a walk along the list of a by a cursor.
-fn one_way(vt: &[u32], et: &[u32], a: u32, b: u32) -> Reading
-    requires { ⌜ CanWalk (now vt) (now et) a ⌝ }
-    ensures { λ r. ⌜ r ≡ wayAt (now (vt .entry)) (now (et .entry)) a b ⌝ }
+fn one_way(vertices: &[u32], edges: &[u32], a: u32, b: u32) -> Reading
+    requires { ⌜ CanWalk (now vertices) (now edges) a ⌝ }
+    ensures { λ r. ⌜ r ≡ wayAt (now (vertices .entry)) (now (edges .entry)) a b ⌝ }
 {
     let mut way = Reading::Untested;
-    let mut w = first_word(vt, a);
+    let mut w = first_word(vertices, a);
     while w != 0 {
-        let reading = reading_to(et, b, w);
+        let reading = reading_to(edges, b, w);
         way = with_reading(way, reading);
-        w = following(et, w);
+        w = following(edges, w);
     }
     way
 }
@@ -94,43 +94,42 @@ fn both_ways(there: Reading, back: Reading) -> Answer
 }
 
 // The two-way range of two vertices that are there, or code 16.
-fn price_of(vt: &[u32], et: &[u32], a: u32, b: u32) -> Answer
-    requires { ⌜ CanWalk (now vt) (now et) a × CanWalk (now vt) (now et) b ⌝ }
-    ensures { λ r. ⌜ r ≡ priceAt (now (vt .entry)) (now (et .entry)) a b ⌝ }
+fn price_of(vertices: &[u32], edges: &[u32], a: u32, b: u32) -> Answer
+    requires { ⌜ CanWalk (now vertices) (now edges) a × CanWalk (now vertices) (now edges) b ⌝ }
+    ensures { λ r. ⌜ r ≡ priceAt (now (vertices .entry)) (now (edges .entry)) a b ⌝ }
 {
-    let there = one_way(vt, et, a, b);
-    let back = one_way(vt, et, b, a);
+    let there = one_way(vertices, edges, a, b);
+    let back = one_way(vertices, edges, b, a);
     both_ways(there, back)
 }
 
 // Codes 4 and 16, and the two-way range of a and b.
-fn priced(vt: &[u32], et: &[u32], a: u32, b: u32) -> Answer
-    requires { ⌜ ((z : Bounds) × (head : Head) × (g : Graph) × Sized z (state head (now vt) (now et))
-        × Holds (state head (now vt) (now et)) g) ⌝ }
-    ensures { λ r. ⌜ ((head : Head) → (g : Graph) → Holds (state head (now (vt .entry)) (now (et .entry))) g
+fn priced(vertices: &[u32], edges: &[u32], a: u32, b: u32) -> Answer
+    requires { ⌜ ((z : Bounds) × (head : Head) × (g : Graph) × Sized z (state head (now vertices) (now edges))
+        × Holds (state head (now vertices) (now edges)) g) ⌝ }
+    ensures { λ r. ⌜ ((head : Head) → (g : Graph) → Holds (entryState head vertices edges) g
         → r ≡ answerOf (priceCode g (price.Range a b)) (priceNumber g (price.Range a b))) ⌝ }
 {
-    let f = find_vertex(vt, a);
+    let f = find_vertex(vertices, a);
     let Lookup::Found(_) = f else {
         return refused(4);
     };
-    let h = find_vertex(vt, b);
+    let h = find_vertex(vertices, b);
     let Lookup::Found(_) = h else {
         return refused(4);
     };
-    price_of(vt, et, a, b)
+    price_of(vertices, edges, a, b)
 }
 
 // Kind 53. The answer is built anew, word by word: one that is passed on whole from a call makes the compiler keep
-// every
-// answer as one copied piece.
-fn range(vt: &[u32], et: &[u32], a: u32, b: u32) -> Answer
-    requires { ⌜ ((z : Bounds) × (head : Head) × (g : Graph) × Sized z (state head (now vt) (now et))
-        × Holds (state head (now vt) (now et)) g) ⌝ }
-    ensures { λ r. ⌜ ((head : Head) → (g : Graph) → Holds (state head (now (vt .entry)) (now (et .entry))) g
+// every answer as one copied piece.
+fn range(vertices: &[u32], edges: &[u32], a: u32, b: u32) -> Answer
+    requires { ⌜ ((z : Bounds) × (head : Head) × (g : Graph) × Sized z (state head (now vertices) (now edges))
+        × Holds (state head (now vertices) (now edges)) g) ⌝ }
+    ensures { λ r. ⌜ ((head : Head) → (g : Graph) → Holds (entryState head vertices edges) g
         → r ≡ answerOf (priceCode g (price.Range a b)) (priceNumber g (price.Range a b))) ⌝ }
 {
-    let p = priced(vt, et, a, b);
+    let p = priced(vertices, edges, a, b);
     Answer {
         code: p.code,
         number: p.number,
@@ -138,13 +137,13 @@ fn range(vt: &[u32], et: &[u32], a: u32, b: u32) -> Answer
 }
 
 // Kind 54: the grade of a and b by price list c. Code 17, where there is no such list, comes behind 4 and 16.
-fn grade(vt: &[u32], et: &[u32], a: u32, b: u32, c: u32) -> Answer
-    requires { ⌜ ((z : Bounds) × (head : Head) × (g : Graph) × Sized z (state head (now vt) (now et))
-        × Holds (state head (now vt) (now et)) g) ⌝ }
-    ensures { λ r. ⌜ ((head : Head) → (g : Graph) → Holds (state head (now (vt .entry)) (now (et .entry))) g
+fn grade(vertices: &[u32], edges: &[u32], a: u32, b: u32, c: u32) -> Answer
+    requires { ⌜ ((z : Bounds) × (head : Head) × (g : Graph) × Sized z (state head (now vertices) (now edges))
+        × Holds (state head (now vertices) (now edges)) g) ⌝ }
+    ensures { λ r. ⌜ ((head : Head) → (g : Graph) → Holds (entryState head vertices edges) g
         → r ≡ answerOf (priceCode g (price.Grade a b c)) (priceNumber g (price.Grade a b c))) ⌝ }
 {
-    let p = priced(vt, et, a, b);
+    let p = priced(vertices, edges, a, b);
     if p.code != 0 {
         return refused(p.code);
     }
@@ -155,14 +154,14 @@ fn grade(vt: &[u32], et: &[u32], a: u32, b: u32, c: u32) -> Answer
 }
 
 // Any call of the price list.
-pub fn quote(vt: &[u32], et: &[u32], call: PriceCall) -> Answer
-    requires { ⌜ ((z : Bounds) × (head : Head) × (g : Graph) × Sized z (state head (now vt) (now et))
-        × Holds (state head (now vt) (now et)) g) ⌝ }
-    ensures { λ r. ⌜ ((head : Head) → (g : Graph) → Holds (state head (now (vt .entry)) (now (et .entry))) g
+pub fn quote(vertices: &[u32], edges: &[u32], call: PriceCall) -> Answer
+    requires { ⌜ ((z : Bounds) × (head : Head) × (g : Graph) × Sized z (state head (now vertices) (now edges))
+        × Holds (state head (now vertices) (now edges)) g) ⌝ }
+    ensures { λ r. ⌜ ((head : Head) → (g : Graph) → Holds (entryState head vertices edges) g
         → r ≡ answerOf (priceCode g call) (priceNumber g call)) ⌝ }
 {
     match call {
-        PriceCall::Range(a, b) => range(vt, et, a, b),
-        PriceCall::Grade(a, b, c) => grade(vt, et, a, b, c),
+        PriceCall::Range(a, b) => range(vertices, edges, a, b),
+        PriceCall::Grade(a, b, c) => grade(vertices, edges, a, b, c),
     }
 }

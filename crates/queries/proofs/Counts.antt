@@ -23,12 +23,12 @@ use Rattle.queries.proofs.DistinctSums.{share, distinct-sum}
 use Rattle.queries.specs.Walks.{countedAt, distinctEdgesAt}
 use Rattle.graph_tables.proofs.Frames.{valid-i}
 
-pub counted-le : (et : List ℕ) (w : ℕ) → countedAt et w ≤ 1
-counted-le et w = elim (same? (w % 2) 0) [
+pub counted-le : (edges : List ℕ) (w : ℕ) → countedAt edges w ≤ 1
+counted-le edges w = elim (same? (w % 2) 0) [
   | same e f ↦ rw (pick-yes (w % 2) 0) (omega arith)
-  | differ e f ↦ rw (pick-no (w % 2) 0) (elim (same? (wthis et (w - 1)) (wthis et w)) [
-    | same i j ↦ rw (pick-yes (wthis et (w - 1)) (wthis et w)) (omega arith)
-    | differ i j ↦ rw (pick-no (wthis et (w - 1)) (wthis et w)) (omega arith)
+  | differ e f ↦ rw (pick-no (w % 2) 0) (elim (same? (wthis edges (w - 1)) (wthis edges w)) [
+    | same i j ↦ rw (pick-yes (wthis edges (w - 1)) (wthis edges w)) (omega arith)
+    | differ i j ↦ rw (pick-no (wthis edges (w - 1)) (wthis edges w)) (omega arith)
   ])
 ]
 
@@ -100,14 +100,14 @@ module _ (s : State) (g : Graph) (h : Holds s g) (v : ℕ) (c : VertexThere g v)
   ]
 
   abbrev f : ℕ → ℕ
-  f w = countedAt (s .et) w
+  f w = countedAt (s .edges) w
 
   -- number 0 has no words in a list; the ends of any other are those of the graph
   loop? : (e : ℕ) → 1 ≤ e → f (inWord e) ≡ ifEqual (edge g e .alpha) (edge g e .omega) 0 1
   loop? e r =
       let q : inWord e - 1 ≡ outWord e = omega arith in
       pick-no (inWord e % 2) 0 _ _ (λ z. omega arith)
-      ∙ (λ i. ifEqual ((ap (wthis (s .et)) q ∙ h .core .this (outWord e) (omega arith) ∙ this-out (g .eseq) e) i) ((h .core .this (inWord e) (omega arith) ∙ this-into (g .eseq) e) i) 0 1)
+      ∙ (λ i. ifEqual ((ap (wthis (s .edges)) q ∙ h .core .this (outWord e) (omega arith) ∙ this-out (g .eseq) e) i) ((h .core .this (inWord e) (omega arith) ∙ this-into (g .eseq) e) i) 0 1)
 
   out-one : (e : ℕ) → f (outWord e) ≡ 1
   out-one e = pick-yes (outWord e % 2) 0 _ _ (omega arith)
@@ -136,8 +136,8 @@ module _ (s : State) (g : Graph) (h : Holds s g) (v : ℕ) (c : VertexThere g v)
     ]
   ]
 
-  pub edges-counted : distinctEdgesAt (s .vt) (s .et) v ≡ length (edgesAt g v)
+  pub edges-counted : distinctEdgesAt (s .vertices) (s .edges) v ≡ length (edgesAt g v)
   unfolding distinctEdgesAt
   edges-counted =
-      ap (λ (l : List ℕ). sumOf f l) (held-nodes incidenceLinks (s .et) (endsAt (s .vt) v) valid-i (listOf g v) (h .core .lists v (vertex-row s g h v c .0)))
+      ap (λ (l : List ℕ). sumOf f l) (held-nodes incidenceLinks (s .edges) (endsAt (s .vertices) v) valid-i (listOf g v) (h .core .lists v (vertex-row s g h v c .0)))
       ∙ distinct-sum f edgeOf (listOf g v) edge-share

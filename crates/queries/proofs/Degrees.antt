@@ -57,8 +57,8 @@ bit-le : (p : Bool) → toBit p ≤ 1
 bit-le true = omega arith
 bit-le false = omega arith
 
-pub one-le : (inClass : ℕ → Bool) (c : ℕ) (et : List ℕ) (w : ℕ) → degreeOne inClass c et w ≤ 1
-one-le inClass c et w = bit-le (inClass (etype et (w / 2)) && onSide c w)
+pub one-le : (inClass : ℕ → Bool) (c : ℕ) (edges : List ℕ) (w : ℕ) → degreeOne inClass c edges w ≤ 1
+one-le inClass c edges w = bit-le (inClass (etype edges (w / 2)) && onSide c w)
 
 -- ---- the list
 
@@ -77,23 +77,23 @@ keep-agree p q (w ∷ l) h =
     let b : p w ≡ q w = h w (omega (arith, is-yes w w refl)) in
     λ i. b i ⇒ (w ∷ r i) else r i
 
-pub degree-sum : (inClass : ℕ → Bool) (c : ℕ) (vt et : List ℕ) (v : ℕ) →
-    sumOf (degreeOne inClass c et) (nodes incidenceLinks et (endsAt vt v)) ≡ degreeAt inClass c vt et v
+pub degree-sum : (inClass : ℕ → Bool) (c : ℕ) (vertices edges : List ℕ) (v : ℕ) →
+    sumOf (degreeOne inClass c edges) (nodes incidenceLinks edges (endsAt vertices v)) ≡ degreeAt inClass c vertices edges v
 unfolding degreeAt
-degree-sum inClass c vt et v =
-    sum-keep (λ w. inClass (etype et (w / 2)) && onSide c w) (nodes incidenceLinks et (endsAt vt v))
+degree-sum inClass c vertices edges v =
+    sum-keep (λ w. inClass (etype edges (w / 2)) && onSide c w) (nodes incidenceLinks edges (endsAt vertices v))
 
 -- by the words of a closure
-pub degree-below : (rows words : List ℕ) → goodRows rows ≡ true → words ≡ closureWords rows → (t c : ℕ) (vt et : List ℕ) (v : ℕ) →
-    degreeAt (λ s. bitOf words s t) c vt et v ≡ degreeAt (λ s. below rows s t) c vt et v
-degree-below rows words good e t c vt et v = λ i. degreeAt (λ s. bit-below rows words s t good e i) c vt et v
+pub degree-below : (rows words : List ℕ) → goodRows rows ≡ true → words ≡ closureWords rows → (t c : ℕ) (vertices edges : List ℕ) (v : ℕ) →
+    degreeAt (λ s. bitOf words s t) c vertices edges v ≡ degreeAt (λ s. below rows s t) c vertices edges v
+degree-below rows words good e t c vertices edges v = λ i. degreeAt (λ s. bit-below rows words s t good e i) c vertices edges v
 
 -- question 45
-pub degree-is : (b : Bounds) (s : State) → Sized b s → (g : Graph) → Holds s g → (v : ℕ) → VertexThere g v → (inClass : ℕ → Bool) (c : ℕ) → degreeAt inClass c (s .vt) (s .et) v ≡ degree inClass c g v
+pub degree-is : (b : Bounds) (s : State) → Sized b s → (g : Graph) → Holds s g → (v : ℕ) → VertexThere g v → (inClass : ℕ → Bool) (c : ℕ) → degreeAt inClass c (s .vertices) (s .edges) v ≡ degree inClass c g v
 unfolding degreeAt degree
 degree-is b s z g h v t inClass c =
-    ap (λ (l : List ℕ). length (filter (λ w. inClass (etype (s .et) (w / 2)) && onSide c w) l))
-    (held-nodes incidenceLinks (s .et) (endsAt (s .vt) v) valid-i (listOf g v) (h .core .lists v (vertex-row s g h v t .0)))
+    ap (λ (l : List ℕ). length (filter (λ w. inClass (etype (s .edges) (w / 2)) && onSide c w) l))
+    (held-nodes incidenceLinks (s .edges) (endsAt (s .vertices) v) valid-i (listOf g v) (h .core .lists v (vertex-row s g h v t .0)))
     ∙ ap length
-    (keep-agree (λ w. inClass (etype (s .et) (w / 2)) && onSide c w) (λ w. inClass (edge g (edgeOf w) .type) && onSide c w) (listOf g v)
+    (keep-agree (λ w. inClass (etype (s .edges) (w / 2)) && onSide c w) (λ w. inClass (edge g (edgeOf w) .type) && onSide c w) (listOf g v)
     (λ w i. ap (λ (k : ℕ). inClass k && onSide c w) (edge-type s g h (edgeOf w) (listed-edge b s z g h v t w i))))

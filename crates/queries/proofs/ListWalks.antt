@@ -111,66 +111,66 @@ pub link-word : (layout : LinkLayout) (t : List ℕ) (e : Ends) (s : Side) (x : 
 unfolding linkOf
 link-word layout t e s x z h = rw (ne-eqb x 0 z, le-ltb (layout .stride * x) (layout .offset) h)
 
-pub first-link : (vt et : List ℕ) (v : ℕ) → vfirst vt v ≡ linkOf forward incidenceLinks et (endsAt vt v) 0
+pub first-link : (vertices edges : List ℕ) (v : ℕ) → vfirst vertices v ≡ linkOf forward incidenceLinks edges (endsAt vertices v) 0
 unfolding linkOf
-first-link vt et v = refl
+first-link vertices edges v = refl
 
 -- what the cursor asks of a word, and that it goes along the list
-module _ (et : List ℕ) (w : ℕ) (h : EdgeRowIn et (w / 2)) where
-  pub word-in : HalfRowIn et w
+module _ (edges : List ℕ) (w : ℕ) (h : EdgeRowIn edges (w / 2)) where
+  pub word-in : HalfRowIn edges w
   word-in = (omega (arith, h), omega (arith, h))
 
-  pub next-link : (e : Ends) (y : ℕ) → y ≡ wnext et w → y ≡ linkOf forward incidenceLinks et e w
+  pub next-link : (e : Ends) (y : ℕ) → y ≡ wnext edges w → y ≡ linkOf forward incidenceLinks edges e w
   next-link e y p =
       let q : halfPlace 1 w ≡ linkAddress forward incidenceLinks w = omega (arith, word-in .0) in
-      p ∙ ap (λ (i : ℕ). getD et i 0) q ∙ sym (link-word incidenceLinks et e forward w (λ z. omega (arith, z, word-in .0)) (omega (arith, word-in .0)))
+      p ∙ ap (λ (i : ℕ). getD edges i 0) q ∙ sym (link-word incidenceLinks edges e forward w (λ z. omega (arith, z, word-in .0)) (omega (arith, word-in .0)))
 
 -- ---- a loop along the incidence list of v that adds f of each word
 
 -- it stands at word w and has added n
-pub record Along (f : ℕ → ℕ) (vt et : List ℕ) (v w n : ℕ) : Type 0 where
-  pub walk : Walk f (λ x. EdgeRowIn et (x / 2)) incidenceLinks et (endsAt vt v) w n (sumOf f (nodes incidenceLinks et (endsAt vt v)))
+pub record Along (f : ℕ → ℕ) (vertices edges : List ℕ) (v w n : ℕ) : Type 0 where
+  pub walk : Walk f (λ x. EdgeRowIn edges (x / 2)) incidenceLinks edges (endsAt vertices v) w n (sumOf f (nodes incidenceLinks edges (endsAt vertices v)))
 
 -- what is left of the list
 abbrev pub along-left : List ℕ → List ℕ → ℕ → ℕ → ℕ
-along-left vt et v w = left incidenceLinks et (endsAt vt v) w
+along-left vertices edges v w = left incidenceLinks edges (endsAt vertices v) w
 
-module _ (f : ℕ → ℕ) (vt et : List ℕ) (v : ℕ) where
-  pub along-start : CanWalk vt et v → (w : ℕ) → w ≡ vfirst vt v → Along f vt et v w 0
+module _ (f : ℕ → ℕ) (vertices edges : List ℕ) (v : ℕ) where
+  pub along-start : CanWalk vertices edges v → (w : ℕ) → w ≡ vfirst vertices v → Along f vertices edges v w 0
   along-start p w q = record {
-    walk = walk-start f (λ x. EdgeRowIn et (x / 2)) incidenceLinks et (endsAt vt v) valid-i (p .list) (p .held) (p .rows) w (q ∙ first-link vt et v);
+    walk = walk-start f (λ x. EdgeRowIn edges (x / 2)) incidenceLinks edges (endsAt vertices v) valid-i (p .list) (p .held) (p .rows) w (q ∙ first-link vertices edges v);
   }
 
   -- the whole sum fits a word
-  along-few : CanWalk vt et v → ((w : ℕ) → f w ≤ 1) → sumOf f (nodes incidenceLinks et (endsAt vt v)) < 2 ^ 32
-  along-few p h = omega (arith, sum-few f h incidenceLinks et (endsAt vt v) valid-i (p .list) (p .held), p .small)
+  along-few : CanWalk vertices edges v → ((w : ℕ) → f w ≤ 1) → sumOf f (nodes incidenceLinks edges (endsAt vertices v)) < 2 ^ 32
+  along-few p h = omega (arith, sum-few f h incidenceLinks edges (endsAt vertices v) valid-i (p .list) (p .held), p .small)
 
-  module _ (w n : ℕ) (k : Along f vt et v w n) where
-    pub along-end : w ≡ 0 → n ≡ sumOf f (nodes incidenceLinks et (endsAt vt v))
-    along-end = walk-end f (λ x. EdgeRowIn et (x / 2)) incidenceLinks et (endsAt vt v) w n (sumOf f (nodes incidenceLinks et (endsAt vt v))) (k .walk)
+  module _ (w n : ℕ) (k : Along f vertices edges v w n) where
+    pub along-end : w ≡ 0 → n ≡ sumOf f (nodes incidenceLinks edges (endsAt vertices v))
+    along-end = walk-end f (λ x. EdgeRowIn edges (x / 2)) incidenceLinks edges (endsAt vertices v) w n (sumOf f (nodes incidenceLinks edges (endsAt vertices v))) (k .walk)
 
     module _ (z : w ≡ 0 → ⊥) where
-      step : Step f (λ x. EdgeRowIn et (x / 2)) incidenceLinks et (endsAt vt v) w n (sumOf f (nodes incidenceLinks et (endsAt vt v)))
-      step = walk-step f (λ x. EdgeRowIn et (x / 2)) incidenceLinks et (endsAt vt v) w n (sumOf f (nodes incidenceLinks et (endsAt vt v))) (k .walk) z
+      step : Step f (λ x. EdgeRowIn edges (x / 2)) incidenceLinks edges (endsAt vertices v) w n (sumOf f (nodes incidenceLinks edges (endsAt vertices v)))
+      step = walk-step f (λ x. EdgeRowIn edges (x / 2)) incidenceLinks edges (endsAt vertices v) w n (sumOf f (nodes incidenceLinks edges (endsAt vertices v))) (k .walk) z
 
-      pub along-row : EdgeRowIn et (w / 2)
+      pub along-row : EdgeRowIn edges (w / 2)
       along-row = step .holds
 
-      pub along-in : HalfRowIn et w
-      along-in = word-in et w along-row
+      pub along-in : HalfRowIn edges w
+      along-in = word-in edges w along-row
 
-      pub along-fits : CanWalk vt et v → ((x : ℕ) → f x ≤ 1) → (r : ℕ) → r ≡ f w → n + r < 2 ^ 32
+      pub along-fits : CanWalk vertices edges v → ((x : ℕ) → f x ≤ 1) → (r : ℕ) → r ≡ f w → n + r < 2 ^ 32
       along-fits p h r e = omega (arith, step .most, along-few p h)
 
       -- y is the word that the cursor finds next
-      module _ (y : ℕ) (q : y ≡ wnext et w) where
-        pub along-link : y ≡ linkOf forward incidenceLinks et (endsAt vt v) w
-        along-link = next-link et w along-row (endsAt vt v) y q
+      module _ (y : ℕ) (q : y ≡ wnext edges w) where
+        pub along-link : y ≡ linkOf forward incidenceLinks edges (endsAt vertices v) w
+        along-link = next-link edges w along-row (endsAt vertices v) y q
 
-        pub along-less : along-left vt et v y < along-left vt et v w
+        pub along-less : along-left vertices edges v y < along-left vertices edges v w
         along-less = step .less y along-link
 
-        pub along-on : (r : ℕ) → r ≡ f w → Along f vt et v y (n + r)
+        pub along-on : (r : ℕ) → r ≡ f w → Along f vertices edges v y (n + r)
         along-on r e = record { walk = rw e (step .next y along-link) }
 
 -- ---- for callers of the walk of `before`

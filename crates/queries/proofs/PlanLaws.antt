@@ -76,7 +76,7 @@ module _ (s : State) (g : Graph) (h : Holds s g) where
           pick-no (lastBy itself 0 l) w _ _ o ∙ ap (lastBy itself 0) (sym (list-kept u e))
     ]
 
-    pub last-move : (u : ℕ) → VertexThere g u → planWordLast (s .vt) (s .et) w u ≡ moveLast w u g
+    pub last-move : (u : ℕ) → VertexThere g u → planWordLast (s .vertices) (s .edges) w u ≡ moveLast w u g
     unfolding wordMove
     last-move u cu =
         let t = word-this s g h w c in
@@ -91,7 +91,7 @@ module _ (s : State) (g : Graph) (h : Holds s g) where
   there-in e c = rw (into-half e) c
 
   -- the removal of an edge
-  pub removal-is : (n : ℕ) → EdgeThere g n → planRemoveEdge (s .et) n ≡ removal n g
+  pub removal-is : (n : ℕ) → EdgeThere g n → planRemoveEdge (s .edges) n ≡ removal n g
   unfolding removal
   removal-is n c =
       let ci = there-in n c in
@@ -102,16 +102,16 @@ module _ (s : State) (g : Graph) (h : Holds s g) where
       let r = reading-at s g h n c in
       let p = edge-prev s g h n c in
       let i = word-prev s g h (inWord n) ci in
-      let i′ : wprev (s .et) (inWord n) ≡ prevBy itself 0 (inWord n) (listOf g (edge g n .omega)) = i ∙ ap (λ (v : ℕ). prevBy itself 0 (inWord n) (listOf g v)) (this-into (g .eseq) n) in
+      let i′ : wprev (s .edges) (inWord n) ≡ prevBy itself 0 (inWord n) (listOf g (edge g n .omega)) = i ∙ ap (λ (v : ℕ). prevBy itself 0 (inWord n) (listOf g v)) (this-into (g .eseq) n) in
       let o = word-prev s g h (outWord n) co in
-      let q : unless (inWord n) (wprev (s .et) (inWord n)) (wprev (s .et) (outWord n)) ≡ prevBy itself 0 (outWord n) (listIn (detach (g .vseq) (edge g n .omega) (inWord n)) (edge g n .alpha)) =
+      let q : unless (inWord n) (wprev (s .edges) (inWord n)) (wprev (s .edges) (outWord n)) ≡ prevBy itself 0 (outWord n) (listIn (detach (g .vseq) (edge g n .omega) (inWord n)) (edge g n .alpha)) =
       unless-by (inWord n) i o
       ∙ prev-out (inWord n) ci (this g (outWord n)) (outWord n) (omega arith) (omega (arith, word-listed s g h (outWord n) co))
       ∙ (λ k. prevBy itself 0 (outWord n) (listIn (detach (g .vseq) (this-into (g .eseq) n k) (inWord n)) (this-out (g .eseq) n k))) in
       λ k. RemoveEdge n (a k) (z k) (t k) (r k) (p k) (q k) (i′ k)
 
   -- the last word of omega's list, once the out word is last in alpha's
-  into-last : (n a o : ℕ) → VertexThere g a → VertexThere g o → ifEqual a o (outWord n) (vlast (s .vt) o) ≡ lastBy itself 0 (listIn (append (g .vseq) a (outWord n)) o)
+  into-last : (n a o : ℕ) → VertexThere g a → VertexThere g o → ifEqual a o (outWord n) (vlast (s .vertices) o) ≡ lastBy itself 0 (listIn (append (g .vseq) a (outWord n)) o)
   into-last n a o ca co =
       let l = list-upd (g .vseq) a o (λ ws. ws ++ (outWord n ∷ [])) ca in
       elim (same? a o) [

@@ -1,10 +1,10 @@
 // Orders, counts and degree: the other answers are words of a named row, or of the head.
 // A caller has tables that hold a graph, and names that are in it.
-use crate::choice::choose;
 use cursor::at;
 use cursor::following;
 use cursor::stepped;
 use graph_tables::Head;
+use graph_tables::choice::choose;
 use graph_tables::rows::edge_type;
 use graph_tables::rows::ends_of;
 use graph_tables::rows::first_word;
@@ -27,12 +27,12 @@ ghost use mathlib.Core.Bool.{true};
 ghost use mathlib.Core.List.{List};
 
 // Is vertex a before b in Vseq: a walk from a.
-pub fn vertex_before(head: Head, vt: &[u32], a: u32, b: u32) -> bool
-    requires { ⌜ HeldAt vertexLinks (now vt) (vertexListEnds head) a ⌝ }
-    ensures { λ r. ⌜ r ≡ before a b (nodes vertexLinks (now (vt .entry)) (vertexListEnds head)) ⌝ }
+pub fn vertex_before(head: Head, vertices: &[u32], a: u32, b: u32) -> bool
+    requires { ⌜ HeldAt vertexLinks (now vertices) (vertexListEnds head) a ⌝ }
+    ensures { λ r. ⌜ r ≡ before a b (nodes vertexLinks (now (vertices .entry)) (vertexListEnds head)) ⌝ }
 {
     linked_lists::before(
-        vt,
+        vertices,
         LinkLayout {
             stride: 8,
             offset: 2,
@@ -47,12 +47,12 @@ pub fn vertex_before(head: Head, vt: &[u32], a: u32, b: u32) -> bool
 }
 
 // Is edge a before b in Eseq: a walk from a.
-pub fn edge_before(head: Head, et: &[u32], a: u32, b: u32) -> bool
-    requires { ⌜ HeldAt edgeLinks (now et) (edgeListEnds head) a ⌝ }
-    ensures { λ r. ⌜ r ≡ before a b (nodes edgeLinks (now (et .entry)) (edgeListEnds head)) ⌝ }
+pub fn edge_before(head: Head, edges: &[u32], a: u32, b: u32) -> bool
+    requires { ⌜ HeldAt edgeLinks (now edges) (edgeListEnds head) a ⌝ }
+    ensures { λ r. ⌜ r ≡ before a b (nodes edgeLinks (now (edges .entry)) (edgeListEnds head)) ⌝ }
 {
     linked_lists::before(
-        et,
+        edges,
         LinkLayout {
             stride: 12,
             offset: 2,
@@ -67,16 +67,16 @@ pub fn edge_before(head: Head, et: &[u32], a: u32, b: u32) -> bool
 }
 
 // Is word a before b in a's list: a walk from a.
-pub fn word_before(vt: &[u32], et: &[u32], a: u32, b: u32) -> bool
-    requires { ⌜ HalfRowIn (now et) a × VertexRowIn (now vt) (wthis (now et) a)
-        × HeldAt incidenceLinks (now et) (endsAt (now vt) (wthis (now et) a)) a ⌝ }
+pub fn word_before(vertices: &[u32], edges: &[u32], a: u32, b: u32) -> bool
+    requires { ⌜ HalfRowIn (now edges) a × VertexRowIn (now vertices) (wthis (now edges) a)
+        × HeldAt incidenceLinks (now edges) (endsAt (now vertices) (wthis (now edges) a)) a ⌝ }
     ensures { λ r. ⌜ r ≡ before a b
-        (nodes incidenceLinks (now (et .entry)) (endsAt (now (vt .entry)) (wthis (now (et .entry)) a))) ⌝ }
+        (nodes incidenceLinks (now (edges .entry)) (endsAt (now (vertices .entry)) (wthis (now (edges .entry)) a))) ⌝ }
 {
-    let v = this(et, a);
-    let e = ends_of(vt, v);
+    let v = this(edges, a);
+    let e = ends_of(vertices, v);
     linked_lists::before(
-        et,
+        edges,
         LinkLayout {
             stride: 6,
             offset: 12,
@@ -88,28 +88,28 @@ pub fn word_before(vt: &[u32], et: &[u32], a: u32, b: u32) -> bool
 }
 
 // 1 for the word at which its edge is counted, else 0: the out word of a loop, either word of another edge.
-fn counted(et: &[u32], w: u32) -> u32
-    requires { ⌜ EdgeRowIn (now et) (w / 2) ⌝ }
-    ensures { λ r. ⌜ r ≡ countedAt (now (et .entry)) w ⌝ }
+fn counted(edges: &[u32], w: u32) -> u32
+    requires { ⌜ EdgeRowIn (now edges) (w / 2) ⌝ }
+    ensures { λ r. ⌜ r ≡ countedAt (now (edges .entry)) w ⌝ }
 {
     if w % 2 == 0 {
         return 1;
     }
-    let a = this(et, w - 1);
-    let z = this(et, w);
+    let a = this(edges, w - 1);
+    let z = this(edges, w);
     choose(a, z, 0, 1)
 }
 
 // How many distinct edges are at vertex v: a walk along its list by a cursor.
-pub fn count_edges(vt: &[u32], et: &[u32], v: u32) -> u32
-    requires { ⌜ CanWalk (now vt) (now et) v ⌝ }
-    ensures { λ r. ⌜ r ≡ distinctEdgesAt (now (vt .entry)) (now (et .entry)) v ⌝ }
+pub fn count_edges(vertices: &[u32], edges: &[u32], v: u32) -> u32
+    requires { ⌜ CanWalk (now vertices) (now edges) v ⌝ }
+    ensures { λ r. ⌜ r ≡ distinctEdgesAt (now (vertices .entry)) (now (edges .entry)) v ⌝ }
 {
     let mut n = 0;
-    let mut w = first_word(vt, v);
+    let mut w = first_word(vertices, v);
     while w != 0 {
-        n += counted(et, w);
-        w = following(et, w);
+        n += counted(edges, w);
+        w = following(edges, w);
     }
     n
 }
@@ -131,14 +131,14 @@ fn on_side(c: u32, w: u32) -> bool
 }
 
 // 1 where word w is on the side c and its edge is in class t by the words, else 0.
-fn in_degree(words: &[u64; 64], et: &[u32], w: u32, t: u32, c: u32) -> u32
-    requires { ⌜ EdgeRowIn (now et) (w / 2) ⌝ }
-    ensures { λ r. ⌜ r ≡ degreeOne (λ s. bitOf (now (words .entry)) s t) c (now (et .entry)) w ⌝ }
+fn in_degree(words: &[u64; 64], edges: &[u32], w: u32, t: u32, c: u32) -> u32
+    requires { ⌜ EdgeRowIn (now edges) (w / 2) ⌝ }
+    ensures { λ r. ⌜ r ≡ degreeOne (λ s. bitOf (now (words .entry)) s t) c (now (edges .entry)) w ⌝ }
 {
     if !on_side(c, w) {
         return 0;
     }
-    let s = edge_type(et, w / 2);
+    let s = edge_type(edges, w / 2);
     if type_rows::is_below(words, s, t) {
         return 1;
     }
@@ -146,22 +146,23 @@ fn in_degree(words: &[u64; 64], et: &[u32], w: u32, t: u32, c: u32) -> u32
 }
 
 // n, and one more where word w is on the side c and its edge is in class t by the words.
-fn with_degree(words: &[u64; 64], et: &[u32], w: u32, t: u32, c: u32, n: u32) -> u32
-    requires { ⌜ EdgeRowIn (now et) (w / 2) × (n + degreeOne (λ s. bitOf (now words) s t) c (now et) w < 2 ^ 32) ⌝ }
-    ensures { λ r. ⌜ r ≡ n + degreeOne (λ s. bitOf (now (words .entry)) s t) c (now (et .entry)) w ⌝ }
+fn with_degree(words: &[u64; 64], edges: &[u32], w: u32, t: u32, c: u32, n: u32) -> u32
+    requires { ⌜ EdgeRowIn (now edges) (w / 2) × (n + degreeOne (λ s. bitOf (now words) s t) c (now edges) w < 2 ^
+        32) ⌝ }
+    ensures { λ r. ⌜ r ≡ n + degreeOne (λ s. bitOf (now (words .entry)) s t) c (now (edges .entry)) w ⌝ }
 {
-    n + in_degree(words, et, w, t, c)
+    n + in_degree(words, edges, w, t, c)
 }
 
 // The degree along a list from its first word on: a cursor is kept and stepped to the end of the list.
-fn degree_from(words: &[u64; 64], et: &[u32], first: u32, t: u32, c: u32) -> u32
-    requires { ⌜ CanWalkFrom (now et) first ⌝ }
-    ensures { λ r. ⌜ DegreeFrom (now (words .entry)) (now (et .entry)) first t c r ⌝ }
+fn degree_from(words: &[u64; 64], edges: &[u32], first: u32, t: u32, c: u32) -> u32
+    requires { ⌜ CanWalkFrom (now edges) first ⌝ }
+    ensures { λ r. ⌜ DegreeFrom (now (words .entry)) (now (edges .entry)) first t c r ⌝ }
 {
     let mut n = 0;
-    let mut k = at(et, first);
+    let mut k = at(edges, first);
     while k.word != 0 {
-        n = with_degree(words, et, k.word, t, c, n);
+        n = with_degree(words, edges, k.word, t, c, n);
         k = stepped(k);
     }
     n
@@ -169,12 +170,13 @@ fn degree_from(words: &[u64; 64], et: &[u32], first: u32, t: u32, c: u32) -> u32
 
 // The degree of vertex v in class t on the side c: a walk along its list by a cursor. s is in class t where bit t of
 // word s is set; so it is where s is below t, if the words are a closure.
-pub fn degree(words: &[u64; 64], vt: &[u32], et: &[u32], v: u32, t: u32, c: u32) -> u32
-    requires { ⌜ CanWalk (now vt) (now et) v ⌝ }
-    ensures { λ r. ⌜ r ≡ degreeAt (λ s. bitOf (now (words .entry)) s t) c (now (vt .entry)) (now (et .entry)) v ⌝ }
+pub fn degree(words: &[u64; 64], vertices: &[u32], edges: &[u32], v: u32, t: u32, c: u32) -> u32
+    requires { ⌜ CanWalk (now vertices) (now edges) v ⌝ }
+    ensures { λ r. ⌜ r ≡ degreeAt (λ s. bitOf (now (words .entry)) s t) c (now (vertices .entry)) (now (edges .entry))
+        v ⌝ }
     ensures { λ r. ⌜ ((rows : List ℕ) → goodRows rows ≡ true → now (words .entry) ≡ closureWords rows
-        → r ≡ degreeAt (λ s. below rows s t) c (now (vt .entry)) (now (et .entry)) v) ⌝ }
+        → r ≡ degreeAt (λ s. below rows s t) c (now (vertices .entry)) (now (edges .entry)) v) ⌝ }
 {
-    let first = first_word(vt, v);
-    degree_from(words, et, first, t, c)
+    let first = first_word(vertices, v);
+    degree_from(words, edges, first, t, c)
 }

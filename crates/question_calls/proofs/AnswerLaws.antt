@@ -45,17 +45,17 @@ word-answer code t field x k f false n e i = rw (e, n)
 
 -- ---- vertices
 
-module _ (vt : List ℕ) (g : Graph) (h : HoldsV vt g) (a : ℕ) where
+module _ (vertices : List ℕ) (g : Graph) (h : HoldsV vertices g) (a : ℕ) where
   abbrev stateV : State
-  stateV = state (h .1 .0) vt (h .0)
+  stateV = state (h .1 .0) vertices (h .0)
 
   -- answered by x, or with code 4
   abbrev AnswersV : ℕ → ℕ → Type 0
-  AnswersV field x = vertexWord vt a field ≡ answerOf (lacksVertex g a ⇒ 4 else 0) x
+  AnswersV field x = vertexWord vertices a field ≡ answerOf (lacksVertex g a ⇒ 4 else 0) x
 
-  vertex-answer : (field x : ℕ) → (VertexThere g a → getD vt (vertexPlace field a) 0 ≡ x) → AnswersV field x
+  vertex-answer : (field x : ℕ) → (VertexThere g a → getD vertices (vertexPlace field a) 0 ≡ x) → AnswersV field x
   vertex-answer field x k =
-      word-answer 4 vt field x (8 * a - 8) (foundV vt a) (hasVertex g a) refl (found-vertex stateV g (h .1 .1) a) (λ e. k (vertex-once g a (h .1 .1 .sound) e))
+      word-answer 4 vertices field x (8 * a - 8) (foundV vertices a) (hasVertex g a) refl (found-vertex stateV g (h .1 .1) a) (λ e. k (vertex-once g a (h .1 .1 .sound) e))
 
   pub v-type : AnswersV 1 (vertex g a .type)
   v-type = vertex-answer 1 _ (vertex-type stateV g (h .1 .1) a)
@@ -75,20 +75,20 @@ module _ (vt : List ℕ) (g : Graph) (h : HoldsV vt g) (a : ℕ) where
 half-at : (w f : ℕ) → 2 ≤ w → edgePlace (6 * (w % 2) + f) (edgeOf w) ≡ halfPlace f w
 half-at w f h = omega arith
 
-module _ (et : List ℕ) (g : Graph) (h : HoldsE et g) where
+module _ (edges : List ℕ) (g : Graph) (h : HoldsE edges g) where
   abbrev stateE : State
-  stateE = state (h .1 .0) (h .0) et
+  stateE = state (h .1 .0) (h .0) edges
 
   -- answered by x, or with code 5
   abbrev AnswersE : ℕ → ℕ → ℕ → Type 0
-  AnswersE a field x = edgeWord et a field ≡ answerOf (lacksEdge g a ⇒ 5 else 0) x
+  AnswersE a field x = edgeWord edges a field ≡ answerOf (lacksEdge g a ⇒ 5 else 0) x
 
-  edge-answer : (a field x : ℕ) → (EdgeThere g a → getD et (edgePlace field a) 0 ≡ x) → AnswersE a field x
+  edge-answer : (a field x : ℕ) → (EdgeThere g a → getD edges (edgePlace field a) 0 ≡ x) → AnswersE a field x
   edge-answer a field x k =
-      word-answer 5 et field x (12 * a - 12) (foundE et a) (hasEdge g a) refl (found-edge stateE g (h .1 .1) a) (λ e. k (edge-once g a (h .1 .1 .sound) e))
+      word-answer 5 edges field x (12 * a - 12) (foundE edges a) (hasEdge g a) refl (found-edge stateE g (h .1 .1) a) (λ e. k (edge-once g a (h .1 .1 .sound) e))
 
-  word-of : (k i x : ℕ) → k ≡ i → getD et i 0 ≡ x → getD et k 0 ≡ x
-  word-of k i x e q = ap (λ (j : ℕ). getD et j 0) e ∙ q
+  word-of : (k i x : ℕ) → k ≡ i → getD edges i 0 ≡ x → getD edges k 0 ≡ x
+  word-of k i x e q = ap (λ (j : ℕ). getD edges j 0) e ∙ q
 
   module _ (a : ℕ) where
     pub e-alpha : AnswersE a 2 (edge g a .alpha)
@@ -114,18 +114,18 @@ module _ (et : List ℕ) (g : Graph) (h : HoldsE et g) where
     abbrev AnswersW : Answer → ℕ → Type 0
     AnswersW r x = r ≡ answerOf (lacksEdge g (edgeOf w) ⇒ 5 else 0) x
 
-    half-answer : (f x : ℕ) → (EdgeThere g (edgeOf w) → getD et (halfPlace f w) 0 ≡ x) → AnswersW (halfWord et w f) x
+    half-answer : (f x : ℕ) → (EdgeThere g (edgeOf w) → getD edges (halfPlace f w) 0 ≡ x) → AnswersW (halfWord edges w f) x
     half-answer f x k =
         edge-answer (edgeOf w) (6 * (w % 2) + f) x (λ c. word-of _ (halfPlace f w) x (half-at w f (word-row stateE g (h .1 .1) w c .0)) (k c))
 
-    pub w-next : AnswersW (halfWord et w 1) (after w (listOf g (this g w)))
+    pub w-next : AnswersW (halfWord edges w 1) (after w (listOf g (this g w)))
     w-next = half-answer 1 _ (word-next stateE g (h .1 .1) w)
 
-    pub w-this : AnswersW (halfWord et w 2) (this g w)
+    pub w-this : AnswersW (halfWord edges w 2) (this g w)
     w-this = half-answer 2 _ (word-this stateE g (h .1 .1) w)
 
     -- the end of an edge seen from its start, and the start seen from its end
-    pub w-that : AnswersW (thatWord et w) (that g w)
+    pub w-that : AnswersW (thatWord edges w) (that g w)
     w-that = edge-answer (edgeOf w) (8 - 6 * (w % 2)) _ (λ c. elim (same? (w % 2) 0) [
       | same i j ↦
           word-of _ (halfPlace 2 (inWord (edgeOf w))) _ (omega (arith, edge-row stateE g (h .1 .1) (edgeOf w) c .0)) (omega-is stateE g (h .1 .1) (edgeOf w) c)

@@ -15,15 +15,15 @@ wordAnswer code table field (Found at) = accepts (getD table (at + field) 0)
 wordAnswer code table field Missing = refuses code
 
 abbrev pub vertexWord : List ℕ → ℕ → ℕ → Answer
-vertexWord vt a field = wordAnswer 4 vt field (foundV vt a)
+vertexWord vertices a field = wordAnswer 4 vertices field (foundV vertices a)
 
 abbrev pub edgeWord : List ℕ → ℕ → ℕ → Answer
-edgeWord et a field = wordAnswer 5 et field (foundE et a)
+edgeWord edges a field = wordAnswer 5 edges field (foundE edges a)
 
 -- of an oriented word: the in half stands 6 words behind the out half
 abbrev pub halfWord : List ℕ → ℕ → ℕ → Answer
-halfWord et w field = edgeWord et (edgeOf w) (6 * (w % 2) + field)
+halfWord edges w field = edgeWord edges (edgeOf w) (6 * (w % 2) + field)
 
 -- this of the other half
 abbrev pub thatWord : List ℕ → ℕ → Answer
-thatWord et w = edgeWord et (edgeOf w) (8 - 6 * (w % 2))
+thatWord edges w = edgeWord edges (edgeOf w) (8 - 6 * (w % 2))

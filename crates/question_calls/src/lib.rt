@@ -26,7 +26,7 @@ ghost use Rattle.type_rows.specs.Closure.{closureWords};
 ghost use Rattle.graph.specs.WellFormed.{Bounds};
 ghost use Rattle.graph_tables.specs.Capacities.{Sized};
 ghost use Rattle.graph_tables.specs.declared.Head.{Head};
-ghost use Rattle.graph_tables.specs.Tables.{state};
+ghost use Rattle.graph_tables.specs.Tables.{state, entryState};
 ghost use Rattle.graph_tables.specs.Holds.{Holds};
 ghost use Rattle.commands.specs.declared.Question.the-variants as ask;
 ghost use Rattle.commands.specs.Answers.{answerOf};
@@ -60,42 +60,42 @@ const HALF_NEXT: usize = 1;
 const HALF_THIS: usize = 2;
 
 // A word of the row of vertex a.
-fn vertex_word(vt: &[u32], a: u32, field: usize) -> Answer
+fn vertex_word(vertices: &[u32], a: u32, field: usize) -> Answer
     requires { ⌜ field < 8 ⌝ }
-    ensures { λ r. ⌜ r ≡ vertexWord (now (vt .entry)) a field ⌝ }
+    ensures { λ r. ⌜ r ≡ vertexWord (now (vertices .entry)) a field ⌝ }
 {
-    let f = find_vertex(vt, a);
+    let f = find_vertex(vertices, a);
     let Lookup::Found(at) = f else {
         return refused(4);
     };
-    accepted(vt[at + field])
+    accepted(vertices[at + field])
 }
 
 // A word of the row of edge a.
-fn edge_word(et: &[u32], a: u32, field: usize) -> Answer
+fn edge_word(edges: &[u32], a: u32, field: usize) -> Answer
     requires { ⌜ field < 12 ⌝ }
-    ensures { λ r. ⌜ r ≡ edgeWord (now (et .entry)) a field ⌝ }
+    ensures { λ r. ⌜ r ≡ edgeWord (now (edges .entry)) a field ⌝ }
 {
-    let f = find_edge(et, a);
+    let f = find_edge(edges, a);
     let Lookup::Found(at) = f else {
         return refused(5);
     };
-    accepted(et[at + field])
+    accepted(edges[at + field])
 }
 
 // A word of the half of oriented word w.
-fn half_word(et: &[u32], w: u32, field: usize) -> Answer
+fn half_word(edges: &[u32], w: u32, field: usize) -> Answer
     requires { ⌜ field < 6 ⌝ }
-    ensures { λ r. ⌜ r ≡ halfWord (now (et .entry)) w field ⌝ }
+    ensures { λ r. ⌜ r ≡ halfWord (now (edges .entry)) w field ⌝ }
 {
-    edge_word(et, w / 2, 6 * (w % 2) as usize + field)
+    edge_word(edges, w / 2, 6 * (w % 2) as usize + field)
 }
 
 // The vertex that the other half is seen from.
-fn that_word(et: &[u32], w: u32) -> Answer
-    ensures { λ r. ⌜ r ≡ thatWord (now (et .entry)) w ⌝ }
+fn that_word(edges: &[u32], w: u32) -> Answer
+    ensures { λ r. ⌜ r ≡ thatWord (now (edges .entry)) w ⌝ }
 {
-    edge_word(et, w / 2, EDGE_OMEGA - 6 * (w % 2) as usize)
+    edge_word(edges, w / 2, EDGE_OMEGA - 6 * (w % 2) as usize)
 }
 
 // 1 for true, 0 for false.
@@ -109,82 +109,82 @@ fn as_number(b: bool) -> u32
 }
 
 // Kind 46.
-fn order_of_vertices(head: Head, vt: &[u32], a: u32, b: u32) -> Answer
-    requires { ⌜ ((et : List ℕ) × (g : Graph) × Holds (state head (now vt) et) g) ⌝ }
-    ensures { λ r. ⌜ ((g : Graph) → (n : ℕ) → (rows et : List ℕ) → Holds (state head (now (vt .entry)) et) g
+fn order_of_vertices(head: Head, vertices: &[u32], a: u32, b: u32) -> Answer
+    requires { ⌜ ((edges : List ℕ) × (g : Graph) × Holds (state head (now vertices) edges) g) ⌝ }
+    ensures { λ r. ⌜ ((g : Graph) → (n : ℕ) → (rows edges : List ℕ) → Holds (state head (now (vertices .entry)) edges) g
         → r ≡ answerOf (questionCode n g (ask.VertexOrder a b)) (questionNumber rows g (ask.VertexOrder a b))) ⌝ }
 {
-    let f = find_vertex(vt, a);
+    let f = find_vertex(vertices, a);
     let Lookup::Found(_) = f else {
         return refused(4);
     };
-    let h = find_vertex(vt, b);
+    let h = find_vertex(vertices, b);
     let Lookup::Found(_) = h else {
         return refused(4);
     };
-    let before = vertex_before(head, vt, a, b);
+    let before = vertex_before(head, vertices, a, b);
     accepted(as_number(before))
 }
 
 // Kind 47.
-fn order_of_edges(head: Head, et: &[u32], a: u32, b: u32) -> Answer
-    requires { ⌜ ((vt : List ℕ) × (g : Graph) × Holds (state head vt (now et)) g) ⌝ }
-    ensures { λ r. ⌜ ((g : Graph) → (n : ℕ) → (rows vt : List ℕ) → Holds (state head vt (now (et .entry))) g
+fn order_of_edges(head: Head, edges: &[u32], a: u32, b: u32) -> Answer
+    requires { ⌜ ((vertices : List ℕ) × (g : Graph) × Holds (state head vertices (now edges)) g) ⌝ }
+    ensures { λ r. ⌜ ((g : Graph) → (n : ℕ) → (rows vertices : List ℕ)
+        → Holds (state head vertices (now (edges .entry))) g
         → r ≡ answerOf (questionCode n g (ask.EdgeOrder a b)) (questionNumber rows g (ask.EdgeOrder a b))) ⌝ }
 {
-    let f = find_edge(et, a);
+    let f = find_edge(edges, a);
     let Lookup::Found(_) = f else {
         return refused(5);
     };
-    let h = find_edge(et, b);
+    let h = find_edge(edges, b);
     let Lookup::Found(_) = h else {
         return refused(5);
     };
-    let before = edge_before(head, et, a, b);
+    let before = edge_before(head, edges, a, b);
     accepted(as_number(before))
 }
 
 // Kind 48.
-fn order_of_words(vt: &[u32], et: &[u32], a: u32, b: u32) -> Answer
-    requires { ⌜ ((head : Head) × (g : Graph) × Holds (state head (now vt) (now et)) g) ⌝ }
+fn order_of_words(vertices: &[u32], edges: &[u32], a: u32, b: u32) -> Answer
+    requires { ⌜ ((head : Head) × (g : Graph) × Holds (state head (now vertices) (now edges)) g) ⌝ }
     ensures { λ r. ⌜ ((g : Graph) → (n : ℕ) → (rows : List ℕ) → (head : Head)
-        → Holds (state head (now (vt .entry)) (now (et .entry))) g
+        → Holds (entryState head vertices edges) g
         → r ≡ answerOf (questionCode n g (ask.WordOrder a b)) (questionNumber rows g (ask.WordOrder a b))) ⌝ }
 {
-    let f = find_word(et, a);
+    let f = find_word(edges, a);
     let Lookup::Found(_) = f else {
         return refused(5);
     };
-    let h = find_word(et, b);
+    let h = find_word(edges, b);
     let Lookup::Found(_) = h else {
         return refused(5);
     };
-    if this(et, a) != this(et, b) {
+    if this(edges, a) != this(edges, b) {
         return refused(8);
     }
-    let before = word_before(vt, et, a, b);
+    let before = word_before(vertices, edges, a, b);
     accepted(as_number(before))
 }
 
 // Kind 45.
 fn degree_of(
     closed: &[u64; 64],
-    vt: &[u32],
-    et: &[u32],
+    vertices: &[u32],
+    edges: &[u32],
     types: u32,
     a: u32,
     t: u32,
     c: u32,
 ) -> Answer
-    requires { ⌜ ((b : Bounds) × (head : Head) × (g : Graph) × Sized b (state head (now vt) (now et))
-        × Holds (state head (now vt) (now et)) g) ⌝ }
+    requires { ⌜ ((b : Bounds) × (head : Head) × (g : Graph) × Sized b (state head (now vertices) (now edges))
+        × Holds (state head (now vertices) (now edges)) g) ⌝ }
     ensures { λ r. ⌜ ((g : Graph) → (rows : List ℕ) → (b : Bounds) → (head : Head)
-        → Sized b (state head (now (vt .entry)) (now (et .entry)))
-        → Holds (state head (now (vt .entry)) (now (et .entry))) g
-        → goodRows rows ≡ true → now (closed .entry) ≡ closureWords rows
+        → Sized b (entryState head vertices edges) → Holds (entryState head vertices edges) g → goodRows rows ≡ true
+        → now (closed .entry) ≡ closureWords rows
         → r ≡ answerOf (questionCode types g (ask.Degree a t c)) (questionNumber rows g (ask.Degree a t c))) ⌝ }
 {
-    let f = find_vertex(vt, a);
+    let f = find_vertex(vertices, a);
     let Lookup::Found(_) = f else {
         return refused(4);
     };
@@ -194,7 +194,7 @@ fn degree_of(
     if 2 < c {
         return refused(15);
     }
-    accepted(degree(closed, vt, et, a, t, c))
+    accepted(degree(closed, vertices, edges, a, t, c))
 }
 
 // Kind 52.
@@ -215,40 +215,38 @@ fn below_of(closed: &[u64; 64], types: u32, s: u32, t: u32) -> Answer
 // The answer to a question; types is their number, closed the closure of their rows.
 pub fn reply(
     head: Head,
-    vt: &[u32],
-    et: &[u32],
+    vertices: &[u32],
+    edges: &[u32],
     closed: &[u64; 64],
     types: u32,
     question: Question,
 ) -> Answer
-    requires { ⌜ ((b : Bounds) × (g : Graph) × Sized b (state head (now vt) (now et))
-        × Holds (state head (now vt) (now et)) g) ⌝ }
-    ensures { λ r. ⌜ ((g : Graph) → (rows : List ℕ) → (b : Bounds)
-        → Sized b (state head (now (vt .entry)) (now (et .entry)))
-        → Holds (state head (now (vt .entry)) (now (et .entry))) g
-        → goodRows rows ≡ true → now (closed .entry) ≡ closureWords rows
+    requires { ⌜ ((b : Bounds) × (g : Graph) × Sized b (state head (now vertices) (now edges))
+        × Holds (state head (now vertices) (now edges)) g) ⌝ }
+    ensures { λ r. ⌜ ((g : Graph) → (rows : List ℕ) → (b : Bounds) → Sized b (entryState head vertices edges)
+        → Holds (entryState head vertices edges) g → goodRows rows ≡ true → now (closed .entry) ≡ closureWords rows
         → r ≡ answerOf (questionCode types g question) (questionNumber rows g question)) ⌝ }
 {
     match question {
         Question::FirstVertex => accepted(head.vfirst),
-        Question::NextVertex(a) => vertex_word(vt, a, VERTEX_NEXT),
+        Question::NextVertex(a) => vertex_word(vertices, a, VERTEX_NEXT),
         Question::FirstEdge => accepted(head.efirst),
-        Question::NextEdge(a) => edge_word(et, a, EDGE_NEXT),
-        Question::FirstWord(a) => vertex_word(vt, a, VERTEX_FIRST),
-        Question::NextWord(a) => half_word(et, a, HALF_NEXT),
-        Question::Alpha(a) => edge_word(et, a, EDGE_ALPHA),
-        Question::Omega(a) => edge_word(et, a, EDGE_OMEGA),
-        Question::This(a) => half_word(et, a, HALF_THIS),
-        Question::That(a) => that_word(et, a),
-        Question::VertexType(a) => vertex_word(vt, a, VERTEX_TYPE),
-        Question::EdgeType(a) => edge_word(et, a, EDGE_TYPE),
-        Question::Value(a) => vertex_word(vt, a, VERTEX_VALUE),
-        Question::ReadingKind(a) => edge_word(et, a, EDGE_KIND),
-        Question::Decimetres(a) => edge_word(et, a, EDGE_DECIMETRES),
-        Question::Degree(a, t, c) => degree_of(closed, vt, et, types, a, t, c),
-        Question::VertexOrder(a, b) => order_of_vertices(head, vt, a, b),
-        Question::EdgeOrder(a, b) => order_of_edges(head, et, a, b),
-        Question::WordOrder(a, b) => order_of_words(vt, et, a, b),
+        Question::NextEdge(a) => edge_word(edges, a, EDGE_NEXT),
+        Question::FirstWord(a) => vertex_word(vertices, a, VERTEX_FIRST),
+        Question::NextWord(a) => half_word(edges, a, HALF_NEXT),
+        Question::Alpha(a) => edge_word(edges, a, EDGE_ALPHA),
+        Question::Omega(a) => edge_word(edges, a, EDGE_OMEGA),
+        Question::This(a) => half_word(edges, a, HALF_THIS),
+        Question::That(a) => that_word(edges, a),
+        Question::VertexType(a) => vertex_word(vertices, a, VERTEX_TYPE),
+        Question::EdgeType(a) => edge_word(edges, a, EDGE_TYPE),
+        Question::Value(a) => vertex_word(vertices, a, VERTEX_VALUE),
+        Question::ReadingKind(a) => edge_word(edges, a, EDGE_KIND),
+        Question::Decimetres(a) => edge_word(edges, a, EDGE_DECIMETRES),
+        Question::Degree(a, t, c) => degree_of(closed, vertices, edges, types, a, t, c),
+        Question::VertexOrder(a, b) => order_of_vertices(head, vertices, a, b),
+        Question::EdgeOrder(a, b) => order_of_edges(head, edges, a, b),
+        Question::WordOrder(a, b) => order_of_words(vertices, edges, a, b),
         Question::Below(s, t) => below_of(closed, types, s, t),
     }
 }

@@ -15,31 +15,32 @@ use Rattle.graph.specs.declared.Change.the-variants.{CreateVertex, DeleteVertex
 use Rattle.graph.specs.declared.Edit.{Edit}
 use Rattle.graph.specs.declared.Edit.the-variants.{InsertEdge, SetVertex, SetEdge, MoveVertex, MoveEdge, MoveWord}
 use Rattle.graph.specs.declared.Reading.the-variants.{Untested}
-use Rattle.graph.specs.Graph.{Graph, readingKind, decimetres, readingOf}
+use Rattle.graph.specs.Graph.{Graph, readingOf, IsWords}
 use Rattle.graph.specs.WellFormed.{Bounds}
-use Rattle.graph.specs.Changes.{EdgeThere, Allowed}
+use Rattle.graph.specs.Changes.{Allowed}
 use Rattle.graph.specs.Plans.{plan}
 use Rattle.graph.specs.Same.{idle}
-use Rattle.graph.proofs.Readings.{reading-words}
+use Rattle.graph.proofs.Readings.{reading-words as call-words}
 use Rattle.graph.proofs.PlanLaws.{plan-applies}
 use Rattle.graph_tables.specs.declared.Head.{Head}
-use Rattle.graph_tables.specs.Tables.{State, state, ekind, edecimetres}
+use Rattle.graph_tables.specs.Tables.{State, state}
 use Rattle.graph_tables.specs.Edits.{Can, Room}
 use Rattle.graph_tables.specs.Holds.{Holds}
 use Rattle.graph_tables.specs.Capacities.{Sized, boundsOf}
 use Rattle.graph_tables.proofs.Callers.{small, vertex-in, edge-in}
 use Rattle.graph_tables.proofs.Refines.{can-edit}
-use Rattle.journal.specs.Rows.{IsWords}
+use Rattle.graph_tables.proofs.Steps.{can-by}
+use Rattle.journal.specs.Rows.{costing}
 use Rattle.journal.specs.Written.{Written}
-use Rattle.queries.specs.Plans.{planS, OneEdit}
-use Rattle.queries.proofs.Answers.{reading-at, reading-kind, reading-decimetres}
+use Rattle.queries.specs.Plans.{planS, CanPlan, OneEdit}
+use Rattle.queries.proofs.Answers.{reading-words}
 use Rattle.queries.proofs.PlanLaws.{can-plan, plan-is, one-edit}
 use Rattle.machine.specs.Codes.{changeCode}
 use Rattle.change_codes.specs.Held.{HoldsVE}
 use Rattle.commands.specs.Fits.{ChangeFits}
 use Rattle.machine.proofs.Allows.{allows}
 use Rattle.single_changes.specs.declared.Made.{Made}
-use Rattle.single_changes.specs.One.{HoldsGraph, ReadingWords, ReadyFor, tried, Tries, One, withRoom}
+use Rattle.single_changes.specs.One.{HoldsGraph, ReadingWords, tried, Tries, One, withRoom}
 
 pub no-code : (keeps : Bool) (free c : ℕ) → withRoom keeps free c ≡ 0 → c ≡ 0
 no-code keeps free c e = go (c == 0) refl e
@@ -59,20 +60,15 @@ some-room free c e = go (c == 0) refl (free == 0) refl e
 -- ---- what is allowed can be made
 
 module _ (b : Bounds) (s : State) (z : Sized b s) (g : Graph) (h : Holds s g) where
-  edge-words : (n : ℕ) → EdgeThere g n → IsWords (ekind (s .et) n) (edecimetres (s .et) n)
-  edge-words n c =
-      let r = reading-at s g h n c in
-      (ap readingKind r ∙ sym (reading-kind s g h n c), ap decimetres r ∙ sym (reading-decimetres s g h n c))
-
   reads-words : (c : Change) → Allowed b g c → ReadingWords c s
   reads-words (CreateVertex n t x) a = tt
   reads-words (DeleteVertex v) a = tt
   reads-words (CreateEdge n x o t) a = tt
-  reads-words (DeleteEdge n) a = edge-words n a
+  reads-words (DeleteEdge n) a = reading-words s g h n a
   reads-words (RetypeVertex v t) a = tt
-  reads-words (RetypeEdge e t) a = edge-words e (a .0)
+  reads-words (RetypeEdge e t) a = reading-words s g h e (a .0)
   reads-words (SetValue v x) a = tt
-  reads-words (SetReading e k d) a = (edge-words e (a .0), reading-words k d (a .1))
+  reads-words (SetReading e k d) a = (reading-words s g h e (a .0), call-words k d (a .1))
   reads-words (SetAlpha e v) a = tt
   reads-words (SetOmega e v) a = tt
   reads-words (VertexBefore x y) a = tt
@@ -100,41 +96,61 @@ module _ (b : Bounds) (s : State) (z : Sized b s) (g : Graph) (h : Holds s g) wh
   has-room (WordBefore x y) a = tt
   has-room (WordAfter x y) a = tt
 
-  ready : (c : Change) → OneEdit c → Allowed b g c → ReadyFor c s
-  ready c k a =
-      let e = plan-is s g h b c a in
-      let r = subst (λ (x : Edit). Room x s) e (has-room c a) in
-      let i = can-edit s g h (small b s z) (plan c g) (plan-applies b g (h .sound) c a (one-edit c k g .0)) r in
-      (can-plan b s z g h c a, subst (λ (x : Edit). Can x s) (sym e) i, reads-words c a)
-
 -- ---- one change
 
-module _ (x : Change) (types i free : ℕ) (h : Head) (vt et t : List ℕ) (f : ChangeFits x) (c : ℕ)
-    (e : (g : Graph) → HoldsVE vt et g → c ≡ changeCode (boundsOf vt et types) g x) where
-  pub one-refused : c ≢ 0 → {r : Made} → r ≡ record { head = h; code = c; cost = 0 } → One x types i free (state h vt et) t (r .code) (r .cost) (state (r .head) vt et) t
-  one-refused n q = subst (λ (y : Made). One x types i free (state h vt et) t (y .code) (y .cost) (state (y .head) vt et) t) (sym q) (record {
+-- what is known of a change that has none of codes 2 to 9: the rows that it reads are there, its edit can be made, and
+-- there is a row for it where there is room
+pub record Accepted (x : Change) (types i free : ℕ) (s : State) (t : List ℕ) : Type 0 where
+  pub fits : ChangeFits x
+  pub uncoded : (g : Graph) → HoldsVE (s .vertices) (s .edges) g → changeCode (boundsOf (s .vertices) (s .edges) types) g x ≡ 0
+  pub rows : CanPlan x s
+  pub can : Can (planS x s) s
+  pub words : ReadingWords x s
+  pub room : free ≢ 0 → 12 * i + 12 ≤ length t
+
+-- c is its code of those
+module _ {x : Change} {types i free : ℕ} {h : Head} {vertices edges t : List ℕ} (f : ChangeFits x) {c : ℕ}
+    (e : (g : Graph) → HoldsVE vertices edges g → c ≡ changeCode (boundsOf vertices edges types) g x) where
+  pub one-refused : c ≢ 0 → {r : Made} → r ≡ record { head = h; code = c; cost = 0 } → One x types i free (state h vertices edges) t (r .code) (r .cost) (state (r .head) vertices edges) t
+  one-refused n q = subst (λ (y : Made). One x types i free (state h vertices edges) t (y .code) (y .cost) (state (y .head) vertices edges) t) (sym q) (record {
     fits = f;
-    answers = λ g y. ap (λ (p : Bool). p ⇒ tried (idle (planS x (state h vt et))) free else c) (sym (ne-eqb c 0 n)) ∙ ap (withRoom (idle (planS x (state h vt et))) free) (e g y);
+    answers = λ g y. ap (λ (p : Bool). p ⇒ tried (idle (planS x (state h vertices edges))) free else c) (sym (ne-eqb c 0 n)) ∙ ap (withRoom (idle (planS x (state h vertices edges))) free) (e g y);
     stays = λ _. (refl, refl);
     keeps = λ _ z. absurd (n z);
     made = λ d. absurd (d refl);
   })
 
-  -- and no code: it can be tried, and there is a row for it where there is room
-  pub one-can : c ≡ 0 → OneEdit x → HoldsGraph types (state h vt et) × (free ≢ 0 → 12 * i + 12 ≤ length t) → ReadyFor x (state h vt et) × (free ≢ 0 → 12 * i + 12 ≤ length t)
-  one-can z k p =
+  pub accept : c ≡ 0 → OneEdit x → HoldsGraph (state h vertices edges) × (free ≢ 0 → 12 * i + 12 ≤ length t) → Accepted x types i free (state h vertices edges) t
+  accept z k p =
+      let s = state h vertices edges in
+      let b = boundsOf vertices edges types in
       let y = p .0 in
-      let a = allows (boundsOf vt et types) (y .graph) (y .holds .sound) x f (sym (e (y .graph) (h, y .holds)) ∙ z) in
-      (ready (boundsOf vt et types) (state h vt et) (y .sized) (y .graph) (y .holds) x k a, p .1)
+      let g = y .graph in
+      let u : (g : Graph) → HoldsVE vertices edges g → changeCode b g x ≡ 0 = λ g w. sym (e g w) ∙ z in
+      let a = allows b g (y .holds .sound) x f (u g (h, y .holds)) in
+      let q = plan-is s g (y .holds) b x a in
+      let r = subst (λ (d : Edit). Room d s) q (has-room b s (y .sized types) g (y .holds) x a) in
+      record {
+        fits = f;
+        uncoded = u;
+        rows = can-plan b s (y .sized types) g (y .holds) x a;
+        can = subst (λ (d : Edit). Can d s) (sym q) (can-edit s g (y .holds) (small b s (y .sized types)) (plan x g) (plan-applies b g (y .holds .sound) x a (one-edit x k g .0)) r);
+        words = reads-words b s (y .sized types) g (y .holds) x a;
+        room = p .1;
+      }
 
-  pub one-tried : c ≡ 0 → (k n : ℕ) (s′ : State) (t′ : List ℕ) → Tries (planS x (state h vt et)) i free (state h vt et) t k n s′ t′ → One x types i free (state h vt et) t k n s′ t′
-  one-tried z k n s′ t′ m = record {
-    fits = f;
-    answers = λ g y. m .coded ∙ ap (withRoom (idle (planS x (state h vt et))) free) (sym z ∙ e g y);
-    stays = m .stays;
-    keeps = m .keeps;
-    made = m .made;
-  }
+-- an edit that is the planned one can be made
+pub can-make : {x : Change} {types i free : ℕ} {s : State} {t : List ℕ} {e : Edit} → Accepted x types i free s t → e ≡ planS x s → Can e s × (free ≢ 0 → 12 * i + 12 ≤ length t)
+can-make {s = s} a q = (can-by s (sym q) (a .can), a .room)
+
+pub one-tried : {x : Change} {types i free : ℕ} {s s′ : State} {t t′ : List ℕ} {k n : ℕ} → Accepted x types i free s t → Tries (planS x s) i free s t k n s′ t′ → One x types i free s t k n s′ t′
+one-tried {x = x} {free = free} {s = s} a m = record {
+  fits = a .fits;
+  answers = λ g y. m .coded ∙ ap (withRoom (idle (planS x s)) free) (sym (a .uncoded g y));
+  stays = m .stays;
+  keeps = m .keeps;
+  made = m .made;
+}
 
 -- in an arm of the match
 pub one-by : {x y : Change} {types i free : ℕ} {s s′ : State} {t t′ : List ℕ} {k n : ℕ} → x ≡ y → One y types i free s t k n s′ t′ → One x types i free s t k n s′ t′
@@ -162,27 +178,27 @@ no-deletion (WordAfter a b) o z = omega arith
 -- ---- what is written is the plan
 
 -- nothing is written where the edit keeps the graph, or where there is no room
-module _ {e : Edit} {i free : ℕ} {h : Head} {vt et t : List ℕ} {r : Made} where
-  pub tries-kept : idle e ≡ true → r ≡ record { head = h; code = 0; cost = 0 } → Tries e i free (state h vt et) t (r .code) (r .cost) (state (r .head) vt et) t
-  tries-kept a q = subst (λ (y : Made). Tries e i free (state h vt et) t (y .code) (y .cost) (state (y .head) vt et) t) (sym q) (record {
+module _ {e : Edit} {i free : ℕ} {h : Head} {vertices edges t : List ℕ} {r : Made} where
+  pub tries-kept : idle e ≡ true → r ≡ record { head = h; code = 0; cost = 0 } → Tries e i free (state h vertices edges) t (r .code) (r .cost) (state (r .head) vertices edges) t
+  tries-kept a q = subst (λ (y : Made). Tries e i free (state h vertices edges) t (y .code) (y .cost) (state (y .head) vertices edges) t) (sym q) (record {
     coded = ap (λ (p : Bool). tried p free) (sym a);
     stays = λ _. (refl, refl);
     keeps = λ _ _. a;
     made = λ d. absurd (d refl);
   })
 
-  pub tries-full : idle e ≡ false → free ≡ 0 → r ≡ record { head = h; code = 10; cost = 0 } → Tries e i free (state h vt et) t (r .code) (r .cost) (state (r .head) vt et) t
-  tries-full a z q = subst (λ (y : Made). Tries e i free (state h vt et) t (y .code) (y .cost) (state (y .head) vt et) t) (sym q) (record {
+  pub tries-full : idle e ≡ false → free ≡ 0 → r ≡ record { head = h; code = 10; cost = 0 } → Tries e i free (state h vertices edges) t (r .code) (r .cost) (state (r .head) vertices edges) t
+  tries-full a z q = subst (λ (y : Made). Tries e i free (state h vertices edges) t (y .code) (y .cost) (state (y .head) vertices edges) t) (sym q) (record {
     coded = rw (a, z);
     stays = λ _. (refl, refl);
     keeps = λ _ d. absurd (omega arith);
     made = λ d. absurd (d refl);
   })
 
-pub tries-made : {e : Edit} {i free : ℕ} {s : State} {h : Head} {vt et t t′ : List ℕ} {r : Made} → idle e ≡ false → free ≢ 0 → Written e 1 i s t (state h vt et) t′ →
-    r ≡ record { head = h; code = 0; cost = 1 } → Tries e i free s t (r .code) (r .cost) (state (r .head) vt et) t′
-tries-made {e = e} {i = i} {free = free} {s = s} {h = h} {vt = vt} {et = et} {t = t} {t′ = t′} a n w q =
-    subst (λ (y : Made). Tries e i free s t (y .code) (y .cost) (state (y .head) vt et) t′) (sym q) (record {
+pub tries-made : {e : Edit} {i free : ℕ} {s : State} {h : Head} {vertices edges t t′ : List ℕ} {r : Made} → idle e ≡ false → free ≢ 0 → Written e (costing 1) i s t (state h vertices edges) t′ →
+    r ≡ record { head = h; code = 0; cost = 1 } → Tries e i free s t (r .code) (r .cost) (state (r .head) vertices edges) t′
+tries-made {e = e} {i = i} {free = free} {s = s} {h = h} {vertices = vertices} {edges = edges} {t = t} {t′ = t′} a n w q =
+    subst (λ (y : Made). Tries e i free s t (y .code) (y .cost) (state (y .head) vertices edges) t′) (sym q) (record {
       coded = rw (a, ne-eqb free 0 n);
       stays = λ d. absurd (omega arith);
       keeps = λ d. absurd (omega arith);

@@ -25,35 +25,34 @@ use Rattle.graph.specs.declared.Change.the-variants.{
   WordBefore,
   WordAfter,
 }
-use Rattle.graph.specs.Graph.{Graph}
+use Rattle.graph.specs.Graph.{Graph, IsWords}
 use Rattle.graph.specs.Same.{idle}
 use Rattle.graph_tables.specs.Tables.{State, ekind, edecimetres}
-use Rattle.graph_tables.specs.Edits.{Can}
 use Rattle.graph_tables.specs.Holds.{Holds}
 use Rattle.graph_tables.specs.Capacities.{Sized, boundsOf}
-use Rattle.journal.specs.Rows.{IsWords}
+use Rattle.journal.specs.Rows.{costing}
 use Rattle.journal.specs.Written.{Written}
-use Rattle.queries.specs.Plans.{planS, CanPlan}
+use Rattle.queries.specs.Plans.{planS}
 use Rattle.machine.specs.Codes.{changeCode}
 use Rattle.change_codes.specs.Held.{HoldsVE}
 use Rattle.commands.specs.Fits.{ChangeFits}
 
 -- the head and the tables hold a graph, within the limits
-pub record HoldsGraph (types : ℕ) (s : State) : Type 0 where
+pub record HoldsGraph (s : State) : Type 0 where
   pub graph : Graph
   pub holds : Holds s graph
-  pub sized : Sized (boundsOf (s .vt) (s .et) types) s
+  pub sized : (types : ℕ) → Sized (boundsOf (s .vertices) (s .edges) types) s
 
 -- the words of a reading that is read, and of one that is set
 abbrev pub ReadingWords : Change → State → Type 0
 ReadingWords (CreateVertex n t x) s = Unit {0}
 ReadingWords (DeleteVertex a) s = Unit {0}
 ReadingWords (CreateEdge n a o t) s = Unit {0}
-ReadingWords (DeleteEdge a) s = IsWords (ekind (s .et) a) (edecimetres (s .et) a)
+ReadingWords (DeleteEdge a) s = IsWords (ekind (s .edges) a) (edecimetres (s .edges) a)
 ReadingWords (RetypeVertex a t) s = Unit {0}
-ReadingWords (RetypeEdge a t) s = IsWords (ekind (s .et) a) (edecimetres (s .et) a)
+ReadingWords (RetypeEdge a t) s = IsWords (ekind (s .edges) a) (edecimetres (s .edges) a)
 ReadingWords (SetValue a x) s = Unit {0}
-ReadingWords (SetReading a k d) s = IsWords (ekind (s .et) a) (edecimetres (s .et) a) × IsWords k d
+ReadingWords (SetReading a k d) s = IsWords (ekind (s .edges) a) (edecimetres (s .edges) a) × IsWords k d
 ReadingWords (SetAlpha e v) s = Unit {0}
 ReadingWords (SetOmega e v) s = Unit {0}
 ReadingWords (VertexBefore a b) s = Unit {0}
@@ -63,16 +62,12 @@ ReadingWords (EdgeAfter a b) s = Unit {0}
 ReadingWords (WordBefore a b) s = Unit {0}
 ReadingWords (WordAfter a b) s = Unit {0}
 
--- the rows that a change reads are there, and its edit can be made
-abbrev pub ReadyFor : Change → State → Type 0
-ReadyFor c s = CanPlan c s × Can (planS c s) s × ReadingWords c s
-
 -- the edit alters something, is row i, a step of cost 1, and is carried out
 pub record Makes (e : Edit) (i : ℕ) (s : State) (t : List ℕ) (code cost : ℕ) (s′ : State) (t′ : List ℕ) : Type 0 where
   pub coded : code ≡ 0
   pub costs : cost ≡ 1
   pub alters : idle e ≡ false
-  pub written : Written e 1 i s t s′ t′
+  pub written : Written e (costing 1) i s t s′ t′
 
 -- the code of an edit of cost 1: room is asked only of one that alters something
 abbrev pub tried : Bool → ℕ → ℕ
@@ -93,8 +88,12 @@ withRoom keeps free c = (c == 0) ⇒ tried keeps free else c
 pub record One (x : Change) (types i free : ℕ) (s : State) (t : List ℕ) (code cost : ℕ) (s′ : State)
     (t′ : List ℕ) : Type 0 where
   pub fits : ChangeFits x
-  pub answers : (g : Graph) → HoldsVE (s .vt) (s .et) g
-      → code ≡ withRoom (idle (planS x s)) free (changeCode (boundsOf (s .vt) (s .et) types) g x)
+  pub answers : (g : Graph) → HoldsVE (s .vertices) (s .edges) g
+      → code ≡ withRoom (idle (planS x s)) free (changeCode (boundsOf (s .vertices) (s .edges) types) g x)
   pub stays : cost ≡ 0 → (s′ ≡ s) × (t′ ≡ t)
   pub keeps : cost ≡ 0 → code ≡ 0 → idle (planS x s) ≡ true
   pub made : cost ≢ 0 → Makes (planS x s) i s t code cost s′ t′
+
+-- of a change that names no type: whatever types there are
+abbrev pub Untyped : Change → ℕ → ℕ → State → List ℕ → ℕ → ℕ → State → List ℕ → Type 0
+Untyped x i free s t code cost s′ t′ = (types : ℕ) → One x types i free s t code cost s′ t′

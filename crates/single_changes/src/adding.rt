@@ -1,5 +1,5 @@
 // An edit tried: 0 and nothing written where its old and its new agree, 10 where there is no room for its row, else it
-// is written down as row i, a step of cost 1, and carried out.
+// is written down as one row, a step of cost 1, and carried out.
 use crate::Made;
 use crate::altered;
 use crate::unchanged;
@@ -17,11 +17,19 @@ ghost use mathlib.Core.Bool.{_&&_};
 ghost use Prim.Native.Nat.{_+_, _*_, _^_, _≤_, _<_};
 ghost use lib.ListN.{length};
 ghost use Rattle.lists.specs.Choice.{_==_};
-ghost use Rattle.graph.specs.Graph.{readingOf};
-ghost use Rattle.graph_tables.specs.Tables.{state, vertexLinks, edgeLinks, vertexListEnds, edgeListEnds, VertexRowIn};
+ghost use Rattle.graph.specs.Graph.{readingOf, IsWords};
+ghost use Rattle.graph_tables.specs.Tables.{
+  state,
+  vertexLinks,
+  edgeLinks,
+  vertexListEnds,
+  edgeListEnds,
+  VertexRowIn,
+  entryState,
+  exitState,
+};
 ghost use Rattle.graph_tables.specs.Tables.{EdgeRowIn, CanMove, CanInsertVertex};
 ghost use Rattle.graph_tables.specs.Tables.{CanInsertEdge, CanRemoveEdge, CanMoveWord};
-ghost use Rattle.journal.specs.Rows.{IsWords};
 ghost use Rattle.journal.specs.Written.{removalOf};
 ghost use Rattle.single_changes.specs.One.{Tries};
 
@@ -35,107 +43,116 @@ fn agree(a: u32, b: u32, c: u32, d: u32) -> bool
 }
 
 // The type and the reading of an edge, as words.
-fn same_edge(s: u32, s2: u32, k: u32, k2: u32, d: u32, d2: u32) -> bool
-    ensures { λ r. ⌜ r ≡ ((s == s2) && ((k == k2) && (d == d2))) ⌝ }
+fn same_edge(
+    sort: u32,
+    sort2: u32,
+    kind: u32,
+    kind2: u32,
+    decimetres: u32,
+    decimetres2: u32,
+) -> bool
+    ensures { λ r. ⌜ r ≡ ((sort == sort2) && ((kind == kind2) && (decimetres == decimetres2))) ⌝ }
 {
-    if s != s2 {
+    if sort != sort2 {
         return false;
     }
-    agree(k, k2, d, d2)
+    agree(kind, kind2, decimetres, decimetres2)
 }
 
 // Vertex n, put in after p.
 pub fn insert_vertex(
-    h: Head,
-    vt: &mut [u32],
-    et: &[u32],
-    t: &mut [u32],
-    i: u32,
+    head: Head,
+    vertices: &mut [u32],
+    edges: &[u32],
+    journal: &mut [u32],
+    row: u32,
     free: u32,
     n: u32,
-    s: u32,
-    x: u32,
+    sort: u32,
+    value: u32,
     p: u32,
 ) -> Made
-    requires { ⌜ CanInsertVertex n p (state h (now vt) (now et)) × ((free ≡ 0 → ⊥) → 12 * i + 12 ≤ length (now t)) ⌝ }
-    ensures { λ r. ⌜ Tries (Edit.InsertVertex n s x p) i free (state h (now (vt .entry)) (now (et .entry)))
-        (now (t .entry)) (r .code) (r .cost) (state (r .head) (now (vt .exit)) (now (et .entry))) (now (t .exit)) ⌝ }
+    requires { ⌜ CanInsertVertex n p (state head (now vertices) (now edges))
+        × ((free ≡ 0 → ⊥) → 12 * row + 12 ≤ length (now journal)) ⌝ }
+    ensures { λ r. ⌜ Tries (Edit.InsertVertex n sort value p) row free (entryState head vertices edges)
+        (now (journal .entry)) (r .code) (r .cost) (state (r .head) (now (vertices .exit)) (now (edges .entry)))
+        (now (journal .exit)) ⌝ }
 {
     if free == 0 {
-        return unchanged(h, 10);
+        return unchanged(head, 10);
     }
-    put_row(t, i, 1, 1, n, s, x, p, 0, 0, 0, 0, 0);
-    let head = graph_tables::vertices::insert_vertex(h, vt, et, n, s, x, p);
+    put_row(journal, row, 1, 1, n, sort, value, p, 0, 0, 0, 0, 0);
+    let head = graph_tables::vertices::insert_vertex(head, vertices, edges, n, sort, value, p);
     altered(head)
 }
 
 // As graph_tables::edges::insert_edge, whose one caller is to stay apply_edit, so that it is compiled into it.
 pub fn insert_edge(
-    h: Head,
-    vt: &mut [u32],
-    et: &mut [u32],
-    t: &mut [u32],
-    i: u32,
+    head: Head,
+    vertices: &mut [u32],
+    edges: &mut [u32],
+    journal: &mut [u32],
+    row: u32,
     free: u32,
     n: u32,
     a: u32,
     z: u32,
-    s: u32,
+    sort: u32,
     p: u32,
     out: u32,
     into: u32,
 ) -> Made
-    requires { ⌜ (n < 2 ^ 31) × CanInsertEdge n a z s Reading.Untested p out into (state h (now vt) (now et))
-        × ((free ≡ 0 → ⊥) → 12 * i + 12 ≤ length (now t)) ⌝ }
-    ensures { λ r. ⌜ Tries (Edit.InsertEdge n a z s Reading.Untested p out into) i free
-        (state h (now (vt .entry)) (now (et .entry))) (now (t .entry)) (r .code) (r .cost)
-        (state (r .head) (now (vt .exit)) (now (et .exit))) (now (t .exit)) ⌝ }
+    requires { ⌜ (n < 2 ^ 31) × CanInsertEdge n a z sort Reading.Untested p out into
+        (state head (now vertices) (now edges))
+        × ((free ≡ 0 → ⊥) → 12 * row + 12 ≤ length (now journal)) ⌝ }
+    ensures { λ r. ⌜ Tries (Edit.InsertEdge n a z sort Reading.Untested p out into) row free
+        (entryState head vertices edges) (now (journal .entry)) (r .code) (r .cost)
+        (exitState (r .head) vertices edges) (now (journal .exit)) ⌝ }
 {
     if free == 0 {
-        return unchanged(h, 10);
+        return unchanged(head, 10);
     }
-    put_row(t, i, 1, 3, n, a, z, s, 0, 0, p, out, into);
+    put_row(journal, row, 1, 3, n, a, z, sort, 0, 0, p, out, into);
     let head = place_edge(
-        h,
-        vt,
-        et,
+        head,
+        vertices,
+        edges,
         EdgeRecord {
             number: n,
             alpha: a,
             omega: z,
-            sort: s,
+            sort: sort,
             reading: Reading::Untested,
         },
         p,
     );
-    attach(head, vt, et, a, out, 2 * n);
-    attach(head, vt, et, z, into, 2 * n + 1);
+    attach(head, vertices, edges, a, out, 2 * n);
+    attach(head, vertices, edges, z, into, 2 * n + 1);
     altered(head)
 }
 
 // Edge n, taken out by the words of its row.
 pub fn remove_edge(
-    h: Head,
-    vt: &mut [u32],
-    et: &mut [u32],
-    t: &mut [u32],
-    i: u32,
+    head: Head,
+    vertices: &mut [u32],
+    edges: &mut [u32],
+    journal: &mut [u32],
+    row: u32,
     free: u32,
     n: u32,
     w: EdgeWords,
 ) -> Made
-    requires { ⌜ (n < 2 ^ 31) × CanRemoveEdge n (w .alpha) (w .omega) (state h (now vt) (now et))
-        × IsWords (w .kind) (w .decimetres) × ((free ≡ 0 → ⊥) → 12 * i + 12 ≤ length (now t)) ⌝ }
-    ensures { λ r. ⌜ Tries (removalOf n w) i free (state h (now (vt .entry)) (now (et .entry))) (now (t .entry))
-        (r .code)
-        (r .cost) (state (r .head) (now (vt .exit)) (now (et .exit))) (now (t .exit)) ⌝ }
+    requires { ⌜ (n < 2 ^ 31) × CanRemoveEdge n (w .alpha) (w .omega) (state head (now vertices) (now edges))
+        × IsWords (w .kind) (w .decimetres) × ((free ≡ 0 → ⊥) → 12 * row + 12 ≤ length (now journal)) ⌝ }
+    ensures { λ r. ⌜ Tries (removalOf n w) row free (entryState head vertices edges) (now (journal .entry)) (r .code)
+        (r .cost) (exitState (r .head) vertices edges) (now (journal .exit)) ⌝ }
 {
     if free == 0 {
-        return unchanged(h, 10);
+        return unchanged(head, 10);
     }
     put_row(
-        t,
-        i,
+        journal,
+        row,
         1,
         4,
         n,
@@ -148,135 +165,165 @@ pub fn remove_edge(
         w.out,
         w.into,
     );
-    let head = graph_tables::edges::remove_edge(h, vt, et, n, w.alpha, w.omega);
+    let head = graph_tables::edges::remove_edge(head, vertices, edges, n, w.alpha, w.omega);
     altered(head)
 }
 
 // Type and value of n, from old to new.
 pub fn set_vertex(
-    h: Head,
-    vt: &mut [u32],
-    et: &[u32],
-    t: &mut [u32],
-    i: u32,
+    head: Head,
+    vertices: &mut [u32],
+    edges: &[u32],
+    journal: &mut [u32],
+    row: u32,
     free: u32,
     n: u32,
-    s: u32,
-    x: u32,
-    s2: u32,
-    x2: u32,
+    sort: u32,
+    value: u32,
+    sort2: u32,
+    value2: u32,
 ) -> Made
-    requires { ⌜ VertexRowIn (now vt) n × ((free ≡ 0 → ⊥) → 12 * i + 12 ≤ length (now t)) ⌝ }
-    ensures { λ r. ⌜ Tries (Edit.SetVertex n s x s2 x2) i free (state h (now (vt .entry)) (now (et .entry)))
-        (now (t .entry)) (r .code) (r .cost) (state (r .head) (now (vt .exit)) (now (et .entry))) (now (t .exit)) ⌝ }
+    requires { ⌜ VertexRowIn (now vertices) n × ((free ≡ 0 → ⊥) → 12 * row + 12 ≤ length (now journal)) ⌝ }
+    ensures { λ r. ⌜ Tries (Edit.SetVertex n sort value sort2 value2) row free (entryState head vertices edges)
+        (now (journal .entry)) (r .code) (r .cost) (state (r .head) (now (vertices .exit)) (now (edges .entry)))
+        (now (journal .exit)) ⌝ }
 {
-    if agree(s, s2, x, x2) {
-        return unchanged(h, 0);
+    if agree(sort, sort2, value, value2) {
+        return unchanged(head, 0);
     }
     if free == 0 {
-        return unchanged(h, 10);
+        return unchanged(head, 10);
     }
-    put_row(t, i, 1, 5, n, s, x, s2, x2, 0, 0, 0, 0);
-    graph_tables::vertices::set_vertex(h, vt, et, n, s2, x2);
-    altered(h)
+    put_row(
+        journal,
+        row,
+        1,
+        5,
+        n,
+        sort,
+        value,
+        sort2,
+        value2,
+        0,
+        0,
+        0,
+        0,
+    );
+    graph_tables::vertices::set_vertex(head, vertices, edges, n, sort2, value2);
+    altered(head)
 }
 
 // Type and reading of n, from old to new.
 pub fn set_edge(
-    h: Head,
-    vt: &[u32],
-    et: &mut [u32],
-    t: &mut [u32],
-    i: u32,
+    head: Head,
+    vertices: &[u32],
+    edges: &mut [u32],
+    journal: &mut [u32],
+    row: u32,
     free: u32,
     n: u32,
-    s: u32,
-    k: u32,
-    d: u32,
-    s2: u32,
-    k2: u32,
-    d2: u32,
+    sort: u32,
+    kind: u32,
+    decimetres: u32,
+    sort2: u32,
+    kind2: u32,
+    decimetres2: u32,
 ) -> Made
-    requires { ⌜ EdgeRowIn (now et) n × IsWords k d × IsWords k2 d2 × ((free ≡ 0 → ⊥)
-        → 12 * i + 12 ≤ length (now t)) ⌝ }
-    ensures { λ r. ⌜ Tries (Edit.SetEdge n s (readingOf k d) s2 (readingOf k2 d2)) i free
-        (state h (now (vt .entry)) (now (et .entry))) (now (t .entry)) (r .code) (r .cost)
-        (state (r .head) (now (vt .entry)) (now (et .exit))) (now (t .exit)) ⌝ }
+    requires { ⌜ EdgeRowIn (now edges) n × IsWords kind decimetres × IsWords kind2 decimetres2 × ((free ≡ 0 → ⊥)
+        → 12 * row + 12 ≤ length (now journal)) ⌝ }
+    ensures { λ r. ⌜ Tries (Edit.SetEdge n sort (readingOf kind decimetres) sort2 (readingOf kind2 decimetres2)) row
+        free (entryState head vertices edges) (now (journal .entry)) (r .code) (r .cost)
+        (state (r .head) (now (vertices .entry)) (now (edges .exit))) (now (journal .exit)) ⌝ }
 {
-    if same_edge(s, s2, k, k2, d, d2) {
-        return unchanged(h, 0);
+    if same_edge(sort, sort2, kind, kind2, decimetres, decimetres2) {
+        return unchanged(head, 0);
     }
     if free == 0 {
-        return unchanged(h, 10);
+        return unchanged(head, 10);
     }
-    put_row(t, i, 1, 6, n, s, k, d, s2, k2, d2, 0, 0);
-    let r = reading_of(k2, d2);
-    graph_tables::edges::set_edge(h, vt, et, n, s2, r);
-    altered(h)
+    put_row(
+        journal,
+        row,
+        1,
+        6,
+        n,
+        sort,
+        kind,
+        decimetres,
+        sort2,
+        kind2,
+        decimetres2,
+        0,
+        0,
+    );
+    let r = reading_of(kind2, decimetres2);
+    graph_tables::edges::set_edge(head, vertices, edges, n, sort2, r);
+    altered(head)
 }
 
 // Vertex n, from after p to after q.
 pub fn move_vertex(
-    h: Head,
-    vt: &mut [u32],
-    et: &[u32],
-    t: &mut [u32],
-    i: u32,
+    head: Head,
+    vertices: &mut [u32],
+    edges: &[u32],
+    journal: &mut [u32],
+    row: u32,
     free: u32,
     n: u32,
     p: u32,
     q: u32,
 ) -> Made
-    requires { ⌜ CanMove vertexLinks n q (now vt) (vertexListEnds h) × ((free ≡ 0 → ⊥)
-        → 12 * i + 12 ≤ length (now t)) ⌝ }
-    ensures { λ r. ⌜ Tries (Edit.MoveVertex n p q) i free (state h (now (vt .entry)) (now (et .entry))) (now (t .entry))
-        (r .code) (r .cost) (state (r .head) (now (vt .exit)) (now (et .entry))) (now (t .exit)) ⌝ }
+    requires { ⌜ CanMove vertexLinks n q (now vertices) (vertexListEnds head) × ((free ≡ 0 → ⊥)
+        → 12 * row + 12 ≤ length (now journal)) ⌝ }
+    ensures { λ r. ⌜ Tries (Edit.MoveVertex n p q) row free (entryState head vertices edges) (now (journal .entry))
+        (r .code) (r .cost) (state (r .head) (now (vertices .exit)) (now (edges .entry))) (now (journal .exit)) ⌝ }
 {
     if p == q {
-        return unchanged(h, 0);
+        return unchanged(head, 0);
     }
     if free == 0 {
-        return unchanged(h, 10);
+        return unchanged(head, 10);
     }
-    put_row(t, i, 1, 7, n, p, q, 0, 0, 0, 0, 0, 0);
-    let head = graph_tables::vertices::move_vertex(h, vt, et, n, q);
+    put_row(journal, row, 1, 7, n, p, q, 0, 0, 0, 0, 0, 0);
+    let head = graph_tables::vertices::move_vertex(head, vertices, edges, n, q);
     altered(head)
 }
 
 // Edge n, from after p to after q.
 pub fn move_edge(
-    h: Head,
-    vt: &[u32],
-    et: &mut [u32],
-    t: &mut [u32],
-    i: u32,
+    head: Head,
+    vertices: &[u32],
+    edges: &mut [u32],
+    journal: &mut [u32],
+    row: u32,
     free: u32,
     n: u32,
     p: u32,
     q: u32,
 ) -> Made
-    requires { ⌜ CanMove edgeLinks n q (now et) (edgeListEnds h) × ((free ≡ 0 → ⊥) → 12 * i + 12 ≤ length (now t)) ⌝ }
-    ensures { λ r. ⌜ Tries (Edit.MoveEdge n p q) i free (state h (now (vt .entry)) (now (et .entry))) (now (t .entry))
-        (r .code) (r .cost) (state (r .head) (now (vt .entry)) (now (et .exit))) (now (t .exit)) ⌝ }
+    requires { ⌜ CanMove edgeLinks n q (now edges) (edgeListEnds head)
+        × ((free ≡ 0 → ⊥) → 12 * row + 12 ≤ length (now journal)) ⌝ }
+    ensures { λ r. ⌜ Tries (Edit.MoveEdge n p q) row free (entryState head vertices edges) (now (journal .entry))
+        (r .code) (r .cost) (state (r .head) (now (vertices .entry)) (now (edges .exit))) (now (journal .exit)) ⌝ }
 {
     if p == q {
-        return unchanged(h, 0);
+        return unchanged(head, 0);
     }
     if free == 0 {
-        return unchanged(h, 10);
+        return unchanged(head, 10);
     }
-    put_row(t, i, 1, 8, n, p, q, 0, 0, 0, 0, 0, 0);
-    let head = graph_tables::edges::move_edge(h, vt, et, n, q);
+    put_row(journal, row, 1, 8, n, p, q, 0, 0, 0, 0, 0, 0);
+    let head = graph_tables::edges::move_edge(head, vertices, edges, n, q);
     altered(head)
 }
 
 // A word, from its place in a list to a place in the same or another list.
 pub fn move_word(
-    h: Head,
-    vt: &mut [u32],
-    et: &mut [u32],
-    t: &mut [u32],
-    i: u32,
+    head: Head,
+    vertices: &mut [u32],
+    edges: &mut [u32],
+    journal: &mut [u32],
+    row: u32,
     free: u32,
     w: u32,
     v: u32,
@@ -284,18 +331,18 @@ pub fn move_word(
     u: u32,
     q: u32,
 ) -> Made
-    requires { ⌜ CanMoveWord w v u q (state h (now vt) (now et)) × ((free ≡ 0 → ⊥) → 12 * i + 12 ≤ length (now t)) ⌝ }
-    ensures { λ r. ⌜ Tries (Edit.MoveWord w v p u q) i free (state h (now (vt .entry)) (now (et .entry))) (now
-        (t .entry))
-        (r .code) (r .cost) (state (r .head) (now (vt .exit)) (now (et .exit))) (now (t .exit)) ⌝ }
+    requires { ⌜ CanMoveWord w v u q (state head (now vertices) (now edges))
+        × ((free ≡ 0 → ⊥) → 12 * row + 12 ≤ length (now journal)) ⌝ }
+    ensures { λ r. ⌜ Tries (Edit.MoveWord w v p u q) row free (entryState head vertices edges) (now (journal .entry))
+        (r .code) (r .cost) (exitState (r .head) vertices edges) (now (journal .exit)) ⌝ }
 {
     if agree(v, u, p, q) {
-        return unchanged(h, 0);
+        return unchanged(head, 0);
     }
     if free == 0 {
-        return unchanged(h, 10);
+        return unchanged(head, 10);
     }
-    put_row(t, i, 1, 9, w, v, p, u, q, 0, 0, 0, 0);
-    graph_tables::incidence::move_word(h, vt, et, w, v, u, q);
-    altered(h)
+    put_row(journal, row, 1, 9, w, v, p, u, q, 0, 0, 0, 0);
+    graph_tables::incidence::move_word(head, vertices, edges, w, v, u, q);
+    altered(head)
 }

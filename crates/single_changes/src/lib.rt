@@ -5,16 +5,16 @@ use graph_tables::Head;
 ghost use mathlib.Core.Path.{_≡_};
 ghost use Prim.Native.Nat.{_+_, _*_, _≤_};
 ghost use lib.ListN.{length};
-ghost use Rattle.graph_tables.specs.Tables.{state};
+ghost use Rattle.graph_tables.specs.Tables.{state, entryState, exitState};
 ghost use Rattle.queries.specs.Plans.{OneEdit};
 ghost use Rattle.single_changes.specs.One.{HoldsGraph, One};
 
 mod adding; // an edit written down and carried out
-mod kinds; // one function a kind
+mod kinds; // kinds 1 and 3 to 8, one function each
+mod moves; // kinds 9 to 16
 
-// The head after a change, its code (0 where it is accepted) and its cost: 1 where it altered the graph, else 0, also
-// where
-// it is refused.
+// What a change came to: the head after it, its code (0 where it is accepted) and its cost; 0 where it wrote nothing,
+// since it is refused or alters nothing.
 pub struct Made {
     pub head: Head,
     pub code: u32,
@@ -22,10 +22,10 @@ pub struct Made {
 }
 
 // A change that wrote nothing: refused, or one that alters nothing.
-fn unchanged(h: Head, code: u32) -> Made
-    ensures { λ r. ⌜ r ≡ record { head = h; code = code; cost = 0 } ⌝ }
+pub fn unchanged(head: Head, code: u32) -> Made
+    ensures { λ r. ⌜ r ≡ record { head = head; code = code; cost = 0 } ⌝ }
 {
-    let head = graph_tables::same(h);
+    let head = graph_tables::same(head);
     Made {
         head,
         code,
@@ -44,72 +44,154 @@ fn altered(head: Head) -> Made
     }
 }
 
-// Any change but the deletion of a vertex: row i is its row, free the room in the journal.
+// Any change but the deletion of a vertex: `row` is its row, `free` the room in the journal.
 pub fn make(
-    h: Head,
-    vt: &mut [u32],
-    et: &mut [u32],
-    t: &mut [u32],
+    head: Head,
+    vertices: &mut [u32],
+    edges: &mut [u32],
+    journal: &mut [u32],
     types: u32,
-    i: u32,
+    row: u32,
     free: u32,
     change: Change,
 ) -> Made
-    requires { ⌜ OneEdit change × HoldsGraph types (state h (now vt) (now et))
-        × ((free ≡ 0 → ⊥) → 12 * i + 12 ≤ length (now t)) ⌝ }
-    ensures { λ r. ⌜ One change types i free (state h (now (vt .entry)) (now (et .entry))) (now (t .entry)) (r .code)
-        (r .cost) (state (r .head) (now (vt .exit)) (now (et .exit))) (now (t .exit)) ⌝ }
+    requires { ⌜ OneEdit change × HoldsGraph (state head (now vertices) (now edges))
+        × ((free ≡ 0 → ⊥) → 12 * row + 12 ≤ length (now journal)) ⌝ }
+    ensures { λ r. ⌜ One change types row free (entryState head vertices edges) (now (journal .entry)) (r .code)
+        (r .cost) (exitState (r .head) vertices edges) (now (journal .exit)) ⌝ }
 {
     match change {
-        Change::CreateVertex(n, s, x) => kinds::create_vertex(
-            h,
-            vt,
-            et,
-            t,
+        Change::CreateVertex(n, sort, value) => kinds::create_vertex(
+            head,
+            vertices,
+            edges,
+            journal,
             types,
-            i,
+            row,
             free,
             n,
-            s,
-            x,
+            sort,
+            value,
         ),
-        Change::DeleteVertex(_) => unchanged(h, 1),
-        Change::CreateEdge(n, a, z, s) => kinds::create_edge(
-            h,
-            vt,
-            et,
-            t,
+        Change::DeleteVertex(_) => unchanged(head, 1),
+        Change::CreateEdge(n, a, z, sort) => kinds::create_edge(
+            head,
+            vertices,
+            edges,
+            journal,
             types,
-            i,
+            row,
             free,
             n,
             a,
             z,
-            s,
+            sort,
         ),
-        Change::DeleteEdge(n) => kinds::delete_edge(h, vt, et, t, types, i, free, n),
-        Change::RetypeVertex(a, s2) => kinds::retype_vertex(h, vt, et, t, types, i, free, a, s2),
-        Change::RetypeEdge(a, s2) => kinds::retype_edge(h, vt, et, t, types, i, free, a, s2),
-        Change::SetValue(a, x2) => kinds::set_value(h, vt, et, t, types, i, free, a, x2),
-        Change::SetReading(a, k2, d2) => kinds::set_reading(
-            h,
-            vt,
-            et,
-            t,
+        Change::DeleteEdge(n) => kinds::delete_edge(head, vertices, edges, journal, row, free, n),
+        Change::RetypeVertex(a, sort) => kinds::retype_vertex(
+            head,
+            vertices,
+            edges,
+            journal,
             types,
-            i,
+            row,
             free,
             a,
-            k2,
-            d2,
+            sort,
         ),
-        Change::SetAlpha(a, u) => kinds::set_alpha(h, vt, et, t, types, i, free, a, u),
-        Change::SetOmega(a, u) => kinds::set_omega(h, vt, et, t, types, i, free, a, u),
-        Change::VertexBefore(a, b) => kinds::vertex_before(h, vt, et, t, types, i, free, a, b),
-        Change::VertexAfter(a, b) => kinds::vertex_after(h, vt, et, t, types, i, free, a, b),
-        Change::EdgeBefore(a, b) => kinds::edge_before(h, vt, et, t, types, i, free, a, b),
-        Change::EdgeAfter(a, b) => kinds::edge_after(h, vt, et, t, types, i, free, a, b),
-        Change::WordBefore(a, b) => kinds::word_before(h, vt, et, t, types, i, free, a, b),
-        Change::WordAfter(a, b) => kinds::word_after(h, vt, et, t, types, i, free, a, b),
+        Change::RetypeEdge(a, sort) => kinds::retype_edge(
+            head,
+            vertices,
+            edges,
+            journal,
+            types,
+            row,
+            free,
+            a,
+            sort,
+        ),
+        Change::SetValue(a, value) => kinds::set_value(
+            head,
+            vertices,
+            edges,
+            journal,
+            row,
+            free,
+            a,
+            value,
+        ),
+        Change::SetReading(a, kind, decimetres) => kinds::set_reading(
+            head,
+            vertices,
+            edges,
+            journal,
+            row,
+            free,
+            a,
+            kind,
+            decimetres,
+        ),
+        Change::SetAlpha(a, u) => moves::set_alpha(head, vertices, edges, journal, row, free, a, u),
+        Change::SetOmega(a, u) => moves::set_omega(head, vertices, edges, journal, row, free, a, u),
+        Change::VertexBefore(a, b) => moves::vertex_before(
+            head,
+            vertices,
+            edges,
+            journal,
+            row,
+            free,
+            a,
+            b,
+        ),
+        Change::VertexAfter(a, b) => moves::vertex_after(
+            head,
+            vertices,
+            edges,
+            journal,
+            row,
+            free,
+            a,
+            b,
+        ),
+        Change::EdgeBefore(a, b) => moves::edge_before(
+            head,
+            vertices,
+            edges,
+            journal,
+            row,
+            free,
+            a,
+            b,
+        ),
+        Change::EdgeAfter(a, b) => moves::edge_after(
+            head,
+            vertices,
+            edges,
+            journal,
+            row,
+            free,
+            a,
+            b,
+        ),
+        Change::WordBefore(a, b) => moves::word_before(
+            head,
+            vertices,
+            edges,
+            journal,
+            row,
+            free,
+            a,
+            b,
+        ),
+        Change::WordAfter(a, b) => moves::word_after(
+            head,
+            vertices,
+            edges,
+            journal,
+            row,
+            free,
+            a,
+            b,
+        ),
     }
 }

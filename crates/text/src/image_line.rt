@@ -56,12 +56,11 @@ fn are_numbers(bytes: &[u8]) -> bool
 }
 
 // The words stand at the front of out, and behind them what stood there; another text leaves out as it is. 400,000
-// bytes
-// name no more words than there is room for.
+// bytes name no more words than there is room for.
 pub fn read_image(bytes: &[u8], out: &mut [u32; 200000]) -> LineVerdict
     ensures verdict { λ r. ⌜ r ≡ lineVerdict (readImage (now (bytes .entry))) ⌝ }
-    ensures words { λ r. ⌜ now (out .exit) ≡ overwritten (lineWords (readImage (now (bytes .entry)))) (now
-        (out .entry)) ⌝ }
+    ensures words { λ r. ⌜ now (out .exit)
+        ≡ overwritten (lineWords (readImage (now (bytes .entry)))) (now (out .entry)) ⌝ }
 {
     let len = bytes.len();
     if len < 6 {

@@ -10,7 +10,7 @@ use Rattle.lists.proofs.Picks.{same, differ, same?}
 use Rattle.graph.specs.Graph.{Graph}
 use Rattle.graph.specs.WellFormed.{Bounds}
 use Rattle.history.specs.Machine.{Step, Timeline}
-use Rattle.journal.specs.Rows.{costAt}
+use Rattle.journal.specs.Rows.{stepAt}
 use Rattle.graph_tables.specs.Tables.{State}
 use Rattle.timeline.specs.declared.Ahead.{Ahead}
 use Rattle.timeline.specs.declared.Position.{Position}
@@ -49,7 +49,7 @@ module _ (t : List ℕ) (g : Graph) (ss : List Step) (q u : ℕ) (a : Ahead) whe
     pub next-of : NextStep t g ss (k .place) u back
     next-of = next-step t g ss (k .place) u (subst (Behind t g ss (k .place)) (sym e) (k .behind)) back (reach-one back (a .left) (k .place) (length ss) n (k .reach))
 
-  pub aims-next : (back : Bool) (k : Aims t g ss back q u a) → u ≡ a .end → a .left ≢ 0 → (c end left : ℕ) → c ≡ costAt t (crossed back u) → end ≡ shifted back c u → left ≡ a .left - 1
+  pub aims-next : (back : Bool) (k : Aims t g ss back q u a) → u ≡ a .end → a .left ≢ 0 → (c end left : ℕ) → c ≡ stepAt t (crossed back u) .cost → end ≡ shifted back c u → left ≡ a .left - 1
       → Aims t g ss back q u (record { end = end; left = left }) × (u ≢ end)
   aims-next true k e n c end left w x y =
       let r = next-of true k e n in
@@ -138,7 +138,7 @@ fewer-left back u u′ a r d s n e x y =
     ]
 
 pub record Going (t : List ℕ) (back : Bool) (s₀ : State) (u₀ : ℕ) (a₀ : Ahead) (s : State) (u : ℕ) (a : Ahead) : Type 0 where
-  pub vlen : length (s .vt) ≡ length (s₀ .vt)
-  pub elen : length (s .et) ≡ length (s₀ .et)
+  pub vlen : length (s .vertices) ≡ length (s₀ .vertices)
+  pub elen : length (s .edges) ≡ length (s₀ .edges)
   pub goes : (b : Bounds) (g : Graph) (ss : List Step) (q : ℕ) → JournalRows b t g (rowsTo 0 (length ss) ss) s₀ u₀ → Aims t g ss back q u₀ a₀
       → JournalRows b t g (rowsTo 0 (length ss) ss) s u × Aims t g ss back q u a

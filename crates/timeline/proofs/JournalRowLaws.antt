@@ -12,7 +12,7 @@ use Rattle.graph.specs.WellFormed.{Bounds, WellFormed, Within}
 use Rattle.graph.specs.Edits.{Applies, EditIn, apply, inverse}
 use Rattle.graph.proofs.Keeps.{keeps-formed}
 use Rattle.graph.proofs.EditBounds.{keeps-within}
-use Rattle.journal.specs.Rows.{rowAt, rowed, turned, SameBelow}
+use Rattle.journal.specs.Rows.{RowStep, rowAt, rowed, turned, SameBelow}
 use Rattle.journal.specs.Written.{Written}
 use Rattle.journal.proofs.RowLaws.{row-agree, rowed-length, rowed-below, rowed-row}
 use Rattle.graph_tables.specs.Tables.{State}
@@ -129,7 +129,7 @@ module _ (b : Bounds) (t : List ℕ) (g : Graph) (n : ℕ) (s : State) (u : ℕ)
 
 -- ---- an edit is written down as the row after the last
 
-module _ (b : Bounds) (t t′ : List ℕ) (g : Graph) (s : State) (u : ℕ) (e : Edit) (c : ℕ) (k : JournalRows b t g u s u) (room : 12 * u + 12 ≤ length t)
+module _ (b : Bounds) (t t′ : List ℕ) (g : Graph) (s : State) (u : ℕ) (e : Edit) (c : RowStep) (k : JournalRows b t g u s u) (room : 12 * u + 12 ≤ length t)
     (a : Applies e (made t g u)) (i : EditIn b e) (q : t′ ≡ rowed u e c t) where
   below : SameBelow u t t′
   below = rowed-below u e c t t′ q room
@@ -169,7 +169,7 @@ module _ (b : Bounds) (t t′ : List ℕ) (g : Graph) (s : State) (u : ℕ) (e :
   }
 
 -- an edit that was written down and carried out
-pub written-rows : (b : Bounds) (g : Graph) (e : Edit) (c u : ℕ) (s : State) (t : List ℕ) (s′ : State) (t′ : List ℕ)
+pub written-rows : (b : Bounds) (g : Graph) (e : Edit) (c : RowStep) (u : ℕ) (s : State) (t : List ℕ) (s′ : State) (t′ : List ℕ)
     → 12 * u + 12 ≤ length t → EditIn b e → Applies e (made t g u) → JournalRows b t g u s u → Written e c u s t s′ t′
     → JournalRows b t′ g (suc u) s′ (suc u)
 written-rows b g e c u s t s′ t′ room i a k w =

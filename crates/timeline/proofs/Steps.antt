@@ -12,9 +12,9 @@ use Rattle.graph.specs.WellFormed.{Bounds, WellFormed, Within}
 use Rattle.graph.specs.Edits.{Applies, EditIn, apply}
 use Rattle.history.specs.Machine.{Step, Timeline, begun, graphAt, presentIn, placed, extended, costs, freeOf}
 use Rattle.history.proofs.Timelines.{length-cut}
-use Rattle.journal.specs.Rows.{costAt, SameBelow}
+use Rattle.journal.specs.Rows.{RowStep, costing, stepAt, SameBelow}
 use Rattle.journal.specs.Written.{Written}
-use Rattle.journal.proofs.RowLaws.{below-less, cost-agree, rowed-below, rowed-cost, rowed-length}
+use Rattle.journal.proofs.RowLaws.{below-less, stepAt-agree, rowed-below, rowed-step, rowed-length}
 use Rattle.graph_tables.specs.Tables.{State, state}
 use Rattle.graph_tables.specs.Holds.{Holds}
 use Rattle.graph_tables.specs.Capacities.{Sized}
@@ -38,8 +38,8 @@ record Turn (t : List ℕ) (i p : ℕ) (ss : List Step) : Type 0 where
   cost : ℕ
   some : 1 ≤ cost
   next : rowsTo i (suc p) ss ≡ rowsTo i p ss + cost
-  first : costAt t (rowsTo i p ss) ≡ cost
-  last : costAt t (rowsTo i (suc p) ss - 1) ≡ cost
+  first : stepAt t (rowsTo i p ss) ≡ costing cost
+  last : stepAt t (rowsTo i (suc p) ss - 1) ≡ costing cost
   within : rowsTo i (suc p) ss ≤ rowsTo i (length ss) ss
 
 turn-at : (t : List ℕ) (g : Graph) (i p : ℕ) (ss : List Step) → StepsAt t g i ss → p < length ss → Turn t i p ss
@@ -85,8 +85,8 @@ module _ (b : Bounds) (j : Position) (s : State) (t : List ℕ) (l : Timeline) (
 step-agree : (t t′ : List ℕ) (g : Graph) (i : ℕ) (x : Step) → SameBelow (i + x .cost) t t′ → StepAt t g i x → StepAt t′ g i x
 step-agree t t′ g i x b k = record {
   some = k .some;
-  first = cost-agree (i + x .cost) i t t′ b (omega (arith, k .some)) ∙ k .first;
-  last = cost-agree (i + x .cost) (i + x .cost - 1) t t′ b (omega (arith, k .some)) ∙ k .last;
+  first = stepAt-agree (i + x .cost) i t t′ b (omega (arith, k .some)) ∙ k .first;
+  last = stepAt-agree (i + x .cost) (i + x .cost - 1) t t′ b (omega (arith, k .some)) ∙ k .last;
   makes = k .makes ∙ sym (made-agree (i + x .cost) t t′ g b (i + x .cost) (omega arith));
 }
 
@@ -110,7 +110,7 @@ rows-more i (suc p) (y ∷ ss) x h = rows-more (i + y .cost) p ss x (omega arith
 pub record NextStep (t : List ℕ) (g : Graph) (ss : List Step) (p u : ℕ) (back : Bool) : Type 0 where
   pub cost : ℕ
   pub some : 1 ≤ cost
-  pub word : costAt t (crossed back u) ≡ cost
+  pub word : stepAt t (crossed back u) .cost ≡ cost
   pub reach : Reach back cost u 4294967295
   pub room : 12 * crossed back u + 12 ≤ length t
   pub after : Behind t g ss (shifted back 1 p) (shifted back cost u)
@@ -128,7 +128,7 @@ module _ (t : List ℕ) (g : Graph) (ss : List Step) (p u : ℕ) (k : Behind t g
       record {
         cost = r .cost;
         some = r .some;
-        word = ap (λ (x : ℕ). costAt t (x - 1)) (sym w) ∙ r .last;
+        word = ap (λ (x : ℕ). stepAt t (x - 1) .cost) (sym w) ∙ ap (λ (x : RowStep). x .cost) (r .last);
         reach = omega (arith, r .next, w);
         room = omega (arith, r .next, r .some, w, r .within, k .within);
         after = behind-by (p - 1) (u - r .cost) (omega (arith, k .inside)) (omega (arith, r .next, w));
@@ -139,7 +139,7 @@ module _ (t : List ℕ) (g : Graph) (ss : List Step) (p u : ℕ) (k : Behind t g
       record {
         cost = r .cost;
         some = r .some;
-        word = ap (costAt t) (k .used) ∙ r .first;
+        word = ap (λ (x : ℕ). stepAt t x .cost) (k .used) ∙ ap (λ (x : RowStep). x .cost) (r .first);
         reach = omega (arith, k .used, r .next, r .within, k .within, k .short);
         room = omega (arith, k .used, r .next, r .some, r .within, k .within);
         after = behind-by (p + 1) (u + r .cost) (omega arith) (omega (arith, k .used, r .next, ap (λ (x : ℕ). rowsTo 0 x ss) e));
@@ -175,8 +175,8 @@ journal-placed b j j′ s s′ t l k h y z = record {
 }
 
 -- the record that a lending function hands back, at what its contract says of it
-pub at-record : (b : Bounds) (x y : Current) (vt et t : List ℕ) (l : Timeline) → x ≡ y → Journal b (y .position) (state (y .head) vt et) t l → Journal b (x .position) (state (x .head) vt et) t l
-at-record b x y vt et t l e = subst (λ (z : Current). Journal b (z .position) (state (z .head) vt et) t l) (sym e)
+pub at-record : (b : Bounds) (x y : Current) (vertices edges t : List ℕ) (l : Timeline) → x ≡ y → Journal b (y .position) (state (y .head) vertices edges) t l → Journal b (x .position) (state (x .head) vertices edges) t l
+at-record b x y vertices edges t l e = subst (λ (z : Current). Journal b (z .position) (state (z .head) vertices edges) t l) (sym e)
 
 pub placed-by : (b : Bounds) (j : Position) (s : State) (t : List ℕ) (l : Timeline) (p q : ℕ) → p ≡ q → Journal b j s t (placed p l) → Journal b j s t (placed q l)
 placed-by b j s t l p q e = subst (λ (x : ℕ). Journal b j s t (placed x l)) e
@@ -220,48 +220,43 @@ journal-close b j j′ s s′ t t′ l x k w y z p q r =
 -- ---- a step of several rows
 
 module _ (b : Bounds) (j : Position) (s₀ : State) (t₀ : List ℕ) (l : Timeline) (c : ℕ) where
-  pub open-start : (u : ℕ) → j .used ≡ u → Journal b j s₀ t₀ l → Open b j s₀ t₀ l c s₀ t₀ u
-  open-start u q k = subst (Open b j s₀ t₀ l c s₀ t₀) q (record {
+  pub open-start : (u : ℕ) → j .used ≡ u → Journal b j s₀ t₀ l → Open b j s₀ t₀ l (costing c) s₀ t₀ u
+  open-start u q k = subst (Open b j s₀ t₀ l (costing c) s₀ t₀) q (record {
     journal = k;
     below = λ i h. refl;
     rows = rows-cut b t₀ (l .start) _ s₀ (j .used) (k .rows);
     low = omega arith;
-    costs = λ i l h. absurd (omega arith);
+    says = λ i l h. absurd (omega arith);
     size = refl;
   })
 
-  module _ (s : State) (t : List ℕ) (u : ℕ) (k : Open b j s₀ t₀ l c s t u) where
+  module _ (s : State) (t : List ℕ) (u : ℕ) (k : Open b j s₀ t₀ l (costing c) s t u) where
     open-now : (g : Graph) → Holds s g → g ≡ made t (l .start) u
     open-now g h = holds-one s g (made t (l .start) u) h (k .rows .holds)
 
-    pub open-within : (g : Graph) → Holds s g → Within b g
-    open-within g h =
-        subst (Within b) (sym (open-now g h))
-        (made-within b t (l .start) u (k .rows .applies) (k .rows .inside) (k .rows .bounded) u (k .rows .upto))
-
     -- one row more
     module _ (g : Graph) (e : Edit) (h : Holds s g) (a : Applies e g) (i : EditIn b e) (f : 12 * u + 12 ≤ length t) (s′ : State) (t′ : List ℕ) (u′ : ℕ)
-        (d : Written e c u s t s′ t′) (n : u′ ≡ suc u) where
+        (d : Written e (costing c) u s t s′ t′) (n : u′ ≡ suc u) where
       open-tape : JournalRows b t′ (l .start) (suc u) s′ (suc u)
-      open-tape = written-rows b (l .start) e c u s t s′ t′ f i (subst (Applies e) (open-now g h) a) (k .rows) d
+      open-tape = written-rows b (l .start) e (costing c) u s t s′ t′ f i (subst (Applies e) (open-now g h) a) (k .rows) d
 
-      pub open-more : Open b j s₀ t₀ l c s′ t′ u′
-      open-more = subst (Open b j s₀ t₀ l c s′ t′) (sym n) (record {
+      pub open-more : Open b j s₀ t₀ l (costing c) s′ t′ u′
+      open-more = subst (Open b j s₀ t₀ l (costing c) s′ t′) (sym n) (record {
         journal = k .journal;
-        below = λ x y. rowed-below u e c t t′ (d .row) f x (omega (arith, k .low)) ∙ k .below x y;
+        below = λ x y. rowed-below u e (costing c) t t′ (d .row) f x (omega (arith, k .low)) ∙ k .below x y;
         rows = open-tape;
         low = omega (arith, k .low);
-        costs = λ x o y. elim (same? x u) [
-          | same v w ↦ subst (λ (z : ℕ). costAt t′ z ≡ c) w (rowed-cost u e c t t′ (d .row) f)
-          | differ v w ↦ cost-agree u x t t′ (rowed-below u e c t t′ (d .row) f) (omega arith) ∙ k .costs x o (omega arith)
+        says = λ x o y. elim (same? x u) [
+          | same v w ↦ subst (λ (z : ℕ). stepAt t′ z ≡ costing c) w (rowed-step u e (costing c) t t′ (d .row) f)
+          | differ v w ↦ stepAt-agree u x t t′ (rowed-below u e (costing c) t t′ (d .row) f) (omega arith) ∙ k .says x o (omega arith)
         ];
-        size = rowed-length u e c t t′ (d .row) f ∙ k .size;
+        size = rowed-length u e (costing c) t t′ (d .row) f ∙ k .size;
       })
 
       pub open-holds : Holds s′ (apply e g)
       open-holds =
           subst (λ (y : Graph). Holds s′ y)
-          (made-more b t t′ (l .start) s u e c (k .rows) f (subst (Applies e) (open-now g h) a) i (d .row) ∙ ap (apply e) (sym (open-now g h))) (open-tape .holds)
+          (made-more b t t′ (l .start) s u e (costing c) (k .rows) f (subst (Applies e) (open-now g h) a) i (d .row) ∙ ap (apply e) (sym (open-now g h))) (open-tape .holds)
 
     pub open-close : (j′ : Position) (g : Graph) → 1 ≤ c → u ≡ j .used + c → Holds s g → j′ .place ≡ j .place + 1 → j′ .steps ≡ j .place + 1 → j′ .used ≡ u
         → Journal b j′ s t (extended (stepWith c g) l)
@@ -269,8 +264,8 @@ module _ (b : Bounds) (j : Position) (s₀ : State) (t₀ : List ℕ) (l : Timel
         journal-close b j j′ s₀ s t₀ t l (stepWith c g) (k .journal) (k .below)
         (record {
           some = o;
-          first = k .costs (j .used) (omega arith) (omega arith);
-          last = k .costs (j .used + c - 1) (omega arith) (omega arith);
+          first = k .says (j .used) (omega arith) (omega arith);
+          last = k .says (j .used + c - 1) (omega arith) (omega arith);
           makes = open-now g h ∙ ap (made t (l .start)) n;
         })
         (subst (λ (i : ℕ). JournalRows b t (l .start) i s i) n (k .rows)) x y (z ∙ n)

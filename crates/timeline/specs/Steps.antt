@@ -8,7 +8,7 @@ use lib.ListN.{length}
 use Rattle.graph.specs.Graph.{Graph}
 use Rattle.graph.specs.WellFormed.{Bounds}
 use Rattle.history.specs.Machine.{Step, Timeline}
-use Rattle.journal.specs.Rows.{costAt, SameBelow}
+use Rattle.journal.specs.Rows.{RowStep, costing, stepAt, SameBelow}
 use Rattle.graph_tables.specs.Tables.{State}
 use Rattle.timeline.specs.declared.Ahead.{Ahead}
 use Rattle.timeline.specs.declared.Position.{Position}
@@ -20,11 +20,16 @@ rowsTo i zero ss = i
 rowsTo i (suc p) [] = i
 rowsTo i (suc p) (x ∷ ss) = rowsTo (i + x .cost) p ss
 
--- the rows of step x begin at row i: as many as it costs, the first and the last with its cost, and they make its graph
+-- what the rows of a step say of it
+abbrev pub rowStep : Step → RowStep
+rowStep x = costing (x .cost)
+
+-- the rows of step x begin at row i: as many as it costs, the first and the last say what it is, and all make its
+-- graph
 pub record StepAt (t : List ℕ) (g : Graph) (i : ℕ) (x : Step) : Type 0 where
   pub some : 1 ≤ x .cost
-  pub first : costAt t i ≡ x .cost
-  pub last : costAt t (i + x .cost - 1) ≡ x .cost
+  pub first : stepAt t i ≡ rowStep x
+  pub last : stepAt t (i + x .cost - 1) ≡ rowStep x
   pub makes : x .graph ≡ made t g (i + x .cost)
 
 -- the rows of the steps, one after another from row i on
@@ -72,12 +77,12 @@ pub record Journal (b : Bounds) (j : Position) (s : State) (t : List ℕ) (l : T
   pub steps : j .steps ≡ length (l .steps)
   pub used : j .used ≡ rowsTo 0 (l .place) (l .steps)
 
--- a step of cost c that is being made: rows were written after those of step p, up to row u
-pub record Open (b : Bounds) (j : Position) (s₀ : State) (t₀ : List ℕ) (l : Timeline) (c : ℕ) (s : State) (t : List ℕ)
-    (u : ℕ) : Type 0 where
+-- a step that is being made: rows that say x of it were written after those of step p, up to row u
+pub record Open (b : Bounds) (j : Position) (s₀ : State) (t₀ : List ℕ) (l : Timeline) (x : RowStep) (s : State)
+    (t : List ℕ) (u : ℕ) : Type 0 where
   pub journal : Journal b j s₀ t₀ l
   pub below : SameBelow (j .used) t₀ t
   pub rows : JournalRows b t (l .start) u s u
   pub low : j .used ≤ u
-  pub costs : (i : ℕ) → j .used ≤ i → i < u → costAt t i ≡ c
+  pub says : (i : ℕ) → j .used ≤ i → i < u → stepAt t i ≡ x
   pub size : length t ≡ length t₀

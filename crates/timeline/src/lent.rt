@@ -7,66 +7,66 @@ ghost use Prim.Native.Nat.{_+_, _<_, _^_};
 ghost use Rattle.timeline.specs.Current.{afterStep, atPlace};
 
 // What a step of so many rows leaves: what lay after p is cut.
-fn after_step(pos: Position, head: Head, rows: u32) -> Current
-    requires { ⌜ (pos .place + 1 < 2 ^ 32) × (pos .used + rows < 2 ^ 32) ⌝ }
-    ensures { λ r. ⌜ r ≡ afterStep pos head rows ⌝ }
+fn after_step(position: Position, head: Head, rows: u32) -> Current
+    requires { ⌜ (position .place + 1 < 2 ^ 32) × (position .used + rows < 2 ^ 32) ⌝ }
+    ensures { λ r. ⌜ r ≡ afterStep position head rows ⌝ }
 {
-    let place = pos.place + 1;
+    let place = position.place + 1;
     Current {
         head,
         position: Position {
             place,
             steps: place,
-            used: pos.used + rows,
+            used: position.used + rows,
         },
     }
 }
 
 // What a move to a place leaves: the steps stay.
-fn at_place(pos: Position, head: Head, place: u32, used: u32) -> Current
-    ensures { λ r. ⌜ r ≡ atPlace pos head place used ⌝ }
+fn at_place(position: Position, head: Head, place: u32, used: u32) -> Current
+    ensures { λ r. ⌜ r ≡ atPlace position head place used ⌝ }
 {
     Current {
         head,
         position: Position {
             place,
-            steps: pos.steps,
+            steps: position.steps,
             used,
         },
     }
 }
 
 // The record after a step that left this head. Proved by hand.
-fn put_step(x: &mut Current, head: Head, rows: u32)
-    requires { ⌜ (now x .position .place + 1 < 2 ^ 32) × (now x .position .used + rows < 2 ^ 32) ⌝ }
-    ensures { λ _. ⌜ now (x .exit) ≡ afterStep (now (x .entry) .position) head rows ⌝ }
+fn put_step(current: &mut Current, head: Head, rows: u32)
+    requires { ⌜ (now current .position .place + 1 < 2 ^ 32) × (now current .position .used + rows < 2 ^ 32) ⌝ }
+    ensures { λ _. ⌜ now (current .exit) ≡ afterStep (now (current .entry) .position) head rows ⌝ }
 {
-    *x = after_step(x.position, head, rows);
+    *current = after_step(current.position, head, rows);
 }
 
 // The record at another place, with this head. Proved by hand.
-fn put_place(x: &mut Current, head: Head, place: u32, used: u32)
-    ensures { λ _. ⌜ now (x .exit) ≡ atPlace (now (x .entry) .position) head place used ⌝ }
+fn put_place(current: &mut Current, head: Head, place: u32, used: u32)
+    ensures { λ _. ⌜ now (current .exit) ≡ atPlace (now (current .entry) .position) head place used ⌝ }
 {
-    *x = at_place(x.position, head, place, used);
+    *current = at_place(current.position, head, place, used);
 }
 
 // Lends a copy of the record to put_step. Proved by hand; whoever calls it needs no such proof. A caller has a place
 // and rows that stay words of 32 bits after the step, as those of a journal within the limits do.
-pub fn stepped(x: Current, head: Head, rows: u32) -> Current
-    requires { ⌜ (x .position .place + 1 < 2 ^ 32) × (x .position .used + rows < 2 ^ 32) ⌝ }
-    ensures { λ r. ⌜ r ≡ afterStep (x .position) head rows ⌝ }
+pub fn stepped(current: Current, head: Head, rows: u32) -> Current
+    requires { ⌜ (current .position .place + 1 < 2 ^ 32) × (current .position .used + rows < 2 ^ 32) ⌝ }
+    ensures { λ r. ⌜ r ≡ afterStep (current .position) head rows ⌝ }
 {
-    let mut y = x;
+    let mut y = current;
     put_step(&mut y, head, rows);
     y
 }
 
 // Lends a copy of the record to put_place, as stepped does.
-pub fn moved(x: Current, head: Head, place: u32, used: u32) -> Current
-    ensures { λ r. ⌜ r ≡ atPlace (x .position) head place used ⌝ }
+pub fn moved(current: Current, head: Head, place: u32, used: u32) -> Current
+    ensures { λ r. ⌜ r ≡ atPlace (current .position) head place used ⌝ }
 {
-    let mut y = x;
+    let mut y = current;
     put_place(&mut y, head, place, used);
     y
 }

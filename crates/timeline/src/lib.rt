@@ -12,7 +12,7 @@ ghost use lib.ListN.{length};
 ghost use Rattle.graph.specs.Graph.{Graph};
 ghost use Rattle.graph.specs.WellFormed.{Bounds, Within};
 ghost use Rattle.history.specs.Machine.{Step, Timeline, begun, placed, freeOf};
-ghost use Rattle.graph_tables.specs.Tables.{State, state};
+ghost use Rattle.graph_tables.specs.Tables.{State, state, entryState, exitState};
 ghost use Rattle.graph_tables.specs.Capacities.{Sized};
 ghost use Rattle.graph_tables.specs.Holds.{Holds};
 ghost use Rattle.timeline.specs.Current.{noSteps};
@@ -61,16 +61,23 @@ fn row_crossed(u: u32, back: bool) -> u32
 }
 
 // Takes one row back or carries it out.
-fn replay_row(head: Head, vt: &mut [u32], et: &mut [u32], t: &[u32], u: u32, back: bool) -> Head
+fn replay_row(
+    head: Head,
+    vertices: &mut [u32],
+    edges: &mut [u32],
+    journal: &[u32],
+    u: u32,
+    back: bool,
+) -> Head
     requires { ⌜ ((b : Bounds) × (g : Graph) × (n : ℕ) × Reach back 1 u n
-        × JournalRows b (now t) g n (state head (now vt) (now et)) u) ⌝ }
+        × JournalRows b (now journal) g n (state head (now vertices) (now edges)) u) ⌝ }
     ensures { λ r. ⌜ ((b : Bounds) → (g : Graph) → (n : ℕ) → Reach back 1 u n
-        → JournalRows b (now (t .entry)) g n (state head (now (vt .entry)) (now (et .entry))) u
-        → JournalRows b (now (t .entry)) g n (state r (now (vt .exit)) (now (et .exit))) (shifted back 1 u)) ⌝ }
+        → JournalRows b (now (journal .entry)) g n (entryState head vertices edges) u
+        → JournalRows b (now (journal .entry)) g n (exitState r vertices edges) (shifted back 1 u)) ⌝ }
 {
     let i = row_crossed(u, back);
-    let e = journal::row_at(t, i, back);
-    graph_tables::edits::apply_edit(head, vt, et, e)
+    let e = journal::row_at(journal, i, back);
+    graph_tables::edits::apply_edit(head, vertices, edges, e)
 }
 
 // Is a row left to go through?
@@ -88,10 +95,10 @@ fn unfinished(u: u32, a: Ahead) -> bool
 }
 
 // The step that u rows behind are in; at its end, the next one. A step's first row and its last have its cost.
-fn next_ahead(t: &[u32], u: u32, a: Ahead, back: bool) -> Ahead
-    requires { ⌜ ((g : Graph) × (ss : List Step) × (q : ℕ) × Unfinished u a × Aims (now t) g ss back q u a) ⌝ }
-    ensures { λ r. ⌜ ((g : Graph) → (ss : List Step) → (q : ℕ) → Aims (now (t .entry)) g ss back q u a
-        → Aims (now (t .entry)) g ss back q u r × (u ≡ r .end → ⊥)) ⌝ }
+fn next_ahead(journal: &[u32], u: u32, a: Ahead, back: bool) -> Ahead
+    requires { ⌜ ((g : Graph) × (ss : List Step) × (q : ℕ) × Unfinished u a × Aims (now journal) g ss back q u a) ⌝ }
+    ensures { λ r. ⌜ ((g : Graph) → (ss : List Step) → (q : ℕ) → Aims (now (journal .entry)) g ss back q u a
+        → Aims (now (journal .entry)) g ss back q u r × (u ≡ r .end → ⊥)) ⌝ }
     ensures { λ r. ⌜ Advances u a r ⌝ }
 {
     if u != a.end {
@@ -101,7 +108,7 @@ fn next_ahead(t: &[u32], u: u32, a: Ahead, back: bool) -> Ahead
         };
     }
     let i = row_crossed(u, back);
-    let cost = journal::cost_at(t, i);
+    let cost = journal::cost_at(journal, i);
     let end = shifted_by(u, cost, back);
     Ahead {
         end,
@@ -111,40 +118,47 @@ fn next_ahead(t: &[u32], u: u32, a: Ahead, back: bool) -> Ahead
 
 // So many steps back or on, row by row: the one loop that replays, so that it is compiled as one piece with the edits
 // in it. A caller has so many steps on that way. Which words of the tables hold the graph there is left open.
-pub fn go(x: Current, vt: &mut [u32], et: &mut [u32], t: &[u32], back: bool, steps: u32) -> Current
-    requires { ⌜ Reach back steps (x .position .place) (x .position .steps) ⌝ }
+pub fn go(
+    current: Current,
+    vertices: &mut [u32],
+    edges: &mut [u32],
+    journal: &[u32],
+    back: bool,
+    steps: u32,
+) -> Current
+    requires { ⌜ Reach back steps (current .position .place) (current .position .steps) ⌝ }
     requires { ⌜ ((b : Bounds) × (l : Timeline)
-        × Journal b (x .position) (state (x .head) (now vt) (now et)) (now t) l) ⌝ }
+        × Journal b (current .position) (state (current .head) (now vertices) (now edges)) (now journal) l) ⌝ }
     ensures { λ r. ⌜ ((b : Bounds) → (l : Timeline)
-        → Journal b (x .position) (state (x .head) (now (vt .entry)) (now (et .entry))) (now (t .entry)) l
-        → Journal b (r .position) (state (r .head) (now (vt .exit)) (now (et .exit))) (now (t .entry))
+        → Journal b (current .position) (entryState (current .head) vertices edges) (now (journal .entry)) l
+        → Journal b (r .position) (exitState (r .head) vertices edges) (now (journal .entry))
         (placed (shifted back steps (l .place)) l)) ⌝ }
 {
-    let mut h = x.head;
-    let mut u = x.position.used;
+    let mut h = current.head;
+    let mut u = current.position.used;
     let mut a = Ahead {
         end: u,
         left: steps,
     };
     while unfinished(u, a) {
-        a = next_ahead(t, u, a, back);
-        h = replay_row(h, vt, et, t, u, back);
+        a = next_ahead(journal, u, a, back);
+        h = replay_row(h, vertices, edges, journal, u, back);
         u = shifted_by(u, 1, back);
     }
-    let place = shifted_by(x.position.place, steps, back);
-    lent::moved(x, h, place, u)
+    let place = shifted_by(current.position.place, steps, back);
+    lent::moved(current, h, place, u)
 }
 
 // Kind 51: free changes, of a capacity; 0 where more rows are used than it has.
-pub fn free_changes(pos: Position, capacity: u32) -> u32
-    ensures { λ r. ⌜ r ≡ capacity - pos .used ⌝ }
-    ensures { λ r. ⌜ ((b : Bounds) → (s : State) → (t : List ℕ) → (l : Timeline) → Journal b pos s t l
+pub fn free_changes(position: Position, capacity: u32) -> u32
+    ensures { λ r. ⌜ r ≡ capacity - position .used ⌝ }
+    ensures { λ r. ⌜ ((b : Bounds) → (s : State) → (t : List ℕ) → (l : Timeline) → Journal b position s t l
         → r ≡ freeOf capacity l) ⌝ }
 {
-    if capacity < pos.used {
+    if capacity < position.used {
         return 0;
     }
-    capacity - pos.used
+    capacity - position.used
 }
 
 // No step yet: at the start, and after a commit.

@@ -16,12 +16,12 @@ use Rattle.queries.proofs.ListWalks.{sum-few}
 use Rattle.queries.proofs.Counts.{counted-le, edges-counted}
 
 module _ (b : Bounds) (s : State) (z : Sized b s) (g : Graph) (h : Holds s g) (a : ℕ) (i : VertexThere g a) where
-  pub can-count : CanWalk (s .vt) (s .et) a
+  pub can-count : CanWalk (s .vertices) (s .edges) a
   can-count = can-walk b s z g h a i
 
-  pub count-short : (n : ℕ) → n ≡ distinctEdgesAt (s .vt) (s .et) a → n + 1 < 2 ^ 32
+  pub count-short : (n : ℕ) → n ≡ distinctEdgesAt (s .vertices) (s .edges) a → n + 1 < 2 ^ 32
   unfolding distinctEdgesAt
-  count-short n q = omega (arith, q, sum-few (countedAt (s .et)) (counted-le (s .et)) incidenceLinks (s .et) (endsAt (s .vt) a) valid-i (can-count .list) (can-count .held), can-count .small)
+  count-short n q = omega (arith, q, sum-few (countedAt (s .edges)) (counted-le (s .edges)) incidenceLinks (s .edges) (endsAt (s .vertices) a) valid-i (can-count .list) (can-count .held), can-count .small)
 
-pub counted : (s : State) (g : Graph) → Holds s g → (a n : ℕ) → VertexThere g a → n ≡ distinctEdgesAt (s .vt) (s .et) a → n + 1 ≡ cost (DeleteVertex a) g
+pub counted : (s : State) (g : Graph) → Holds s g → (a n : ℕ) → VertexThere g a → n ≡ distinctEdgesAt (s .vertices) (s .edges) a → n + 1 ≡ cost (DeleteVertex a) g
 counted s g h a n i q = omega (arith, q, edges-counted s g h a i)

@@ -1,4 +1,3 @@
 pub mod Rows
 pub mod Costs
-pub mod Singles
-pub mod Made
+pub mod Deleting

@@ -14,7 +14,7 @@ use Rattle.lists.proofs.Picks.{is-yes}
 use Rattle.graph.specs.declared.Edit.{Edit}
 use Rattle.graph.specs.declared.Change.{Change}
 use Rattle.graph.specs.declared.Change.the-variants.{DeleteVertex}
-use Rattle.graph.specs.Graph.{Graph, itself, listOf, edgeOf, readingKind, decimetres}
+use Rattle.graph.specs.Graph.{Graph, itself, listOf, edgeOf, IsWords}
 use Rattle.graph.specs.WellFormed.{Bounds}
 use Rattle.graph.specs.Changes.{changed, cost, VertexThere, EdgeThere, Allowed}
 use Rattle.graph.specs.Edits.{Applies, EditIn, apply}
@@ -31,10 +31,10 @@ use Rattle.graph_tables.specs.Capacities.{Sized}
 use Rattle.graph_tables.proofs.Callers.{small}
 use Rattle.graph_tables.proofs.Refines.{can-edit}
 use Rattle.graph_tables.proofs.GraphRead.{holds-one}
-use Rattle.journal.specs.Rows.{IsWords}
+use Rattle.journal.specs.Rows.{costing}
 use Rattle.journal.specs.Written.{Written}
 use Rattle.queries.specs.Plans.{planRemoveVertex, planRemoveEdge, planS}
-use Rattle.queries.proofs.Answers.{first-word, vertex-row, edge-row, reading-at, reading-kind, reading-decimetres}
+use Rattle.queries.proofs.Answers.{first-word, vertex-row, edge-row, reading-words}
 use Rattle.queries.proofs.PlanLaws as table-plans
 use Rattle.timeline.specs.declared.Position.{Position}
 use Rattle.timeline.specs.Steps.{Journal}
@@ -66,14 +66,14 @@ module _ (b : Bounds) (s : State) (g : Graph) (h : Holds s g) where
       can-edit s g h (small b s z) e (subst (λ (es : List Edit). AppliesAll es g) (f .all) (edits-apply b g (h .sound) x i) .0) r
 
   module _ (a : ℕ) (i : VertexThere g a) where
-    pub vertex-here : VertexRowIn (s .vt) a
+    pub vertex-here : VertexRowIn (s .vertices) a
     vertex-here = vertex-row s g h a i
 
-    module _ (w : ℕ) (q : w ≡ vfirst (s .vt) a) where
+    module _ (w : ℕ) (q : w ≡ vfirst (s .vertices) a) where
       head-word : w ≡ first (listOf g a)
       head-word = q ∙ first-word s g h a i
 
-      pub first-vertex : w ≡ 0 → First (DeleteVertex a) b g (planRemoveVertex (s .vt) a)
+      pub first-vertex : w ≡ 0 → First (DeleteVertex a) b g (planRemoveVertex (s .vertices) a)
       first-vertex z =
           let n = no-list (listOf g a) (sym z ∙ head-word) (omega (arith, ordered-list g (h .sound) a 0, is-yes 0 0 refl)) in
           first-plan (DeleteVertex a) i (ap (λ (ns : List ℕ). removals ns g) (edges-none g (h .sound) a n))
@@ -85,15 +85,13 @@ module _ (b : Bounds) (s : State) (g : Graph) (h : Holds s g) where
         edge-there : EdgeThere g (edgeOf w)
         edge-there = first-there g (h .sound) a w (words .0) (words .1)
 
-        pub edge-here : EdgeRowIn (s .et) (w / 2)
+        pub edge-here : EdgeRowIn (s .edges) (w / 2)
         edge-here = edge-row s g h (w / 2) edge-there
 
-        pub edge-words : IsWords (ekind (s .et) (w / 2)) (edecimetres (s .et) (w / 2))
-        edge-words =
-            let r = reading-at s g h (w / 2) edge-there in
-            (ap readingKind r ∙ sym (reading-kind s g h (w / 2) edge-there), ap decimetres r ∙ sym (reading-decimetres s g h (w / 2) edge-there))
+        pub edge-words : IsWords (ekind (s .edges) (w / 2)) (edecimetres (s .edges) (w / 2))
+        edge-words = reading-words s g h (w / 2) edge-there
 
-        pub first-edge : First (DeleteVertex a) b g (planRemoveEdge (s .et) (w / 2))
+        pub first-edge : First (DeleteVertex a) b g (planRemoveEdge (s .edges) (w / 2))
         first-edge =
             let e = removal (edgeOf w) g in
             subst (First (DeleteVertex a) b g) (sym (table-plans.removal-is s g h (edgeOf w) edge-there)) (record {
@@ -103,26 +101,26 @@ module _ (b : Bounds) (s : State) (g : Graph) (h : Holds s g) where
             })
 
     pub first-next : First (DeleteVertex a) b g (nextEdit s a)
-    first-next = go (vfirst (s .vt) a == 0) refl
+    first-next = go (vfirst (s .vertices) a == 0) refl
       where
-        go : (p : Bool) → (vfirst (s .vt) a == 0) ≡ p
-            → First (DeleteVertex a) b g (p ⇒ planRemoveVertex (s .vt) a else planRemoveEdge (s .et) (vfirst (s .vt) a / 2))
-        go true e = first-vertex (vfirst (s .vt) a) refl (eqb-true _ 0 e)
-        go false e = first-edge (vfirst (s .vt) a) refl (eqb-false _ 0 e)
+        go : (p : Bool) → (vfirst (s .vertices) a == 0) ≡ p
+            → First (DeleteVertex a) b g (p ⇒ planRemoveVertex (s .vertices) a else planRemoveEdge (s .edges) (vfirst (s .vertices) a / 2))
+        go true e = first-vertex (vfirst (s .vertices) a) refl (eqb-true _ 0 e)
+        go false e = first-edge (vfirst (s .vertices) a) refl (eqb-false _ 0 e)
 
 -- the row that was written is that of the next edit
-module _ (s : State) (a w c i : ℕ) (t : List ℕ) (s′ : State) (t′ : List ℕ) (q : w ≡ vfirst (s .vt) a) where
-  pub next-edge : w ≢ 0 → Written (planRemoveEdge (s .et) (w / 2)) c i s t s′ t′ → Written (nextEdit s a) c i s t s′ t′
-  next-edge n = subst (λ (e : Edit). Written e c i s t s′ t′)
-      (ap (λ (v : ℕ). planRemoveEdge (s .et) (v / 2)) q ∙ ap (λ (p : Bool). p ⇒ planRemoveVertex (s .vt) a else planRemoveEdge (s .et) (vfirst (s .vt) a / 2)) (sym (ne-eqb _ 0 (λ z. n (q ∙ z)))))
+module _ (s : State) (a w c i : ℕ) (t : List ℕ) (s′ : State) (t′ : List ℕ) (q : w ≡ vfirst (s .vertices) a) where
+  pub next-edge : w ≢ 0 → Written (planRemoveEdge (s .edges) (w / 2)) (costing c) i s t s′ t′ → Written (nextEdit s a) (costing c) i s t s′ t′
+  next-edge n = subst (λ (e : Edit). Written e (costing c) i s t s′ t′)
+      (ap (λ (v : ℕ). planRemoveEdge (s .edges) (v / 2)) q ∙ ap (λ (p : Bool). p ⇒ planRemoveVertex (s .vertices) a else planRemoveEdge (s .edges) (vfirst (s .vertices) a / 2)) (sym (ne-eqb _ 0 (λ z. n (q ∙ z)))))
 
-  pub next-vertex : w ≡ 0 → Written (planRemoveVertex (s .vt) a) c i s t s′ t′ → Written (nextEdit s a) c i s t s′ t′
-  next-vertex z = subst (λ (e : Edit). Written e c i s t s′ t′)
-      (ap (λ (p : Bool). p ⇒ planRemoveVertex (s .vt) a else planRemoveEdge (s .et) (vfirst (s .vt) a / 2)) (sym (eq-eqb _ 0 (sym q ∙ z))))
+  pub next-vertex : w ≡ 0 → Written (planRemoveVertex (s .vertices) a) (costing c) i s t s′ t′ → Written (nextEdit s a) (costing c) i s t s′ t′
+  next-vertex z = subst (λ (e : Edit). Written e (costing c) i s t s′ t′)
+      (ap (λ (p : Bool). p ⇒ planRemoveVertex (s .vertices) a else planRemoveEdge (s .edges) (vfirst (s .vertices) a / 2)) (sym (eq-eqb _ 0 (sym q ∙ z))))
 
 -- ---- the rows
 
-some-cost : (x : Change) (g : Graph) → 1 ≤ cost x g
+pub some-cost : (x : Change) (g : Graph) → 1 ≤ cost x g
 some-cost x g = go (kind? x)
   where
     go : {y : Change} → Kind y → 1 ≤ cost y g
@@ -178,7 +176,7 @@ module _ (x : Change) (b : Bounds) (j : Position) (s₀ : State) (t₀ : List �
       inside : EditIn b e × All (EditIn b) (f .edits)
       inside = all-first b e (f .edits) (subst (All (EditIn b)) list (k .inside))
 
-      pub making-turn : 12 * u + 12 ≤ length t → (s′ : State) (t′ : List ℕ) (u′ : ℕ) → Written e c u s t s′ t′ → u′ ≡ suc u → Making x b j s₀ t₀ l c s′ t′ u′
+      pub making-turn : 12 * u + 12 ≤ length t → (s′ : State) (t′ : List ℕ) (u′ : ℕ) → Written e (costing c) u s t s′ t′ → u′ ≡ suc u → Making x b j s₀ t₀ l c s′ t′ u′
       making-turn r s′ t′ u′ d o = record {
         graph = apply e (k .graph);
         holds = open-holds b j s₀ t₀ l c s t u (k .opened) (k .graph) e (k .holds) (applies .0) (inside .0) r s′ t′ u′ d o;
@@ -209,7 +207,7 @@ cost-same x b b′ j j′ s t l l′ k k′ c q = q ∙ ap (cost x) (holds-one s
 -- ---- the loop: of any position whose rows end at `base`
 
 pub record RemovalLoop (x : Change) (base c : ℕ) (s₀ : State) (t₀ : List ℕ) (s : State) (t : List ℕ) (u : ℕ) : Type 0 where
-  pub vlen : length (s .vt) ≡ length (s₀ .vt)
-  pub elen : length (s .et) ≡ length (s₀ .et)
+  pub vlen : length (s .vertices) ≡ length (s₀ .vertices)
+  pub elen : length (s .edges) ≡ length (s₀ .edges)
   pub tlen : length t ≡ length t₀
   pub goes : (j : Position) (b : Bounds) (l : Timeline) → j .used ≡ base → Journal b j s₀ t₀ l → Allowed b (presentIn l) x → Making x b j s₀ t₀ l c s t u

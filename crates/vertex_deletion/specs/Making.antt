@@ -16,13 +16,15 @@ use Rattle.history.specs.Machine.{Timeline, presentIn}
 use Rattle.graph_tables.specs.Tables.{State, vfirst}
 use Rattle.graph_tables.specs.Holds.{Holds}
 use Rattle.queries.specs.Plans.{planRemoveVertex, planRemoveEdge}
+use Rattle.journal.specs.Rows.{costing}
 use Rattle.timeline.specs.declared.Position.{Position}
 use Rattle.timeline.specs.Steps.{Open}
 
 -- what is left of a vertex's deletion begins with the first edge at it, or is the vertex
 abbrev pub nextEdit : State → ℕ → Edit
 nextEdit s a =
-    (vfirst (s .vt) a == 0) ⇒ planRemoveVertex (s .vt) a else planRemoveEdge (s .et) (vfirst (s .vt) a / 2)
+    (vfirst (s .vertices) a == 0) ⇒ planRemoveVertex (s .vertices) a else planRemoveEdge (s .edges)
+    (vfirst (s .vertices) a / 2)
 
 -- the edits that are left: those of the change, made on what the ones before left, or none
 pub data Rest (x : Change) (b : Bounds) (g : Graph) (es : List Edit) : Type 0 where
@@ -40,7 +42,7 @@ pub record Making (x : Change) (b : Bounds) (j : Position) (s₀ : State) (t₀ 
     (t : List ℕ) (u : ℕ) : Type 0 where
   pub graph : Graph
   pub holds : Holds s graph
-  pub opened : Open b j s₀ t₀ l c s t u
+  pub opened : Open b j s₀ t₀ l (costing c) s t u
   pub edits : List Edit
   pub rest : Rest x b graph edits
   pub applies : AppliesAll edits graph

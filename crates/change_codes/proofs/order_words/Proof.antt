@@ -18,12 +18,6 @@ returns-2 c =
     let a = c .before .before .before .before .before .before .before .args in
     with-meaning (rw (sym (c .before .before .before .before .before .find-word .ensures) ∙ c .before .before .before .enum-told .given .1, sym (c .before .before .find-word2 .ensures) ∙ c .enum-told4 .given .1)) (λ g h. words-then _ g h (a .x) (a .y) (twiceCode (a .x) (a .y)))
 
-this-requires : tie.Need-this-requires
-this-requires c κs = word-in _ _ (c .before .before .before .before .before .find-word .result) _ (c .before .before .before .before .before .find-word .ensures) (c .before .before .before .enum-told .given .1)
-
-this-requires-2 : tie.Need-this-requires-2
-this-requires-2 c κs = word-in _ _ (c .before .before .before .find-word2 .result) _ (c .before .before .before .find-word2 .ensures) (c .before .enum-told3 .given .1)
-
 returns-3 : tie.Need-returns-3
 returns-3 c =
     let a = c .before .before .before .before .before .before .before .before .before .before .args in
@@ -46,8 +40,8 @@ order-words-spec =
     (λ c. search needs)
     (λ c. search needs)
     returns-2
-    this-requires
-    this-requires-2
+    (λ c κs. word-in _ _ (c .before .before .before .before .before .find-word .result) _ (c .before .before .before .before .before .find-word .ensures) (c .before .before .before .enum-told .given .1))
+    (λ c κs. word-in _ _ (c .before .before .before .find-word2 .result) _ (c .before .before .before .find-word2 .ensures) (c .before .enum-told3 .given .1))
     returns-3
     (λ c κs. search needs)
     returns-4)

@@ -10,7 +10,7 @@ returns : tie.Need-returns
 returns c =
     let d = c .before in
     c .command-of .ensures
-    ∙ (λ i. commandOf (five (d .before .before .before .before .word .ensures i) (d .before .before .before .word2 .ensures i) (d .before .before .word3 .ensures i) (d .before .word4 .ensures i) (d .word5 .ensures i)))
+    ∙ (λ i. commandOf (five (d .before .before .before .before .get .ensures i) (d .before .before .before .get2 .ensures i) (d .before .before .get3 .ensures i) (d .before .get4 .ensures i) (d .get5 .ensures i)))
 
 pub decode-spec : {M : Type 1} → statement M
 decode-spec =

@@ -6,7 +6,7 @@ use Rattle.history_calls.proofs.commit.Tie as tie
 
 returns : tie.Need-returns
 returns c =
-    let x = c .before .before .before .args .x in
+    let x = c .before .before .before .args .store in
     let p = c .before .begin .ensures in
     let n = c .no-marks .ensures in
     λ i. done (record { current = record { head = x .current .head; position = p .0 i }; set = n .0 i }) 0 (x .current .position .place)

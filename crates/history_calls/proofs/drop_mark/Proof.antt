@@ -9,7 +9,7 @@ use Rattle.history_calls.proofs.drop_mark.Tie as tie
 returns : tie.Need-returns
 returns c =
     let a = c .before .before .before .before .args in
-    drop-left (a .x) (a .a) _ _ (c .stay .ensures) (c .before .before .standing-code .ensures) (c .before .if1 .taken)
+    drop-left (a .store) (a .a) _ _ (c .stay .ensures) (c .before .before .standing-code .ensures) (c .before .if1 .taken)
 
 returns-2 : tie.Need-returns-2
 returns-2 c =
@@ -17,7 +17,7 @@ returns-2 c =
     let e = c .before .before .standing-code .ensures in
     let z = c .before .if1 .left in
     let d = c .drop-mark .ensures in
-    λ i. done (record { current = a .x .current; set = d .0 i }) ((sym z ∙ e) i) 0
+    λ i. done (record { current = a .store .current; set = d .0 i }) ((sym z ∙ e) i) 0
 
 pub drop-mark-spec : {M : Type 1} → statement M
 drop-mark-spec = tie.close (tie.spec (λ c κs. search needs) (λ c κs. search needs) returns (λ c κs. search needs) returns-2)

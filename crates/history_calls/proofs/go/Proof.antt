@@ -13,7 +13,7 @@ returns c =
     let s = c .before .before .before .before .before .before .before in
     let a = s .args in (
       λ n. (ap (λ (d : Called). d .store) (c .stay .ensures), refl),
-      λ b m h. follows-by _ m b _ (c .stay .ensures) (way-refused b (a .x) (memory (a .vertices .now) (a .edges .now) (a .journal .now) (a .marks .now)) m h (a .call) (s .pre .0) _ (c .before .before .before .way-of .ensures) (c .before .if1 .taken)),
+      λ b m h. follows-by _ m b _ (c .stay .ensures) (way-refused b (a .store) (memory (a .vertices .now) (a .edges .now) (a .journal .now) (a .marks .now)) m h (a .call) (s .pre .0) _ (c .before .before .before .way-of .ensures) (c .before .if1 .taken)),
     )
 
 go-requires : tie.Need-go-requires
@@ -21,14 +21,14 @@ go-requires c κs =
     let s = c .before .before .before .before .before .before .before .before in
     let a = s .args in
     let p = s .pre .1 in
-    (way-reach (p .0) (a .x) (memory (a .vertices .now) (a .edges .now) (a .journal .now) (a .marks .now)) (p .1) (p .2) (a .call) (s .pre .0) _ (c .before .before .before .before .way-of .ensures) (c .before .before .if1 .left), (p .0, p .1 .line, p .2 .journal))
+    (way-reach (p .0) (a .store) (memory (a .vertices .now) (a .edges .now) (a .journal .now) (a .marks .now)) (p .1) (p .2) (a .call) (s .pre .0) _ (c .before .before .before .before .way-of .ensures) (c .before .before .if1 .left), (p .0, p .1 .line, p .2 .journal))
 
 returns-2 : tie.Need-returns-2
 returns-2 c =
     let s = c .before .before .before .before .before .before .before .before .before .before .before .before .before in
     let a = s .args in (
       λ n. absurd (n refl),
-      λ b m h. way-done b (a .x) (memory (a .vertices .now) (a .edges .now) (a .journal .now) (a .marks .now)) m h (a .call) (s .pre .0) _ (c .before .before .before .before .before .before .before .before .before .way-of .ensures) (c .before .before .before .before .before .before .before .if1 .left) _ _ _ refl (c .before .before .before .before .go .ensures b (m .line) (h .journal)),
+      λ b m h. way-done b (a .store) (memory (a .vertices .now) (a .edges .now) (a .journal .now) (a .marks .now)) m h (a .call) (s .pre .0) _ (c .before .before .before .before .before .before .before .before .before .way-of .ensures) (c .before .before .before .before .before .before .before .if1 .left) _ _ _ refl (c .before .before .before .before .go .ensures b (m .line) (h .journal)),
     )
 
 pub go-spec : {M : Type 1} → statement M

@@ -22,8 +22,8 @@ returns c =
     let s = c .before .before .before .before .before .before .before .before in
     let k = c .before .before .before .call .given in
     let e = c .set-mark .ensures in (
-      leaves-set (s .args .x) (k .0 .0) _ _ _ _ (s .args .marks .now) _ (e .0) (e .1),
-      λ b m h. rw (k .1, e .1) (follows-by _ m b _ (e .0) (set-follows b (s .args .x) (given s) m h (k .0 .0))),
+      leaves-set (s .args .store) (k .0 .0) _ _ _ _ (s .args .marks .now) _ (e .0) (e .1),
+      λ b m h. rw (k .1, e .1) (follows-by _ m b _ (e .0) (set-follows b (s .args .store) (given s) m h (k .0 .0))),
     )
 
 returns-2 : tie.Need-returns-2
@@ -31,8 +31,8 @@ returns-2 c =
     let s = c .before .before .before .before .before .before .before in
     let k = c .before .before .call2 .given in
     let e = c .drop-mark .ensures in (
-      leaves-drop (s .args .x) (k .0 .0) _ _ _ _ _ e,
-      λ b m h. rw (k .1) (follows-by _ m b _ e (drop-follows b (s .args .x) (given s) m h (k .0 .0))),
+      leaves-drop (s .args .store) (k .0 .0) _ _ _ _ _ e,
+      λ b m h. rw (k .1) (follows-by _ m b _ e (drop-follows b (s .args .store) (given s) m h (k .0 .0))),
     )
 
 returns-3 : tie.Need-returns-3
@@ -40,7 +40,7 @@ returns-3 c =
     let s = c .before .before .before .before .before .before in
     let e = c .commit .ensures in (
       λ n. absurd (n (ap (λ (d : Called). d .answer .code) e)),
-      λ b m h. rw (c .before .enum-told .given .1) (follows-by _ m b _ e (commit-follows b (s .args .x) (given s) m h)),
+      λ b m h. rw (c .before .enum-told .given .1) (follows-by _ m b _ e (commit-follows b (s .args .store) (given s) m h)),
     )
 
 returns-4 : tie.Need-returns-4
@@ -49,7 +49,7 @@ returns-4 c =
     let k = c .before .before .before .call3 .given in
     let e = c .between .ensures in (
       λ n. (ap (λ (d : Called). d .store) e, refl),
-      λ b m h. rw (k .1) (follows-by _ m b _ e (between-follows b (s .args .x) (given s) m h (k .0 .0) (k .0 .1 .0))),
+      λ b m h. rw (k .1) (follows-by _ m b _ e (between-follows b (s .args .store) (given s) m h (k .0 .0) (k .0 .1 .0))),
     )
 
 returns-5 : tie.Need-returns-5
@@ -57,7 +57,7 @@ returns-5 c =
     let s = c .before .before .before .before .before .before in
     let e = c .standing .ensures in (
       λ n. (ap (λ (d : Called). d .store) e, refl),
-      λ b m h. rw (c .before .enum-told2 .given .1) (follows-by _ m b _ e (count-follows b (s .args .x) (given s) m h)),
+      λ b m h. rw (c .before .enum-told2 .given .1) (follows-by _ m b _ e (count-follows b (s .args .store) (given s) m h)),
     )
 
 returns-6 : tie.Need-returns-6
@@ -65,7 +65,7 @@ returns-6 c =
     let s = c .before .before .before .before .before .before in
     let e = c .free-changes .ensures in (
       λ n. (ap (λ (d : Called). d .store) e, refl),
-      λ b m h. rw (c .before .enum-told3 .given .1) (follows-by _ m b _ e (free-follows b (s .args .x) (given s) m h)),
+      λ b m h. rw (c .before .enum-told3 .given .1) (follows-by _ m b _ e (free-follows b (s .args .store) (given s) m h)),
     )
 
 pub perform-spec : {M : Type 1} → statement M

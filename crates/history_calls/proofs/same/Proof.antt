@@ -5,7 +5,7 @@ use Rattle.history_calls.proofs.same.Tie as tie
 
 returns : tie.Need-returns
 returns c =
-    let x = c .before .args .x in
+    let x = c .before .args .store in
     λ i. record { current = record { head = c .same .ensures i; position = x .current .position }; set = x .set }
 
 pub same-spec : {M : Type 1} → statement M

@@ -13,7 +13,7 @@ returns c =
     let a = c .before .before .before .before .args in
     let e = c .before .before .new-code .ensures in
     let n = c .before .if1 .taken in
-    (set-left (a .x) (a .a) _ _ (c .stay .ensures) e n, places-left (a .x) (a .a) _ (a .marks .now) e n)
+    (set-left (a .store) (a .a) _ _ (c .stay .ensures) e n, places-left (a .store) (a .a) _ (a .marks .now) e n)
 
 returns-2 : tie.Need-returns-2
 returns-2 c =
@@ -21,9 +21,9 @@ returns-2 c =
     let e = c .before .before .before .new-code .ensures in
     let z = c .before .before .if1 .left in
     let d = c .set-mark .ensures in
-    let n = new-none (a .x .set) (a .a) _ e z in (
-      λ i. done (record { current = a .x .current; set = d .0 i }) ((sym z ∙ e) i) 0,
-      places-put (a .x) (a .a) _ (a .marks .now) _ e z (in-marks (a .a) (n .low) (n .high)) (d .1 .0),
+    let n = new-none (a .store .set) (a .a) _ e z in (
+      λ i. done (record { current = a .store .current; set = d .0 i }) ((sym z ∙ e) i) 0,
+      places-put (a .store) (a .a) _ (a .marks .now) _ e z (in-marks (a .a) (n .low) (n .high)) (d .1 .0),
     )
 
 pub set-mark-spec : {M : Type 1} → statement M

@@ -8,7 +8,7 @@ use Rattle.history_calls.proofs.standing.Tie as tie
 returns : tie.Need-returns
 returns c =
     let n = c .before .count-marks .ensures in
-    c .stay .ensures ∙ (λ i. done (c .before .before .args .x) 0 (n .0 i))
+    c .stay .ensures ∙ (λ i. done (c .before .before .args .store) 0 (n .0 i))
 
 pub standing-spec : {M : Type 1} → statement M
 standing-spec = tie.close (tie.spec (λ c κs. search needs) (λ c κs. search needs) returns)

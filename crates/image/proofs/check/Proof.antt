@@ -5,8 +5,10 @@ use native.Mathlib.Omega.{arith}
 use borrow.Author.Needs.{needs}
 use borrow.Author.Tests.{not-true, not-false}
 use Rattle.image.specs.Checks.{bounds, checked, verdict}
+use Rattle.image.specs.Image.{recordSize}
 use Rattle.image.proofs.Headers.{counts-le}
-use Rattle.image.proofs.ScratchPass.{bad-head, bad-counts, incidences-few, none-sound, verdict-by}
+use Rattle.image.proofs.Sizes.{size-range, record-size}
+use Rattle.image.proofs.ScratchPass.{bad-head, bad-counts, incidences-few, vertices-all, edges-all, none-sound, verdict-by}
 use Rattle.image.proofs.check.Statement.{statement}
 use Rattle.image.proofs.check.Tie as tie
 
@@ -54,7 +56,17 @@ all-requires c κs =
     let l = counts-le (vc .result) (ec .result) (x .result) (y .result) k in
     let le : y .result ≤ 4000 = omega (arith, l .1, ec .ensures .1) in
     let q = c .before .part3 in
-    (c .record-size .ensures .1, omega (arith, l .0, vc .ensures .1), le, ec .ensures .1, incidences-few (a .words .now) h (y .result) (y .ensures) le (q .result .now) (q .ensures .0))
+    let z = c .record-size in (
+      z .ensures .1,
+      omega (arith, l .0, vc .ensures .1),
+      le,
+      ec .ensures .1,
+      incidences-few (a .words .now) h (y .result) (y .ensures) le (q .result .now) (q .ensures .0),
+      omega (arith, z .ensures .0, size-range (recordSize (a .words .now)) (record-size (a .words .now)) .0),
+      vc .ensures .1,
+      vertices-all (a .words .now) h (z .result) (x .result) (z .ensures .0) (x .ensures) (c .before .before .before .part .result .now) (c .before .before .before .part .ensures .0),
+      edges-all (a .words .now) h (y .result) (y .ensures) (c .before .before .part2 .result .now) (c .before .before .part2 .ensures .0),
+    )
 
 returns-4 : tie.Need-returns-4
 returns-4 c =
@@ -71,7 +83,7 @@ returns-4 c =
     let u = c .before .before .before .before .part in
     let v = c .before .before .before .part2 in
     let w = c .before .before .part3 in
-    verdict-by (a .words .now) h (λ i. omega (arith, c .before .before .before .before .before .before .before .before .before .before .before .before .before .before .shared-slice-known .given i)) (vc .result) (ec .result) (a .types) (z .result) (x .result) (y .result) (vc .ensures .1) (ec .ensures .1)
+    verdict-by (a .words .now) h (λ i. omega (arith, c .before .before .before .before .before .before .before .before .before .before .before .before .before .before .shared-slice-known .given i)) (vc .result) (ec .result) (a .types) (z .result) (x .result) (y .result)
     (z .ensures .0) (x .ensures) (y .ensures) k (u .result .now) (v .result .now) (w .result .now) (u .ensures .0) (v .ensures .0) (w .ensures .0) (c .all .result) (c .all .ensures)
     ∙ ap₂ (λ (m e : ℕ). verdict (bounds m e (a .types)) (a .words .now)) (vc .ensures .0) (ec .ensures .0)
 

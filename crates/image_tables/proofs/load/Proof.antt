@@ -14,9 +14,9 @@ vertices-requires : tie.Need-vertices-requires
 vertices-requires c κs =
     let l = c .before .before .before .before .before .before in
     let s = l .before .before .before .before .before .before in (
-      load-by (s .args .words .now) (s .args .vt .now) (s .args .et .now) (s .pre) (l .clear .last .0) (l .clear .last .1 .0)
+      load-by (s .args .words .now) (s .args .vertices .now) (s .args .edges .now) (s .pre) (l .clear .last .0) (l .clear .last .1 .0)
           (omega (arith, l .clear .kept)) (omega (arith, l .clear .kept)),
-      subst (λ (x : State). Core x [] []) (sym (l .clear .ensures)) (holds-cleared (s .args .vt .now) (s .args .et .now) .core),
+      subst (λ (x : State). Core x [] []) (sym (l .clear .ensures)) (holds-cleared (s .args .vertices .now) (s .args .edges .now) .core),
     )
 
 edges-requires : tie.Need-edges-requires
@@ -24,9 +24,9 @@ edges-requires c κs =
     let v = c .before .before .before .before in
     let l = v .before .before .before .before .before .before .before in
     let s = l .before .before .before .before .before .before in (
-      load-by (s .args .words .now) (s .args .vt .now) (s .args .et .now) (s .pre) (v .vertices .last .1 .1 .0) (l .clear .last .1 .0)
-          (omega (arith, l .clear .kept, v .vertices .kept)) (omega (arith, l .clear .kept)),
-      v .vertices .ensures,
+      load-by (s .args .words .now) (s .args .vertices .now) (s .args .edges .now) (s .pre) (v .vertices2 .last .1 .1 .0) (l .clear .last .1 .0)
+          (omega (arith, l .clear .kept, v .vertices2 .kept)) (omega (arith, l .clear .kept)),
+      v .vertices2 .ensures,
     )
 
 lists-requires : tie.Need-lists-requires
@@ -35,9 +35,9 @@ lists-requires c κs =
     let v = e .before .before .before .before .before in
     let l = v .before .before .before .before .before .before .before in
     let s = l .before .before .before .before .before .before in (
-      load-by (s .args .words .now) (s .args .vt .now) (s .args .et .now) (s .pre) (v .vertices .last .1 .1 .0) (e .edges .last .1 .1 .1 .0)
-          (omega (arith, l .clear .kept, v .vertices .kept)) (omega (arith, l .clear .kept, e .edges .kept)),
-      e .edges .ensures,
+      load-by (s .args .words .now) (s .args .vertices .now) (s .args .edges .now) (s .pre) (v .vertices2 .last .1 .1 .0) (e .edges2 .last .1 .1 .1 .0)
+          (omega (arith, l .clear .kept, v .vertices2 .kept)) (omega (arith, l .clear .kept, e .edges2 .kept)),
+      e .edges2 .ensures,
     )
 
 returns : tie.Need-returns
@@ -47,7 +47,7 @@ returns c =
     let v = e .before .before .before .before .before in
     let l = v .before .before .before .before .before .before .before in
     let s = l .before .before .before .before .before .before in
-    record { core = i .lists .ensures; sound = given (s .args .words .now) (s .args .vt .now) (s .args .et .now) (s .pre) .formed }
+    record { core = i .lists .ensures; sound = given (s .args .words .now) (s .args .vertices .now) (s .args .edges .now) (s .pre) .formed }
 
 pub load-spec : {M : Type 1} → statement M
 load-spec =

@@ -10,7 +10,7 @@ use Rattle.image_tables.proofs.save.Tie as tie
 
 -- the head and the tables at the call, and what is known of them
 held : tie.Start → State
-held s = state (s .args .head) (s .args .vt .now) (s .args .et .now)
+held s = state (s .args .head) (s .args .vertices .now) (s .args .edges .now)
 
 asked : (s : tie.Start) → CanSave (held s) (length (s .args .out .now))
 unfolding held

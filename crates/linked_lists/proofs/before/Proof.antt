@@ -15,18 +15,18 @@ abbrev μ-loop : tie.MeasureT-loop
 next-requires : tie.Need-next-requires Inv-loop μ-loop
 next-requires c κs =
     let s = c .before in
-    (s .pre .0, walk-inside (s .args .layout) (s .args .t .now) (s .args .ends) (s .pre .0) (s .args .a) (s .pre .1))
+    (s .pre .0, walk-inside (s .args .layout) (s .args .table .now) (s .args .ends) (s .pre .0) (s .args .a) (s .pre .1))
 
 loop-holds : tie.Need-loop-holds Inv-loop μ-loop
 loop-holds c =
     let s = c .before .before in
-    walk-start (s .args .layout) (s .args .t .now) (s .args .ends) (s .pre .0) (s .args .a) (s .pre .1) (s .args .b) (c .next .result) (c .next .ensures)
+    walk-start (s .args .layout) (s .args .table .now) (s .args .ends) (s .pre .0) (s .args .a) (s .pre .1) (s .args .b) (c .next .result) (c .next .ensures)
 
 returns : tie.Need-returns Inv-loop μ-loop
 returns c =
     let d = c .before .before in
     let s = d .before .before .before in
-    walk-found (s .args .layout) (s .args .t .now) (s .args .ends) (s .pre .0) (s .args .a) (s .pre .1) (s .args .b)
+    walk-found (s .args .layout) (s .args .table .now) (s .args .ends) (s .pre .0) (s .args .a) (s .pre .1) (s .args .b)
     (d .loop .x) (d .loop .inv) (c .before .loop-test .taken) (c .if1 .taken)
 
 next-requires-2 : tie.Need-next-requires-2 Inv-loop μ-loop
@@ -34,7 +34,7 @@ next-requires-2 c κs =
     let d = c .before .before in
     let s = d .before .before .before in (
       s .pre .0,
-      walk-here (s .args .layout) (s .args .t .now) (s .args .ends) (s .pre .0) (s .args .a) (s .pre .1) (s .args .b)
+      walk-here (s .args .layout) (s .args .table .now) (s .args .ends) (s .pre .0) (s .args .a) (s .pre .1) (s .args .b)
           (d .loop .x) (d .loop .inv) (c .before .loop-test .taken),
     )
 
@@ -42,21 +42,21 @@ loop-less : tie.Need-loop-less Inv-loop μ-loop
 loop-less c =
     let d = c .before .before .before in
     let s = d .before .before .before in
-    walk-less (s .args .layout) (s .args .t .now) (s .args .ends) (s .pre .0) (s .args .a) (s .pre .1) (s .args .b)
+    walk-less (s .args .layout) (s .args .table .now) (s .args .ends) (s .pre .0) (s .args .a) (s .pre .1) (s .args .b)
     (d .loop .x) (d .loop .inv) (c .before .before .loop-test .taken) (c .next2 .result) (c .next2 .ensures)
 
 loop-again : tie.Need-loop-again Inv-loop μ-loop
 loop-again c =
     let d = c .before .before .before in
     let s = d .before .before .before in
-    walk-more (s .args .layout) (s .args .t .now) (s .args .ends) (s .pre .0) (s .args .a) (s .pre .1) (s .args .b)
+    walk-more (s .args .layout) (s .args .table .now) (s .args .ends) (s .pre .0) (s .args .a) (s .pre .1) (s .args .b)
     (d .loop .x) (d .loop .inv) (c .before .before .loop-test .taken) (c .next2 .result) (c .next2 .ensures) (c .before .if1 .left)
 
 returns-2 : tie.Need-returns-2 Inv-loop μ-loop
 returns-2 c =
     let d = c .before in
     let s = d .before .before .before in
-    walk-end (s .args .layout) (s .args .t .now) (s .args .ends) (s .pre .0) (s .args .a) (s .pre .1) (s .args .b)
+    walk-end (s .args .layout) (s .args .table .now) (s .args .ends) (s .pre .0) (s .args .a) (s .pre .1) (s .args .b)
     (d .loop .x) (d .loop .inv) (c .loop-test .left)
 
 pub before-spec : {M : Type 1} → statement M

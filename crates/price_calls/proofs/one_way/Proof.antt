@@ -16,28 +16,28 @@ use Rattle.price_calls.proofs.one_way.Tie as tie
 
 -- it adds no numbers up
 abbrev Stands : List ℕ → List ℕ → ℕ → ℕ → Type 0
-Stands vt et a w = Along (λ x. 0) vt et a w 0
+Stands vertices edges a w = Along (λ x. 0) vertices edges a w 0
 
 -- what is ahead of word w in the list of a
 abbrev rest : List ℕ → List ℕ → ℕ → ℕ → List ℕ
-rest vt et a w = ahead incidenceLinks et (endsAt vt a) w
+rest vertices edges a w = ahead incidenceLinks edges (endsAt vertices a) w
 
 abbrev Inv-loop : tie.InvT-loop
-Inv-loop vt et a b way₀ w₀ way w = Stands vt et a w × (lastTested (readingTo et b) way (rest vt et a w) ≡ wayAt vt et a b)
+Inv-loop vertices edges a b way₀ w₀ way w = Stands vertices edges a w × (lastTested (readingTo edges b) way (rest vertices edges a w) ≡ wayAt vertices edges a b)
 
 abbrev μ-loop : tie.MeasureT-loop
-μ-loop vt et a b way₀ w₀ way w = along-left vt et a w
+μ-loop vertices edges a b way₀ w₀ way w = along-left vertices edges a w
 
-start : (vt et : List ℕ) (a b w : ℕ) → w ≡ vfirst vt a → lastTested (readingTo et b) Untested (rest vt et a w) ≡ wayAt vt et a b
+start : (vertices edges : List ℕ) (a b w : ℕ) → w ≡ vfirst vertices a → lastTested (readingTo edges b) Untested (rest vertices edges a w) ≡ wayAt vertices edges a b
 unfolding wayAt nodes
-start vt et a b w q = ap (λ (x : ℕ). lastTested (readingTo et b) Untested (rest vt et a x)) (q ∙ first-link vt et a)
+start vertices edges a b w q = ap (λ (x : ℕ). lastTested (readingTo edges b) Untested (rest vertices edges a x)) (q ∙ first-link vertices edges a)
 
-on : (vt et : List ℕ) (a b w : ℕ) → Stands vt et a w → (w ≡ 0 → ⊥) → (way way′ r : Reading) (y : ℕ) → r ≡ readingTo et b w → way′ ≡ later way r → y ≡ wnext et w →
-    lastTested (readingTo et b) way (rest vt et a w) ≡ wayAt vt et a b →
-    lastTested (readingTo et b) way′ (rest vt et a y) ≡ wayAt vt et a b
-on vt et a b w k z way way′ r y p q n h =
-    ap (λ (x : Reading). lastTested (readingTo et b) x (rest vt et a y)) (q ∙ ap (later way) p)
-    ∙ sym (ap (lastTested (readingTo et b) way) (ahead-on _ _ incidenceLinks et (endsAt vt a) w 0 _ (k .walk) z y (along-link _ vt et a w 0 k z y n)))
+on : (vertices edges : List ℕ) (a b w : ℕ) → Stands vertices edges a w → (w ≡ 0 → ⊥) → (way way′ r : Reading) (y : ℕ) → r ≡ readingTo edges b w → way′ ≡ later way r → y ≡ wnext edges w →
+    lastTested (readingTo edges b) way (rest vertices edges a w) ≡ wayAt vertices edges a b →
+    lastTested (readingTo edges b) way′ (rest vertices edges a y) ≡ wayAt vertices edges a b
+on vertices edges a b w k z way way′ r y p q n h =
+    ap (λ (x : Reading). lastTested (readingTo edges b) x (rest vertices edges a y)) (q ∙ ap (later way) p)
+    ∙ sym (ap (lastTested (readingTo edges b) way) (ahead-on _ _ incidenceLinks edges (endsAt vertices a) w 0 _ (k .walk) z y (along-link _ vertices edges a w 0 k z y n)))
     ∙ h
 
 first-word-requires : tie.Need-first-word-requires Inv-loop μ-loop
@@ -70,7 +70,7 @@ returns : tie.Need-returns Inv-loop μ-loop
 returns c =
     let l = c .before .loop in
     let a = c .before .before .before .before .before .args in
-    sym (ap (lastTested (readingTo (a .et .now) (a .b)) (l .way)) (ahead-end (λ x. 0) (λ x. ℕ) incidenceLinks (a .et .now) (endsAt (a .vt .now) (a .a)) (l .w) 0 0 (c .loop-test .left)))
+    sym (ap (lastTested (readingTo (a .edges .now) (a .b)) (l .way)) (ahead-end (λ x. 0) (λ x. ℕ) incidenceLinks (a .edges .now) (endsAt (a .vertices .now) (a .a)) (l .w) 0 0 (c .loop-test .left)))
     ∙ l .inv .1
 
 pub one-way-spec : {M : Type 1} → statement M

@@ -25,8 +25,8 @@ price-of-requires : tie.Need-price-of-requires
 price-of-requires c κs =
     let p = c .before .before .before .before .before .before .before .before .pre in
     let a = c .before .before .before .before .before .before .before .before .args in
-    let walk : (v : ℕ) → hasVertex (p .2) v ≡ true → CanWalk (a .vt .now) (a .et .now) v =
-    λ v e. can-walk (p .0) (state (p .1) (a .vt .now) (a .et .now)) (p .3) (p .2) (p .4) v (vertex-once (p .2) v (p .4 .sound) e) in (
+    let walk : (v : ℕ) → hasVertex (p .2) v ≡ true → CanWalk (a .vertices .now) (a .edges .now) v =
+    λ v e. can-walk (p .0) (state (p .1) (a .vertices .now) (a .edges .now)) (p .3) (p .2) (p .4) v (vertex-once (p .2) v (p .4 .sound) e) in (
       walk _ (vertex-there _ (p .2) _ (_, (p .1, p .4)) (c .before .before .before .before .before .find-vertex .result) _ (c .before .before .before .before .before .find-vertex .ensures) (c .before .before .before .enum-told .given .1)),
       walk _ (vertex-there _ (p .2) _ (_, (p .1, p .4)) (c .before .before .find-vertex2 .result) _ (c .before .before .find-vertex2 .ensures) (c .enum-told3 .given .1)),
     )
@@ -38,7 +38,7 @@ returns-3 c = λ head g o.
     let t = vertex-there _ g _ (_, (head, o)) (c .before .before .before .find-vertex2 .result) _ (c .before .before .before .find-vertex2 .ensures) (c .before .enum-told3 .given .1) in
     rw (s, t)
     (c .price-of .ensures
-    ∙ price-is (state head (a .vt .now) (a .et .now)) g o _ _ (vertex-once g _ (o .sound) s) (vertex-once g _ (o .sound) t))
+    ∙ price-is (state head (a .vertices .now) (a .edges .now)) g o _ _ (vertex-once g _ (o .sound) s) (vertex-once g _ (o .sound) t))
 
 pub priced-spec : {M : Type 1} → statement M
 priced-spec =

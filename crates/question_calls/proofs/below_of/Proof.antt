@@ -7,12 +7,6 @@ use borrow.Author.Needs.{needs}
 use Rattle.question_calls.proofs.below_of.Statement.{statement}
 use Rattle.question_calls.proofs.below_of.Tie as tie
 
-returns : tie.Need-returns
-returns c = λ g rows e i. rw (le-leb _ _ (c .before .if1 .taken)) (c .refused .ensures)
-
-returns-2 : tie.Need-returns-2
-returns-2 c = λ g rows e i. rw (lt-leb _ _ (c .before .before .if1 .left), le-leb _ _ (c .before .if2 .taken)) (c .refused2 .ensures)
-
 returns-3 : tie.Need-returns-3
 returns-3 c = λ g rows e i.
     rw (lt-leb _ _ (c .before .before .before .before .if1 .left), lt-leb _ _ (c .before .before .before .if2 .left))
@@ -23,9 +17,9 @@ below-of-spec =
     tie.close
     (tie.spec
     (λ c κs. search needs)
-    returns
+    (λ c. λ g rows e i. rw (le-leb _ _ (c .before .if1 .taken)) (c .refused .ensures))
     (λ c κs. search needs)
-    returns-2
+    (λ c. λ g rows e i. rw (lt-leb _ _ (c .before .before .if1 .left), le-leb _ _ (c .before .if2 .taken)) (c .refused2 .ensures))
     (λ c κs. search needs)
     (λ c κs. search needs)
     (λ c κs. search needs)

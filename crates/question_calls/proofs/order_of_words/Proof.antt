@@ -11,19 +11,10 @@ use borrow.Author.Needs.{needs}
 use Rattle.question_calls.proofs.order_of_words.Statement.{statement}
 use Rattle.question_calls.proofs.order_of_words.Tie as tie
 
-returns : tie.Need-returns
-returns c = λ g n rows o h. rw (edge-lacking _ g _ (_, (o, h)) (c .before .before .before .find-word .result) (c .before .before .before .find-word .ensures) (c .before .enum-told2 .given .1)) (c .refused .ensures)
-
 returns-2 : tie.Need-returns-2
 returns-2 c = λ g n rows o h.
     rw (edge-there _ g _ (_, (o, h)) (c .before .before .before .before .before .before .find-word .result) _ (c .before .before .before .before .before .before .find-word .ensures) (c .before .before .before .before .enum-told .given .1), edge-lacking _ g _ (_, (o, h)) (c .before .before .before .find-word2 .result) (c .before .before .before .find-word2 .ensures) (c .before .enum-told4 .given .1))
     (c .refused2 .ensures)
-
-this-requires : tie.Need-this-requires
-this-requires c κs = word-in _ _ (c .before .before .before .before .before .find-word .result) _ (c .before .before .before .before .before .find-word .ensures) (c .before .before .before .enum-told .given .1)
-
-this-requires-2 : tie.Need-this-requires-2
-this-requires-2 c κs = word-in _ _ (c .before .before .before .find-word2 .result) _ (c .before .before .before .find-word2 .ensures) (c .before .enum-told3 .given .1)
 
 returns-3 : tie.Need-returns-3
 returns-3 c = λ g n rows o h.
@@ -36,7 +27,7 @@ word-before-requires : tie.Need-word-before-requires
 word-before-requires c κs =
     let p = c .before .before .before .before .before .before .before .before .before .before .before .pre in
     let a = c .before .before .before .before .before .before .before .before .before .before .before .args in
-    word-asks (state (p .0) (a .vt .now) (a .et .now)) (p .1) (p .2) _
+    word-asks (state (p .0) (a .vertices .now) (a .edges .now)) (p .1) (p .2) _
     (edge-once (p .1) _ (p .2 .sound) (edge-there _ (p .1) _ (_, (p .0, p .2)) (c .before .before .before .before .before .before .before .before .find-word .result) _ (c .before .before .before .before .before .before .before .before .find-word .ensures) (c .before .before .before .before .before .before .enum-told .given .1)))
 
 returns-4 : tie.Need-returns-4
@@ -47,7 +38,7 @@ returns-4 c = λ g n rows o h.
     let t = edge-there _ g _ (_, (o, h)) (c .before .before .before .before .before .before .before .before .before .before .before .find-word .result) _ (c .before .before .before .before .before .before .before .before .before .before .before .find-word .ensures) (c .before .before .before .before .before .before .before .before .before .enum-told .given .1) in
     rw (t, edge-there _ g _ (_, (o, h)) (c .before .before .before .before .before .before .before .before .find-word2 .result) _ (c .before .before .before .before .before .before .before .before .find-word2 .ensures) (c .before .before .before .before .before .before .enum-told3 .given .1), eq-eqb _ _ (sym p ∙ c .before .before .before .if1 .left ∙ q))
     (c .accepted .ensures
-    ∙ ap accepts (c .before .as-number .ensures ∙ ap toBit (c .before .before .word-before .ensures ∙ word-before (state o (a .vt .now) (a .et .now)) g h _ _ (edge-once g _ (h .sound) t))))
+    ∙ ap accepts (c .before .as-number .ensures ∙ ap toBit (c .before .before .word-before .ensures ∙ word-before (state o (a .vertices .now) (a .edges .now)) g h _ _ (edge-once g _ (h .sound) t))))
 
 pub order-of-words-spec : {M : Type 1} → statement M
 order-of-words-spec =
@@ -57,14 +48,14 @@ order-of-words-spec =
     (λ c. search needs)
     (λ c. search needs)
     (λ c κs. search needs)
-    returns
+    (λ c. λ g n rows o h. rw (edge-lacking _ g _ (_, (o, h)) (c .before .before .before .find-word .result) (c .before .before .before .find-word .ensures) (c .before .enum-told2 .given .1)) (c .refused .ensures))
     (λ c κs. search needs)
     (λ c. search needs)
     (λ c. search needs)
     (λ c κs. search needs)
     returns-2
-    this-requires
-    this-requires-2
+    (λ c κs. word-in _ _ (c .before .before .before .before .before .find-word .result) _ (c .before .before .before .before .before .find-word .ensures) (c .before .before .before .enum-told .given .1))
+    (λ c κs. word-in _ _ (c .before .before .before .find-word2 .result) _ (c .before .before .before .find-word2 .ensures) (c .before .enum-told3 .given .1))
     (λ c κs. search needs)
     returns-3
     word-before-requires

@@ -6,27 +6,6 @@ use borrow.Author.Needs.{needs}
 use Rattle.question_calls.proofs.vertex_word.Statement.{statement}
 use Rattle.question_calls.proofs.vertex_word.Tie as tie
 
-returns : tie.Need-returns
-returns c = rw (sym (c .before .before .before .find-vertex .ensures) ∙ c .before .enum-told .given .1) (c .refused .ensures)
-
-add-accepted : tie.Need-add-accepted
-add-accepted c =
-    let h = vertex-end _ _ _ (c .before .before .before .find-vertex .result) (c .before .before .before .find-vertex .ensures) (c .before .f .given .1) in
-    omega arith
-
-mul-accepted : tie.Need-mul-accepted
-mul-accepted c =
-    let h = vertex-end _ _ _ (c .before .before .before .find-vertex .result) (c .before .before .before .find-vertex .ensures) (c .before .f .given .1) in
-    omega arith
-
-shared-slice-read-accepted : tie.Need-shared-slice-read-accepted
-shared-slice-read-accepted c =
-    let h = vertex-end _ _ _ (c .before .before .before .before .find-vertex .result) (c .before .before .before .before .find-vertex .ensures) (c .before .before .f .given .1) in
-    omega arith
-
-returns-2 : tie.Need-returns-2
-returns-2 c = rw (sym (c .before .before .before .before .before .find-vertex .ensures) ∙ c .before .before .before .f .given .1) (c .accepted .ensures)
-
 pub vertex-word-spec : {M : Type 1} → statement M
 vertex-word-spec =
     tie.close
@@ -35,9 +14,9 @@ vertex-word-spec =
     (λ c. search needs)
     (λ c. search needs)
     (λ c κs. search needs)
-    returns
-    add-accepted
-    mul-accepted
-    shared-slice-read-accepted
+    (λ c. rw (sym (c .before .before .before .find-vertex .ensures) ∙ c .before .enum-told .given .1) (c .refused .ensures))
+    (λ c. omega (arith, vertex-end _ _ _ (c .before .before .before .find-vertex .result) (c .before .before .before .find-vertex .ensures) (c .before .f .given .1)))
+    (λ c. omega (arith, vertex-end _ _ _ (c .before .before .before .find-vertex .result) (c .before .before .before .find-vertex .ensures) (c .before .f .given .1)))
+    (λ c. omega (arith, vertex-end _ _ _ (c .before .before .before .before .find-vertex .result) (c .before .before .before .before .find-vertex .ensures) (c .before .before .f .given .1)))
     (λ c κs. search needs)
-    returns-2)
+    (λ c. rw (sym (c .before .before .before .before .before .find-vertex .ensures) ∙ c .before .before .before .f .given .1) (c .accepted .ensures)))

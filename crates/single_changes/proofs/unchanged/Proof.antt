@@ -5,8 +5,5 @@ use borrow.Author.Needs.{needs}
 use Rattle.single_changes.proofs.unchanged.Statement.{statement}
 use Rattle.single_changes.proofs.unchanged.Tie as tie
 
-returns : tie.Need-returns
-returns c = ap (λ (x : Head). record { head = x; code = c .before .args .code; cost = 0 }) (c .same .ensures)
-
 pub unchanged-spec : {M : Type 1} → statement M
-unchanged-spec = tie.close (tie.spec (λ c κs. search needs) returns)
+unchanged-spec = tie.close (tie.spec (λ c κs. search needs) (λ c. ap (λ (x : Head). record { head = x; code = c .before .args .code; cost = 0 }) (c .same .ensures)))

@@ -15,32 +15,32 @@ row-crossed-requires c κs =
     let s = c .before .before .before in
     let a = s .args in
     let p = s .pre in
-    row-word (p .0) (a .t .now) (p .1) (p .2) _ (a .u) (p .4) (a .back) (p .3)
+    row-word (p .0) (a .journal .now) (p .1) (p .2) _ (a .u) (p .4) (a .back) (p .3)
 
 row-at-requires : tie.Need-row-at-requires
 row-at-requires c κs =
     let s = c .before .before .before .before in
     let a = s .args in
     let p = s .pre in
-    subst (λ (i : ℕ). 12 * i + 12 ≤ length (a .t .now)) (sym (c .row-crossed .ensures))
-    (row-room (p .0) (a .t .now) (p .1) (p .2) _ (a .u) (p .4) (a .back) (p .3))
+    subst (λ (i : ℕ). 12 * i + 12 ≤ length (a .journal .now)) (sym (c .row-crossed .ensures))
+    (row-room (p .0) (a .journal .now) (p .1) (p .2) _ (a .u) (p .4) (a .back) (p .3))
 
 apply-edit-requires : tie.Need-apply-edit-requires
 apply-edit-requires c κs =
     let s = c .before .before .before .before .before .before .before in
     let a = s .args in
     let p = s .pre in
-    let e = edit-is (a .t .now) (a .back) (a .u) _ _ (c .before .before .before .row-crossed .ensures) (c .before .before .row-at .ensures) in
-    subst (λ (x : Edit). Can x (state (a .head) (a .vt .now) (a .et .now))) (sym e)
-    (row-can (p .0) (a .t .now) (p .1) (p .2) _ (a .u) (p .4) (a .back) (p .3))
+    let e = edit-is (a .journal .now) (a .back) (a .u) _ _ (c .before .before .before .row-crossed .ensures) (c .before .before .row-at .ensures) in
+    subst (λ (x : Edit). Can x (state (a .head) (a .vertices .now) (a .edges .now))) (sym e)
+    (row-can (p .0) (a .journal .now) (p .1) (p .2) _ (a .u) (p .4) (a .back) (p .3))
 
 returns : tie.Need-returns
 returns c =
     λ b g n h k.
     let a = c .before .before .before .before .before .before .before .before .before .before .before .before .args in
-    let s₀ = state (a .head) (a .vt .now) (a .et .now) in
-    let e = edit-is (a .t .now) (a .back) (a .u) _ _ (c .before .before .before .before .before .before .before .before .row-crossed .ensures) (c .before .before .before .before .before .before .before .row-at .ensures) in
-    row-done b (a .t .now) g n s₀ (a .u) k (a .back) h _ (c .before .before .before .before .apply-edit .ensures ∙ ap (λ (x : Edit). applyS x s₀) e)
+    let s₀ = state (a .head) (a .vertices .now) (a .edges .now) in
+    let e = edit-is (a .journal .now) (a .back) (a .u) _ _ (c .before .before .before .before .before .before .before .before .row-crossed .ensures) (c .before .before .before .before .before .before .before .row-at .ensures) in
+    row-done b (a .journal .now) g n s₀ (a .u) k (a .back) h _ (c .before .before .before .before .apply-edit .ensures ∙ ap (λ (x : Edit). applyS x s₀) e)
 
 pub replay-row-spec : {M : Type 1} → statement M
 replay-row-spec =

@@ -20,8 +20,7 @@ use image::part;
 use std::num::wrapping_add_usize;
 
 // What the lines so far say: the lengths that are lent, the words of the start image, the type rows, the words of the
-// calls,
-// the words of the last end image, the bound of the junk words, the place of the next line.
+// calls, the words of the last end image, the bound of the junk words, the place of the next line.
 pub struct Setting {
     pub lent: Lengths,
     pub start: usize,

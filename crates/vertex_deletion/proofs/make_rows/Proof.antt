@@ -11,10 +11,10 @@ use Rattle.vertex_deletion.proofs.make_rows.Statement.{statement}
 use Rattle.vertex_deletion.proofs.make_rows.Tie as tie
 
 abbrev Inv-loop : tie.InvT-loop
-Inv-loop vt₀ et₀ t₀ a rows h₀ u₀ end vt et t h u = RemovalLoop (DeleteVertex a) u₀ rows (state h₀ vt₀ et₀) t₀ (state h vt et) t u
+Inv-loop vertices₀ edges₀ t₀ a rows h₀ u₀ end vertices edges t h u = RemovalLoop (DeleteVertex a) u₀ rows (state h₀ vertices₀ edges₀) t₀ (state h vertices edges) t u
 
 abbrev μ-loop : tie.MeasureT-loop
-μ-loop vt₀ et₀ t₀ a rows h₀ u₀ end vt et t h u = u₀ + rows - u
+μ-loop vertices₀ edges₀ t₀ a rows h₀ u₀ end vertices edges t h u = u₀ + rows - u
 
 add-end : tie.Need-add-end Inv-loop μ-loop
 add-end c =
@@ -28,7 +28,7 @@ loop-holds c =
       vlen = refl;
       elen = refl;
       tlen = refl;
-      goes = λ j b l q k i. making-start (DeleteVertex (a .a)) b j (state (a .x .head) (a .vt .now) (a .et .now)) (a .t .now) l (a .rows) _ q k i;
+      goes = λ j b l q k i. making-start (DeleteVertex (a .a)) b j (state (a .current .head) (a .vertices .now) (a .edges .now)) (a .journal .now) l (a .rows) _ q k i;
     }
 
 add-v : tie.Need-add-v Inv-loop μ-loop
@@ -37,8 +37,8 @@ add-v c =
     let a = s .args in
     let p = s .pre in
     let l = c .before .loop in
-    let k = l .inv .goes (a .x .position) (p .0) (p .1) refl (p .5) (p .2) in
-    omega (arith, row-left (DeleteVertex (a .a)) (p .0) (a .x .position) _ (a .t .now) (p .1) (a .rows) _ (l .t) (l .u) k (p .3) (c .loop-test .taken), p .4, p .5 .rows .short)
+    let k = l .inv .goes (a .current .position) (p .0) (p .1) refl (p .5) (p .2) in
+    omega (arith, row-left (DeleteVertex (a .a)) (p .0) (a .current .position) _ (a .journal .now) (p .1) (a .rows) _ (l .journal) (l .u) k (p .3) (c .loop-test .taken), p .4, p .5 .rows .short)
 
 next-row-requires : tie.Need-next-row-requires Inv-loop μ-loop
 next-row-requires c κs =
@@ -46,10 +46,10 @@ next-row-requires c κs =
     let a = s .args in
     let p = s .pre in
     let l = c .before .before .before .before .loop in
-    let k = l .inv .goes (a .x .position) (p .0) (p .1) refl (p .5) (p .2) in
+    let k = l .inv .goes (a .current .position) (p .0) (p .1) refl (p .5) (p .2) in
     let n = c .before .before .before .loop-test .taken in (
-      row-room (DeleteVertex (a .a)) (p .0) (a .x .position) _ (a .t .now) (p .1) (a .rows) _ (l .t) (l .u) k (p .3) n (p .4),
-      (p .0, k .graph, k .opened .rows .sized, k .holds, allowed-now (DeleteVertex (a .a)) (p .0) (a .x .position) _ (a .t .now) (p .1) (a .rows) _ (l .t) (l .u) k (p .3) n),
+      row-room (DeleteVertex (a .a)) (p .0) (a .current .position) _ (a .journal .now) (p .1) (a .rows) _ (l .journal) (l .u) k (p .3) n (p .4),
+      (p .0, k .graph, k .opened .rows .sized, k .holds, allowed-now (DeleteVertex (a .a)) (p .0) (a .current .position) _ (a .journal .now) (p .1) (a .rows) _ (l .journal) (l .u) k (p .3) n),
     )
 
 loop-less : tie.Need-loop-less Inv-loop μ-loop
@@ -58,8 +58,8 @@ loop-less c =
     let a = s .args in
     let p = s .pre in
     let l = c .before .before .before .before .before .before .before .before .before .before .before .loop in
-    let k = l .inv .goes (a .x .position) (p .0) (p .1) refl (p .5) (p .2) in
-    omega (arith, row-left (DeleteVertex (a .a)) (p .0) (a .x .position) _ (a .t .now) (p .1) (a .rows) _ (l .t) (l .u) k (p .3) (c .before .before .before .before .before .before .before .before .before .before .loop-test .taken))
+    let k = l .inv .goes (a .current .position) (p .0) (p .1) refl (p .5) (p .2) in
+    omega (arith, row-left (DeleteVertex (a .a)) (p .0) (a .current .position) _ (a .journal .now) (p .1) (a .rows) _ (l .journal) (l .u) k (p .3) (c .before .before .before .before .before .before .before .before .before .before .loop-test .taken))
 
 loop-again : tie.Need-loop-again Inv-loop μ-loop
 loop-again c =
@@ -67,23 +67,23 @@ loop-again c =
     let a = s .args in
     let p = s .pre in
     let x = DeleteVertex (a .a) in
-    let s₀ = state (a .x .head) (a .vt .now) (a .et .now) in
+    let s₀ = state (a .current .head) (a .vertices .now) (a .edges .now) in
     let l = c .before .before .before .before .before .before .before .before .before .before .before .loop in
-    let s₁ = state (l .h) (l .vt) (l .et) in
-    let k = l .inv .goes (a .x .position) (p .0) (p .1) refl (p .5) (p .2) in
+    let s₁ = state (l .h) (l .vertices) (l .edges) in
+    let k = l .inv .goes (a .current .position) (p .0) (p .1) refl (p .5) (p .2) in
     let n = c .before .before .before .before .before .before .before .before .before .before .loop-test .taken in
     let m = c .before .before .before .before .before .before .next-row in
-    let r = row-room x (p .0) (a .x .position) s₀ (a .t .now) (p .1) (a .rows) s₁ (l .t) (l .u) k (p .3) n (p .4) in
+    let r = row-room x (p .0) (a .current .position) s₀ (a .journal .now) (p .1) (a .rows) s₁ (l .journal) (l .u) k (p .3) n (p .4) in
     record {
       vlen = m .kept .1 .0 ∙ l .inv .vlen;
       elen = m .kept .1 .1 .0 ∙ l .inv .elen;
       tlen = m .kept .1 .1 .1 .0 ∙ l .inv .tlen;
       goes = λ j b y q i v.
           let z = l .inv .goes j b y q i v in
-          let o = cost-same x (p .0) b (a .x .position) j s₀ (a .t .now) (p .1) y (p .5) i (a .rows) (p .3) in
+          let o = cost-same x (p .0) b (a .current .position) j s₀ (a .journal .now) (p .1) y (p .5) i (a .rows) (p .3) in
           let f : l .u ≢ j .used + a .rows = λ d. n (d ∙ ap (λ (h : ℕ). h + a .rows) q) in
-          let w = allowed-now x b j s₀ (a .t .now) y (a .rows) s₁ (l .t) (l .u) z o f in
-          making-turn x b j s₀ (a .t .now) y (a .rows) s₁ (l .t) (l .u) z o f (nextEdit s₁ (a .a)) (first-next b s₁ (z .graph) (z .holds) (a .a) w) r
+          let w = allowed-now x b j s₀ (a .journal .now) y (a .rows) s₁ (l .journal) (l .u) z o f in
+          making-turn x b j s₀ (a .journal .now) y (a .rows) s₁ (l .journal) (l .u) z o f (nextEdit s₁ (a .a)) (first-next b s₁ (z .graph) (z .holds) (a .a) w) r
           (state (m .result) (m .last .1 .0) (m .last .1 .1 .0)) (m .last .1 .1 .1 .0) (l .u + 1) (m .ensures) (omega arith);
     }
 
@@ -101,7 +101,7 @@ returns c =
     λ b y v i.
     let a = c .before .before .before .before .before .before .args in
     let l = c .before .loop in
-    subst (Making (DeleteVertex (a .a)) b (a .x .position) (state (a .x .head) (a .vt .now) (a .et .now)) (a .t .now) y (a .rows) (state (l .h) (l .vt) (l .et)) (l .t)) (c .loop-test .left) (l .inv .goes (a .x .position) b y refl i v)
+    subst (Making (DeleteVertex (a .a)) b (a .current .position) (state (a .current .head) (a .vertices .now) (a .edges .now)) (a .journal .now) y (a .rows) (state (l .h) (l .vertices) (l .edges)) (l .journal)) (c .loop-test .left) (l .inv .goes (a .current .position) b y refl i v)
 
 pub make-rows-spec : {M : Type 1} → statement M
 make-rows-spec =

@@ -11,14 +11,14 @@ first-word-requires c κs =
     let s = c .before .before .before .before in
     let a = s .args in
     let p = s .pre .1 in
-    vertex-here (p .0) (state (a .h) (a .vt .now) (a .et .now)) (p .1) (p .3) (a .a) (p .4)
+    vertex-here (p .0) (state (a .head) (a .vertices .now) (a .edges .now)) (p .1) (p .3) (a .a) (p .4)
 
 remove-edge-requires : tie.Need-remove-edge-requires
 remove-edge-requires c κs =
     let s = c .before .before .before .before .before .before .before .before .before in
     let a = s .args in
     let p = s .pre .1 in
-    let s₀ = state (a .h) (a .vt .now) (a .et .now) in
+    let s₀ = state (a .head) (a .vertices .now) (a .edges .now) in
     let w = c .before .before .before .before .first-word .ensures in
     let n = c .before .before .before .if1 .taken in (
       s .pre .0,
@@ -30,14 +30,14 @@ remove-edge-requires c κs =
 returns : tie.Need-returns
 returns c =
     let a = c .before .before .before .before .before .before .before .before .before .before .before .before .before .before .before .before .args in
-    next-edge (state (a .h) (a .vt .now) (a .et .now)) (a .a) _ (a .cost) (a .i) (a .t .now) _ _ (c .before .before .before .before .before .before .before .before .before .before .before .first-word .ensures) (c .before .before .before .before .before .before .before .before .before .before .if1 .taken) (c .before .before .before .before .before .before .remove-edge .ensures)
+    next-edge (state (a .head) (a .vertices .now) (a .edges .now)) (a .a) _ (a .cost) (a .row) (a .journal .now) _ _ (c .before .before .before .before .before .before .before .before .before .before .before .first-word .ensures) (c .before .before .before .before .before .before .before .before .before .before .if1 .taken) (c .before .before .before .before .before .before .remove-edge .ensures)
 
 remove-vertex-requires : tie.Need-remove-vertex-requires
 remove-vertex-requires c κs =
     let s = c .before .before .before .before .before .before .before .before .before in
     let a = s .args in
     let p = s .pre .1 in
-    let s₀ = state (a .h) (a .vt .now) (a .et .now) in
+    let s₀ = state (a .head) (a .vertices .now) (a .edges .now) in
     let f = first-vertex (p .0) s₀ (p .1) (p .3) (a .a) (p .4) _ (c .before .before .before .before .first-word .ensures) (c .before .before .before .if1 .left) in (
       s .pre .0,
       vertex-here (p .0) s₀ (p .1) (p .3) (a .a) (p .4),
@@ -47,7 +47,7 @@ remove-vertex-requires c κs =
 returns-2 : tie.Need-returns-2
 returns-2 c =
     let a = c .before .before .before .before .before .before .before .before .before .before .before .before .before .before .args in
-    next-vertex (state (a .h) (a .vt .now) (a .et .now)) (a .a) _ (a .cost) (a .i) (a .t .now) _ _ (c .before .before .before .before .before .before .before .before .before .first-word .ensures) (c .before .before .before .before .before .before .before .before .if1 .left) (c .before .before .before .before .remove-vertex .ensures)
+    next-vertex (state (a .head) (a .vertices .now) (a .edges .now)) (a .a) _ (a .cost) (a .row) (a .journal .now) _ _ (c .before .before .before .before .before .before .before .before .before .first-word .ensures) (c .before .before .before .before .before .before .before .before .if1 .left) (c .before .before .before .before .remove-vertex .ensures)
 
 pub next-row-spec : {M : Type 1} → statement M
 next-row-spec =

@@ -1,9 +1,9 @@
 -- `vertex_deletion::remove_edge` meets its contract.
 use Prim.Native.Nat.{_^_, _<_}
 use mathlib.Core.Path.{sym, subst}
+use Rattle.graph.specs.Graph.{IsWords}
 use Rattle.graph_tables.specs.Tables.{state, CanRemoveEdge}
 use Rattle.journal.specs.declared.removal.EdgeWords.{EdgeWords}
-use Rattle.journal.specs.Rows.{IsWords}
 use Rattle.journal.proofs.RowLaws.{removal-written, rowed-by, removed-words}
 use borrow.Author.Needs.{needs}
 use Rattle.vertex_deletion.proofs.remove_edge.Statement.{statement}
@@ -16,7 +16,7 @@ remove-edge-requires : tie.Need-remove-edge-requires
 remove-edge-requires c κs =
     let s = c .before .before .before .before .before .before .before .before .before .before .before in
     let a = s .args in
-    subst (λ (w : EdgeWords). (a .n < 2 ^ 31) × CanRemoveEdge (a .n) (w .alpha) (w .omega) (state (a .h) (a .vt .now) (a .et .now)))
+    subst (λ (w : EdgeWords). (a .n < 2 ^ 31) × CanRemoveEdge (a .n) (w .alpha) (w .omega) (state (a .head) (a .vertices .now) (a .edges .now)))
     (sym (c .before .before .before .before .before .before .edge-words .ensures)) (s .pre .2)
 
 returns : tie.Need-returns
@@ -25,7 +25,7 @@ returns c =
     let a = s .args in
     let e = c .before .before .before .before .before .before .before .before .before .before .before .edge-words .ensures in
     let w = subst (λ (x : EdgeWords). IsWords (x .kind) (x .decimetres)) (sym e) (s .pre .3) in
-    removal-written (state (a .h) (a .vt .now) (a .et .now)) (a .n) (a .cost) (a .i) (a .t .now) _ e _ _ (c .before .before .before .before .remove-edge .ensures)
+    removal-written (state (a .head) (a .vertices .now) (a .edges .now)) (a .n) (a .cost) (a .row) (a .journal .now) _ e _ _ (c .before .before .before .before .remove-edge .ensures)
     (rowed-by _ _ _ _ _ _ (removed-words (a .n) _ w) (c .before .before .before .before .before .before .before .before .before .put-row .ensures))
 
 pub remove-edge-spec : {M : Type 1} → statement M

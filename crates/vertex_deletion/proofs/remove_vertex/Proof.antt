@@ -1,7 +1,7 @@
 -- `vertex_deletion::remove_vertex` meets its contract.
 use mathlib.Core.Path.{refl, _∙_}
 use Rattle.graph.specs.declared.Edit.the-variants.{RemoveVertex}
-use Rattle.journal.specs.Rows.{rowed}
+use Rattle.journal.specs.Rows.{rowed, costing}
 use Rattle.journal.proofs.RowLaws.{rowed-by}
 use borrow.Author.Needs.{needs}
 use Rattle.vertex_deletion.proofs.remove_vertex.Statement.{statement}
@@ -15,7 +15,7 @@ returns c =
     let p = c .before .before .before .before .before .before .before .before .vertex-prev .ensures in
     record {
       state = c .before .before .remove-vertex .ensures;
-      row = rowed-by _ _ _ _ _ _ refl (c .before .before .before .before .before .before .put-row .ensures) ∙ (λ k. rowed (a .i) (RemoveVertex (a .n) (s k) (x k) (p k)) (a .cost) (a .t .now));
+      row = rowed-by _ _ _ _ _ _ refl (c .before .before .before .before .before .before .put-row .ensures) ∙ (λ k. rowed (a .row) (RemoveVertex (a .n) (s k) (x k) (p k)) (costing (a .cost)) (a .journal .now));
     }
 
 pub remove-vertex-spec : {M : Type 1} → statement M

@@ -15,13 +15,13 @@ use Rattle.engine.proofs.calls.each.Statement.{statement}
 use Rattle.engine.proofs.calls.each.Tie as tie
 
 abbrev Inv-loop : tie.InvT-loop
-Inv-loop vt₀ et₀ t₀ marks₀ closed types calls answers₀ n y₀ k₀ vt et t marks answers y k =
-    (k ≤ n) × (length vt ≡ length vt₀) × (length et ≡ length et₀) × (length t ≡ length t₀) × (length answers ≡ length answers₀)
-    × ((w : Parameters) → (m : Machine) → Running w y₀ (memory vt₀ et₀ t₀ marks₀) closed types m
-    → AfterCalls w m (take k (callsOf calls)) y (memory vt et t marks) closed types answers₀ answers)
+Inv-loop vertices₀ edges₀ t₀ marks₀ closed types calls answers₀ n y₀ k₀ vertices edges t marks answers y k =
+    (k ≤ n) × (length vertices ≡ length vertices₀) × (length edges ≡ length edges₀) × (length t ≡ length t₀) × (length answers ≡ length answers₀)
+    × ((w : Parameters) → (m : Machine) → Running w y₀ (memory vertices₀ edges₀ t₀ marks₀) closed types m
+    → AfterCalls w m (take k (callsOf calls)) y (memory vertices edges t marks) closed types answers₀ answers)
 
 abbrev μ-loop : tie.MeasureT-loop
-μ-loop vt₀ et₀ t₀ marks₀ closed types calls answers₀ n y₀ k₀ vt et t marks answers y k = n - k
+μ-loop vertices₀ edges₀ t₀ marks₀ closed types calls answers₀ n y₀ k₀ vertices edges t marks answers y k = n - k
 
 loop-holds : tie.Need-loop-holds Inv-loop μ-loop
 loop-holds c = (omega arith, refl, refl, refl, refl, λ w m h. after-calls-none w m _ _ _ _ _ (c .before .before .before .before .before .args .answers .now) h)

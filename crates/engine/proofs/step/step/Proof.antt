@@ -1,14 +1,14 @@
 -- `engine::step::step` meets its contract.
-use mathlib.Core.Path.{refl}
+use mathlib.Core.Path.{refl, sym}
 use Rattle.history.specs.Machine.{present}
 use Rattle.machine.specs.Calls.{boundsIn}
-use Rattle.engine.proofs.StepLaws.{holds, sized, answered-by, recall-answers, ask-answers, quote-answers, unknown-answers}
+use Rattle.engine.proofs.StepLaws.{holds, sized, answered-by, alter-answers, recall-answers, ask-answers, quote-answers, unknown-answers}
 use borrow.Author.Needs.{needs}
 use Rattle.engine.proofs.step.step.Statement.{statement}
 use Rattle.engine.proofs.step.step.Tie as tie
 
 alter-requires : tie.Need-alter-requires
-alter-requires c κs = let p = c .before .before .before .before .before .before .before .before .before .before .pre in (_, p .0, p .1, p .2)
+alter-requires c κs = let p = c .before .before .before .before .before .before .before .before .before .before .pre in (boundsIn (p .0), p .1, sym (p .2 .setting .types-in), p .2 .represents)
 
 perform-requires : tie.Need-perform-requires
 perform-requires c κs = let p = c .before .before .before .before .before .before .before .before .before .before .pre in (boundsIn (p .0), p .1, p .2 .represents)
@@ -26,7 +26,7 @@ quote-requires c κs =
     (boundsIn (p .0), _, present (p .1), sized (p .0) (p .1) _ _ _ _ (p .2), holds (p .0) (p .1) _ _ _ _ (p .2))
 
 returns : tie.Need-returns
-returns c = λ w m h. rw (c .before .before .before .before .before .before .before .before .before .before .before .before .command .given .1) (c .before .before .before .before .before .before .alter .ensures _ w m h)
+returns c = λ w m h. rw (c .before .before .before .before .before .before .before .before .before .before .before .before .command .given .1) (alter-answers w m _ _ _ _ h _ _ _ (c .before .before .before .before .before .before .alter .kept .1 .1 .1 .0) (c .before .before .before .before .before .before .alter .ensures .follows (boundsIn w) m (sym (h .setting .types-in)) (h .represents)))
 
 returns-2 : tie.Need-returns-2
 returns-2 c = λ w m h. rw (c .before .before .before .before .before .before .before .before .before .before .command2 .given .1) (recall-answers w m _ _ _ _ h _ _ _ refl (c .before .before .before .before .perform .ensures .1 (boundsIn w) m (h .represents)))

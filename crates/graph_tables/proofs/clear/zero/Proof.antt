@@ -30,10 +30,10 @@ loop-less c = simp length-set (omega arith)
 loop-again : tie.Need-loop-again Inv-loop μ-loop
 loop-again c =
     let l = c .before .loop in
-    (simp length-set (omega arith), simp length-set (l .inv .1), more (l .t) (l .i) (omega arith) (l .inv .2))
+    (simp length-set (omega arith), simp length-set (l .inv .1), more (l .table) (l .i) (omega arith) (l .inv .2))
 
 returns : tie.Need-returns Inv-loop μ-loop
-returns c = let l = c .before .loop in whole (l .t) (c .before .before .args .t .now) (l .i) (l .inv .1) (omega arith) (omega arith) (l .inv .2)
+returns c = let l = c .before .loop in whole (l .table) (c .before .before .args .table .now) (l .i) (l .inv .1) (omega arith) (omega arith) (l .inv .2)
 
 pub zero-spec : {M : Type 1} → statement M
 zero-spec = tie.close (tie.spec Inv-loop μ-loop (λ c. search needs) (λ c. search needs) (λ c. search needs) (λ c. search needs) loop-less loop-again (λ c. search needs) returns)

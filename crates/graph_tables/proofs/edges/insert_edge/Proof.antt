@@ -10,14 +10,14 @@ attach-requires : tie.Need-attach-requires
 attach-requires c κs =
     let p = c .before .before .before .before .before in
     let s = c .before .before .before .before .before .before .before .before .before .before in
-    attach-by (s .args .x .alpha) (s .args .at .out) (2 * s .args .x .number) (p .place-edge .ensures) (s .pre .1 .out)
+    attach-by (s .args .edge .alpha) (s .args .at .out) (2 * s .args .edge .number) (p .place-edge .ensures) (s .pre .1 .out)
 
 attach-requires-2 : tie.Need-attach-requires-2
 attach-requires-2 c κs =
     let a = c .before .before .before .before .before .before .before in
     let p = c .before .before .before .before .before .before .before .before .before .before .before .before .before in
     let s = c .before .before .before .before .before .before .before .before .before .before .before .before .before .before .before .before .before .before in
-    let x = s .args .x in
+    let x = s .args .edge in
     attach-by (x .omega) (s .args .at .into) (2 * x .number + 1) (two (attachS (x .alpha) (s .args .at .out) (2 * x .number)) (p .place-edge .ensures) (a .attach .ensures)) (s .pre .1 .into)
 
 returns : tie.Need-returns
@@ -27,7 +27,7 @@ returns c =
     let a = c .before .before .before .before .before .before .before .before .before .before .before .before in
     let p = c .before .before .before .before .before .before .before .before .before .before .before .before .before .before .before .before .before .before in
     let s = c .before .before .before .before .before .before .before .before .before .before .before .before .before .before .before .before .before .before .before .before .before .before .before in
-    let x = s .args .x in
+    let x = s .args .edge in
     three (placeEdgeS (x .number) (x .alpha) (x .omega) (x .sort) (x .reading) (s .args .at .order)) (attachS (x .alpha) (s .args .at .out) (2 * x .number)) (attachS (x .omega) (s .args .at .into) (2 * x .number + 1))
     (p .place-edge .ensures) (a .attach .ensures) (a2 .attach2 .ensures)
 

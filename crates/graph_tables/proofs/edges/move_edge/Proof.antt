@@ -7,7 +7,7 @@ use Rattle.graph_tables.proofs.edges.move_edge.Tie as tie
 returns : tie.Need-returns
 returns c =
     let s = c .before .before .before .before .before .before in
-    edge-moved (s .args .head) (s .args .vt .now) (s .args .et .now) (s .args .n) (s .args .p) (c .before .before .relink .ensures)
+    edge-moved (s .args .head) (s .args .vertices .now) (s .args .edges .now) (s .args .n) (s .args .p) (c .before .before .relink .ensures)
 
 pub move-edge-spec : {M : Type 1} → statement M
 move-edge-spec = tie.close (tie.spec (λ c κs. search needs) (λ c. search needs) returns)

@@ -7,8 +7,8 @@ use Rattle.graph_tables.proofs.edges.place_edge.Tie as tie
 returns : tie.Need-returns
 returns c =
     let s = c .before .before .before .before .before .before .before .before .before .before .before .before .before .before .before in
-    let x = s .args .x in
-    edge-placed (s .args .head) (s .args .vt .now) (s .args .et .now) (x .number) (x .alpha) (x .omega) (x .sort) (x .reading) (s .args .p) (c .before .before .before .before .before .before .before .before .before .before .before .insert-after .ensures) (c .before .before .before .before .before .before .before .put-edge .ensures) (c .before .before .before .put-this .ensures)
+    let x = s .args .edge in
+    edge-placed (s .args .head) (s .args .vertices .now) (s .args .edges .now) (x .number) (x .alpha) (x .omega) (x .sort) (x .reading) (s .args .p) (c .before .before .before .before .before .before .before .before .before .before .before .insert-after .ensures) (c .before .before .before .before .before .before .before .put-edge .ensures) (c .before .before .before .put-this .ensures)
 
 pub place-edge-spec : {M : Type 1} → statement M
 place-edge-spec =

@@ -8,7 +8,7 @@ returns : tie.Need-returns
 unfolding setEdgeS
 returns c =
     let s = c .before .before .before .before .before .before in
-    λ i. state (s .args .head) (s .args .vt .now) (c .before .before .put-edge .ensures i)
+    λ i. state (s .args .head) (s .args .vertices .now) (c .before .before .put-edge .ensures i)
 
 pub set-edge-spec : {M : Type 1} → statement M
 set-edge-spec = tie.close (tie.spec (λ c κs. search needs) (λ c. search needs) returns)

@@ -15,7 +15,7 @@ insert-after-requires c κs =
 returns : tie.Need-returns
 returns c =
     let s = c .before .before .before .before .before .before .before .before .before .before .before .before in
-    attached (s .args .head) (s .args .vt .now) (s .args .et .now) (s .args .v) (s .args .p) (s .args .w) (c .before .before .before .before .before .before .before .before .ends-of .ensures) (c .before .before .before .before .before .before .insert-after .ensures) (c .before .before .put-ends .ensures)
+    attached (s .args .head) (s .args .vertices .now) (s .args .edges .now) (s .args .v) (s .args .p) (s .args .w) (c .before .before .before .before .before .before .before .before .ends-of .ensures) (c .before .before .before .before .before .before .insert-after .ensures) (c .before .before .put-ends .ensures)
 
 pub attach-spec : {M : Type 1} → statement M
 attach-spec =

@@ -9,12 +9,12 @@ unlink-requires : tie.Need-unlink-requires
 unlink-requires c κs =
     let e = c .before in
     let s = e .before .before .before .before in
-    unlink-by incidenceLinks (s .args .et .now) (s .args .w) (e .ends-of .ensures) (s .pre .out)
+    unlink-by incidenceLinks (s .args .edges .now) (s .args .w) (e .ends-of .ensures) (s .pre .out)
 
 returns : tie.Need-returns
 returns c =
     let s = c .before .before .before .before .before .before .before .before .before .before .before .before in
-    detached (s .args .head) (s .args .vt .now) (s .args .et .now) (s .args .v) (s .args .w) (c .before .before .before .before .before .before .before .before .ends-of .ensures) (c .before .before .before .before .before .before .unlink .ensures) (c .before .before .put-ends .ensures)
+    detached (s .args .head) (s .args .vertices .now) (s .args .edges .now) (s .args .v) (s .args .w) (c .before .before .before .before .before .before .before .before .ends-of .ensures) (c .before .before .before .before .before .before .unlink .ensures) (c .before .before .put-ends .ensures)
 
 pub detach-spec : {M : Type 1} → statement M
 detach-spec =

@@ -6,19 +6,19 @@ use borrow.Author.Needs.{needs}
 use Rattle.graph_tables.proofs.rows.put_edge.Statement.{statement}
 use Rattle.graph_tables.proofs.rows.put_edge.Tie as tie
 
-slice-write-et-2 : tie.Need-slice-write-et-2
-slice-write-et-2 c = simp length-set (omega arith)
+slice-write-edges-2 : tie.Need-slice-write-edges-2
+slice-write-edges-2 c = simp length-set (omega arith)
 
-slice-write-et-3 : tie.Need-slice-write-et-3
-slice-write-et-3 c = simp length-set (omega arith)
+slice-write-edges-3 : tie.Need-slice-write-edges-3
+slice-write-edges-3 c = simp length-set (omega arith)
 
-slice-write-et-4 : tie.Need-slice-write-et-4
-slice-write-et-4 c = simp length-set (omega arith)
+slice-write-edges-4 : tie.Need-slice-write-edges-4
+slice-write-edges-4 c = simp length-set (omega arith)
 
 returns : tie.Need-returns
 returns c =
     let s = c .before .before .before in
-    edge-row-by (s .args .e) (s .args .live) (s .args .sort) (s .args .r) (s .args .et .now) (c .before .kind-of .ensures) (c .decimetres-of .ensures)
+    edge-row-by (s .args .e) (s .args .live) (s .args .sort) (s .args .reading) (s .args .edges .now) (c .before .kind-of .ensures) (c .decimetres-of .ensures)
 
 pub put-edge-spec : {M : Type 1} → statement M
 put-edge-spec =
@@ -33,12 +33,12 @@ put-edge-spec =
     (λ c. search needs)
     (λ c. search needs)
     (λ c. search needs)
-    slice-write-et-2
+    slice-write-edges-2
     (λ c. search needs)
     (λ c. search needs)
-    slice-write-et-3
+    slice-write-edges-3
     (λ c. search needs)
     (λ c. search needs)
-    slice-write-et-4
+    slice-write-edges-4
     (λ c. search needs)
     returns)

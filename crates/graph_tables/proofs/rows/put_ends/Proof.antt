@@ -7,8 +7,8 @@ use borrow.Author.Needs.{needs}
 use Rattle.graph_tables.proofs.rows.put_ends.Statement.{statement}
 use Rattle.graph_tables.proofs.rows.put_ends.Tie as tie
 
-slice-write-vt-2 : tie.Need-slice-write-vt-2
-slice-write-vt-2 c = simp length-set (omega arith)
+slice-write-vertices-2 : tie.Need-slice-write-vertices-2
+slice-write-vertices-2 c = simp length-set (omega arith)
 
 returns : tie.Need-returns
 unfolding putEnds
@@ -25,6 +25,6 @@ put-ends-spec =
     (λ c. search needs)
     (λ c. search needs)
     (λ c. search needs)
-    slice-write-vt-2
+    slice-write-vertices-2
     (λ c. search needs)
     returns)

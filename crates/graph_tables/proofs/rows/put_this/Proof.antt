@@ -7,8 +7,8 @@ use borrow.Author.Needs.{needs}
 use Rattle.graph_tables.proofs.rows.put_this.Statement.{statement}
 use Rattle.graph_tables.proofs.rows.put_this.Tie as tie
 
-slice-write-et-2 : tie.Need-slice-write-et-2
-slice-write-et-2 c = simp length-set (omega arith)
+slice-write-edges-2 : tie.Need-slice-write-edges-2
+slice-write-edges-2 c = simp length-set (omega arith)
 
 returns : tie.Need-returns
 unfolding thisET
@@ -29,6 +29,6 @@ put-this-spec =
     (λ c. search needs)
     (λ c. search needs)
     (λ c. search needs)
-    slice-write-et-2
+    slice-write-edges-2
     (λ c. search needs)
     returns)

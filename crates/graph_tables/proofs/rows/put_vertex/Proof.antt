@@ -7,11 +7,11 @@ use borrow.Author.Needs.{needs}
 use Rattle.graph_tables.proofs.rows.put_vertex.Statement.{statement}
 use Rattle.graph_tables.proofs.rows.put_vertex.Tie as tie
 
-slice-write-vt-2 : tie.Need-slice-write-vt-2
-slice-write-vt-2 c = simp length-set (omega arith)
+slice-write-vertices-2 : tie.Need-slice-write-vertices-2
+slice-write-vertices-2 c = simp length-set (omega arith)
 
-slice-write-vt-3 : tie.Need-slice-write-vt-3
-slice-write-vt-3 c = simp length-set (omega arith)
+slice-write-vertices-3 : tie.Need-slice-write-vertices-3
+slice-write-vertices-3 c = simp length-set (omega arith)
 
 returns : tie.Need-returns
 unfolding rowVT
@@ -28,9 +28,9 @@ put-vertex-spec =
     (λ c. search needs)
     (λ c. search needs)
     (λ c. search needs)
-    slice-write-vt-2
+    slice-write-vertices-2
     (λ c. search needs)
     (λ c. search needs)
-    slice-write-vt-3
+    slice-write-vertices-3
     (λ c. search needs)
     returns)

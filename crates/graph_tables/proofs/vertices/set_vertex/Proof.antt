@@ -8,7 +8,7 @@ returns : tie.Need-returns
 unfolding setVertexS
 returns c =
     let s = c .before .before .before .before .before .before in
-    λ i. state (s .args .head) (c .before .before .put-vertex .ensures i) (s .args .et .now)
+    λ i. state (s .args .head) (c .before .before .put-vertex .ensures i) (s .args .edges .now)
 
 pub set-vertex-spec : {M : Type 1} → statement M
 set-vertex-spec = tie.close (tie.spec (λ c κs. search needs) (λ c. search needs) returns)

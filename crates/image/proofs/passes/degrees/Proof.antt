@@ -3,16 +3,17 @@ use Prim.Native.Nat.{_+_, _-_, _*_, _≤_}
 use mathlib.Core.Path.{_≡_, sym, _∙_}
 use native.Mathlib.Omega.{arith}
 use borrow.Author.Needs.{needs}
-use lib.ListN.{drop}
+use lib.ListN.{length, drop}
 use Rattle.image.specs.Scratch.{degreeRun}
 use Rattle.image.proofs.DegreePass.{old-run}
-use Rattle.image.proofs.Turns.{degree-at, degree-stop, degree-go, degree-end}
+use Rattle.image.proofs.Turns.{degree-at, degree-stop, degree-go, degree-end, row-next}
 use Rattle.image.proofs.passes.degrees.Statement.{statement}
 use Rattle.image.proofs.passes.degrees.Tie as tie
 
 abbrev Inv-loop : tie.InvT-loop
 Inv-loop part size count deg i₀ at₀ i at =
     (i ≤ count) × (at ≤ 4 * i) × (degreeRun size deg (count - i) (drop at part) (6 + at) ≡ degreeRun size deg count part 6)
+    × (at + size * (count - i) ≡ length part)
 
 abbrev μ-loop : tie.MeasureT-loop
 μ-loop part size count deg i₀ at₀ i at = count - i
@@ -26,17 +27,24 @@ loop-holds : tie.Need-loop-holds Inv-loop μ-loop
 loop-holds c =
     let a = c .before .before .before .args in
     let e : a .count - 0 ≡ a .count = omega arith in
-    (omega arith, omega arith, rw e)
+    (omega arith, omega arith, rw e, rw e (omega (arith, c .before .before .before .pre .2)))
+
+-- the record is in the part
+row : (c : tie.In-loop Inv-loop μ-loop) → c .before .loop .at + 4 ≤ length (c .before .before .before .before .before .args .part .now)
+row c =
+    let s = c .before .before .before .before .before in
+    let l = c .before .loop in
+    omega (arith, row-next (s .args .count) (l .i) (s .args .part .now) 6 (l .at) (c .loop-test .taken) (s .args .size) (length (s .args .part .now)) (l .inv .3), c .before .before .if1 .left)
 
 returns-2 : tie.Need-returns-2 Inv-loop μ-loop
 returns-2 c =
     let s = c .before .before .before .before .before .before .before .before .before .before in
     let a = s .args in
     let l = c .before .before .before .before .before .before .loop in
-    let w = c .before .before .before .before .word in
+    let w = c .before .before .before .before .index in
     let g = c .before .before .before .get in
     let d = c .before .before .less-one in
-    let x = c .before .get2 in
+    let x = c .before .read in
     let four : a .size ≡ 4 = omega (arith, s .pre .0, c .before .before .before .before .before .before .before .if1 .left) in
     let degree = degree-at (a .deg .now) (a .part .now) (l .at) (w .result) (g .result) (d .result) (w .ensures .0) (g .ensures) (d .ensures) in
     degree-stop (a .count) (l .i) (a .part .now) 6 (l .at) (omega (arith, c .before .before .before .before .before .loop-test)) (a .size) four (a .deg .now) (d .result) (x .result) degree (x .ensures) (c .if2 .taken)
@@ -47,16 +55,17 @@ loop-again c =
     let s = c .before .before .before .before .before .before .before .before .before .before in
     let a = s .args in
     let l = c .before .before .before .before .before .before .loop in
-    let w = c .before .before .before .before .word in
+    let w = c .before .before .before .before .index in
     let g = c .before .before .before .get in
     let d = c .before .before .less-one in
-    let x = c .before .get2 in
+    let x = c .before .read in
     let four : a .size ≡ 4 = omega (arith, s .pre .0, c .before .before .before .before .before .before .before .if1 .left) in
     let degree = degree-at (a .deg .now) (a .part .now) (l .at) (w .result) (g .result) (d .result) (w .ensures .0) (g .ensures) (d .ensures) in (
       omega (arith, c .before .before .before .before .before .loop-test),
       omega (arith, l .inv .1, s .pre .0),
       degree-go (a .count) (l .i) (a .part .now) 6 (l .at) (omega (arith, c .before .before .before .before .before .loop-test)) (a .size) four (a .deg .now) (d .result) (x .result) degree (x .ensures) (c .if2 .left)
           ∙ l .inv .2,
+      row-next (a .count) (l .i) (a .part .now) 6 (l .at) (omega (arith, c .before .before .before .before .before .loop-test)) (a .size) (length (a .part .now)) (l .inv .3),
     )
 
 returns-3 : tie.Need-returns-3 Inv-loop μ-loop
@@ -73,11 +82,11 @@ degrees-spec =
     μ-loop
     returns
     loop-holds
-    (λ c κs. search needs)
+    (λ c κs. omega (arith, row c))
     (λ c κs. search needs)
     (λ c κs. search needs)
     (λ c. omega arith)
-    (λ c κs. search needs)
+    (λ c κs. omega (arith, row (c .before .before .before)))
     (λ c. omega arith)
     (λ c. omega arith)
     (λ c. omega arith)

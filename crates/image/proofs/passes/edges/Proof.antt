@@ -6,7 +6,7 @@ use native.Mathlib.Omega.{arith}
 use borrow.Author.Needs.{needs}
 use lib.ListN.{length, drop}
 use Rattle.image.specs.Scratch.{NoneAbove, edgeRun, edgeDegrees, edgeOwners}
-use Rattle.image.proofs.Turns.{edge-stop, edge-go, degrees-go, owners-go, edge-end, good-at, below-ends, below-more}
+use Rattle.image.proofs.Turns.{edge-stop, edge-go, degrees-go, owners-go, edge-end, edge-in, below-ends, below-more}
 use Rattle.image.proofs.passes.edges.Statement.{statement}
 use Rattle.image.proofs.passes.edges.Tie as tie
 use Rattle.image.proofs.Verdicts.{record-not}
@@ -28,6 +28,12 @@ loop-holds c =
     let z : a .from + 0 ≡ a .from = omega arith in
     (omega arith, omega arith, refl, refl, c .before .before .before .pre .3, rw (e, z), rw e, rw e)
 
+edge-good-requires : tie.Need-edge-good-requires Inv-loop μ-loop
+edge-good-requires c κs =
+    let p = c .before .before .before .before .before .before .before .pre in
+    let l = c .before .before .before .loop in
+    (omega arith, omega (arith, p .4), omega (arith, p .2, l .inv .3))
+
 returns : tie.Need-returns Inv-loop μ-loop
 returns c =
     let a = c .before .before .before .before .before .before .before .before .before .args in
@@ -39,10 +45,15 @@ edge-enter-requires : tie.Need-edge-enter-requires Inv-loop μ-loop
 edge-enter-requires c κs =
     let a = c .before .before .before .before .before .before .before .before .before .before .before .args in
     let l = c .before .before .before .before .before .before .before .loop in
-    let g = c .before .before .before .edge-good in (
+    let g = c .before .before .before .edge-good in
+    let p = c .before .before .before .before .before .before .before .before .before .before .before .pre in
+    let r = edge-in (a .cap) (a .types) (l .deg) (l .own) (a .part .now) (l .at) (g .result) (g .ensures) (c .before .before .if1 .left) in (
       omega arith,
-      omega (arith, good-at (a .cap) (a .types) (l .deg) (l .own) (a .part .now) (l .at) (g .result) (g .ensures) (c .before .before .if1 .left)),
+      omega (arith, r .number, p .2, l .inv .3),
       below-more (1 + l .at) 900000 (l .deg) (omega arith) (l .inv .4),
+      omega (arith, p .4),
+      r .alpha,
+      r .omega,
     )
 
 loop-again : tie.Need-loop-again Inv-loop μ-loop
@@ -76,7 +87,7 @@ edges-spec =
     Inv-loop
     μ-loop
     loop-holds
-    (λ c κs. omega arith)
+    edge-good-requires
     (λ c. omega arith)
     (λ c. omega arith)
     (λ c. omega arith)

@@ -10,12 +10,24 @@ use Rattle.image.proofs.passes.enter.Statement.{statement}
 use Rattle.image.proofs.passes.enter.Tie as tie
 
 bump-requires : tie.Need-bump-requires
-bump-requires c κs = omega (arith, c .before .before .before .before .pre .1 (c .wide .result))
+bump-requires c κs =
+    let s = c .before .before .before .before in
+    (omega (arith, c .wide .ensures .0, s .pre .2), omega (arith, s .pre .1 (c .wide .result)))
 
 bump-requires-2 : tie.Need-bump-requires-2
 bump-requires-2 c κs =
-    subst (λ (l : List ℕ). getD l (c .wide2 .result) 0 < 1000000) (sym (c .before .before .before .before .bump .ensures))
-    (omega (arith, below-bump 900000 (c .before .before .before .before .before .before .before .before .before .args .deg .now) (c .before .before .before .before .before .wide .result) (c .before .before .before .before .before .before .before .before .before .pre .1) (c .wide2 .result)))
+    let s = c .before .before .before .before .before .before .before .before .before in
+    let p = c .before .before .before .before .bump in (
+      omega (arith, c .wide2 .ensures .0, s .pre .3, p .kept),
+      subst (λ (l : List ℕ). getD l (c .wide2 .result) 0 < 1000000) (sym (p .ensures))
+          (omega (arith, below-bump 900000 (s .args .deg .now) (c .before .before .before .before .before .wide .result) (s .pre .1) (c .wide2 .result))),
+    )
+
+write-requires : tie.Need-write-requires
+write-requires c κs = omega (arith, c .before .wide3 .ensures .0, c .before .before .before .before .before .before .before .before .before .before .before .before .before .before .pre .0)
+
+write-requires-2 : tie.Need-write-requires-2
+write-requires-2 c κs = omega (arith, c .before .before .before .before .before .wide3 .ensures .0, c .before .before .before .before .before .before .before .before .before .before .before .before .before .before .before .before .before .before .pre .0, c .before .before .before .write .kept)
 
 returns : tie.Need-returns
 returns c =
@@ -25,8 +37,8 @@ returns c =
     let x = c .before .before .before .before .before .before .before .before .before .before .before .before .wide2 in
     let q = c .before .before .before .before .before .before .before .before .before .before .before .bump2 in
     let y = c .before .before .before .before .before .before .before .before .wide3 in
-    let r = c .before .before .before .before .before .before .put in
-    let s = c .before .before .put2 in (
+    let r = c .before .before .before .before .before .before .write in
+    let s = c .before .before .write2 in (
       ends-by (a .deg .now) (p .last .0) (q .last .0) (a .a) (a .o) (w .result) (x .result) (w .ensures .0) (p .ensures) (x .ensures .0) (q .ensures),
       owned-by (a .own .now) (r .last .0) (s .last .0) (a .n) (a .a) (a .o) (y .result) (y .ensures .0) (r .ensures) (s .ensures),
     )
@@ -41,9 +53,9 @@ enter-spec =
     bump-requires-2
     (λ c κs. search needs)
     (λ c. search needs)
-    (λ c κs. search needs)
+    write-requires
     (λ c. search needs)
-    (λ c κs. search needs)
+    write-requires-2
     (λ c. search needs)
     (λ c. search needs)
     returns)

@@ -5,7 +5,7 @@ use native.Mathlib.Omega.{arith}
 use borrow.Author.Needs.{needs}
 use lib.ListN.{length, drop, length-drop}
 use Rattle.image.specs.Scratch.{incidenceRun}
-use Rattle.image.proofs.Turns.{degree-by, list-by, incidence-stop, incidence-go, incidence-more, incidence-done, list-le}
+use Rattle.image.proofs.Turns.{degree-by, list-by, incidence-stop, incidence-go, incidence-more, incidence-done, list-le, row-next}
 use Rattle.image.proofs.passes.incidences.Statement.{statement}
 use Rattle.image.proofs.passes.incidences.Tie as tie
 
@@ -13,6 +13,7 @@ abbrev Inv-loop : tie.InvT-loop
 Inv-loop vs size count part from deg own₀ i₀ row₀ at₀ own i row at =
     (i ≤ count) × (row ≤ 4 * i) × (at ≤ length part) × (length own ≡ length own₀)
     × (incidenceRun size deg own (count - i) (drop row vs) (drop at part) (from + at) ≡ incidenceRun size deg own₀ count vs part from)
+    × (row + size * (count - i) ≡ length vs)
 
 abbrev μ-loop : tie.MeasureT-loop
 μ-loop vs size count part from deg own₀ i₀ row₀ at₀ own i row at = count - i
@@ -22,15 +23,22 @@ loop-holds c =
     let a = c .before .before .before .before .args in
     let e : a .count - 0 ≡ a .count = omega arith in
     let z : a .from + 0 ≡ a .from = omega arith in
-    (omega arith, omega arith, omega arith, refl, rw (e, z))
+    (omega arith, omega arith, omega arith, refl, rw (e, z), rw e (omega (arith, c .before .before .before .before .pre .5)))
+
+-- the record is in its part
+read-requires : tie.Need-read-requires Inv-loop μ-loop
+read-requires c κs =
+    let s = c .before .before .before .before .before .before in
+    let l = c .before .loop in
+    omega (arith, row-next (s .args .count) (l .i) (s .args .vs .now) (s .args .from) (l .row) (c .loop-test .taken) (s .args .size) (length (s .args .vs .now)) (l .inv .5), s .pre .4)
 
 add-t21 : tie.Need-add-t21 Inv-loop μ-loop
 add-t21 c =
     let a = c .before .before .before .before .before .before .before .before .before .before .before .before .before .before .before .args in
     let l = c .before .before .before .before .before .before .before .before .before .before .loop in
-    let v = c .before .before .before .before .before .before .before .before .get in
+    let v = c .before .before .before .before .before .before .before .before .read in
     let w = c .before .before .before .before .before .before .before .wide in
-    let x = c .before .before .before .before .before .before .get2 in
+    let x = c .before .before .before .before .before .before .get in
     let d = c .before .before .before .before .before .less-one in
     let f = c .before .before .before .list in
     let e = list-le (v .result) (d .result) (l .own) (drop (l .at) (a .part .now)) in
@@ -41,9 +49,9 @@ returns : tie.Need-returns Inv-loop μ-loop
 returns c =
     let a = c .before .before .before .before .before .before .before .before .before .before .before .before .before .before .before .args in
     let l = c .before .before .before .before .before .before .before .before .before .before .loop in
-    let v = c .before .before .before .before .before .before .before .before .get in
+    let v = c .before .before .before .before .before .before .before .before .read in
     let w = c .before .before .before .before .before .before .before .wide in
-    let x = c .before .before .before .before .before .before .get2 in
+    let x = c .before .before .before .before .before .before .get in
     let d = c .before .before .before .before .before .less-one in
     let f = c .before .before .before .list in
     let deg = degree-by (a .deg .now) (a .vs .now) (l .row) (v .result) (w .result) (x .result) (d .result) (v .ensures) (w .ensures .0) (x .ensures) (d .ensures) in
@@ -56,9 +64,9 @@ add-at : tie.Need-add-at Inv-loop μ-loop
 add-at c =
     let a = c .before .before .before .before .before .before .before .before .before .before .before .before .before .before .before .before .args in
     let l = c .before .before .before .before .before .before .before .before .before .before .before .loop in
-    let v = c .before .before .before .before .before .before .before .before .before .get in
+    let v = c .before .before .before .before .before .before .before .before .before .read in
     let w = c .before .before .before .before .before .before .before .before .wide in
-    let x = c .before .before .before .before .before .before .before .get2 in
+    let x = c .before .before .before .before .before .before .before .get in
     let d = c .before .before .before .before .before .before .less-one in
     let f = c .before .before .before .before .list in
     let e = list-le (v .result) (d .result) (l .own) (drop (l .at) (a .part .now)) in
@@ -69,9 +77,9 @@ loop-again : tie.Need-loop-again Inv-loop μ-loop
 loop-again c =
     let a = c .before .before .before .before .before .before .before .before .before .before .before .before .before .before .before .before .args in
     let l = c .before .before .before .before .before .before .before .before .before .before .before .loop in
-    let v = c .before .before .before .before .before .before .before .before .before .get in
+    let v = c .before .before .before .before .before .before .before .before .before .read in
     let w = c .before .before .before .before .before .before .before .before .wide in
-    let x = c .before .before .before .before .before .before .before .get2 in
+    let x = c .before .before .before .before .before .before .before .get in
     let d = c .before .before .before .before .before .before .less-one in
     let f = c .before .before .before .before .list in
     let deg = degree-by (a .deg .now) (a .vs .now) (l .row) (v .result) (w .result) (x .result) (d .result) (v .ensures) (w .ensures .0) (x .ensures) (d .ensures) in
@@ -88,6 +96,7 @@ loop-again c =
       omega (arith, f .ensures .0, e .1, m, l .inv .2, full, u .ensures .0),
       omega (arith, f .kept, l .inv .3),
       rw (u .ensures .0, f .ensures .1 full) (go ∙ l .inv .4),
+      row-next (a .count) (l .i) (a .vs .now) (a .from) (l .row) (omega (arith, turn)) (a .size) (length (a .vs .now)) (l .inv .5),
     )
 
 returns-2 : tie.Need-returns-2 Inv-loop μ-loop
@@ -109,7 +118,7 @@ incidences-spec =
     Inv-loop
     μ-loop
     loop-holds
-    (λ c κs. search needs)
+    read-requires
     (λ c κs. search needs)
     (λ c κs. search needs)
     (λ c κs. search needs)

@@ -6,8 +6,8 @@ use Rattle.image.proofs.words.bump.Tie as tie
 
 returns : tie.Need-returns
 returns c =
-    let g = c .before .before .before .before .get in
-    let p = c .before .before .put in
+    let g = c .before .before .before .before .read in
+    let p = c .before .before .write in
     bump-by (c .before .before .before .before .before .before .before .args .s .now) (p .last .0) (c .before .before .before .before .before .before .before .args .i) (g .result) (g .ensures) (p .ensures)
 
 pub bump-spec : {M : Type 1} → statement M

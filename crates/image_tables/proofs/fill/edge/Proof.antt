@@ -1,5 +1,4 @@
 -- `image_tables::fill::edge` meets its contract.
-use Rattle.graph_tables.specs.Tables.{state}
 use Rattle.image_tables.proofs.FillOrders.{edge-did}
 use borrow.Author.Needs.{needs}
 use Rattle.image_tables.proofs.fill.edge.Statement.{statement}
@@ -7,10 +6,11 @@ use Rattle.image_tables.proofs.fill.edge.Tie as tie
 
 returns : tie.Need-returns
 returns c =
-    let d = c .before .before in
-    let r = d .before .before .before .before .before .before in
-    let a = r .before .before .before .before .before .before .args in
-    edge-did (a .part .now) (a .at) (state (a .head) (a .vt .now) (a .et .now)) (d .place-edge .ensures) (r .reading-of .ensures)
+    let t = c .before .before .before in
+    let f = t .before .before .before .before .before .before in
+    let a = f .before .before .before .before .before .before .before in
+    let s = a .before .before .before .before .before .before .args in
+    edge-did (s .part .now) (s .at) (s .head) (s .vertices .now) (s .edges .now) (a .append .ensures) (f .fields .ensures) (t .put-this .ensures)
 
 pub edge-spec : {M : Type 1} → statement M
 edge-spec =
@@ -18,6 +18,12 @@ edge-spec =
     (tie.spec
     (λ c. search needs)
     (λ c. search needs)
+    (λ c κs. search needs)
+    (λ c. search needs)
+    (λ c. search needs)
+    (λ c. search needs)
+    (λ c. search needs)
+    (λ c. search needs)
     (λ c. search needs)
     (λ c. search needs)
     (λ c. search needs)
@@ -29,11 +35,7 @@ edge-spec =
     (λ c. search needs)
     (λ c. search needs)
     (λ c. search needs)
-    (λ c. search needs)
-    (λ c. search needs)
-    (λ c. search needs)
-    (λ c. search needs)
-    (λ c. search needs)
     (λ c κs. search needs)
+    (λ c. search needs)
     (λ c. search needs)
     returns)

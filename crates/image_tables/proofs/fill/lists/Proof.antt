@@ -18,29 +18,29 @@ use Rattle.image_tables.proofs.fill.lists.Statement.{statement}
 use Rattle.image_tables.proofs.fill.lists.Tie as tie
 
 abbrev Inv-loop : tie.InvT-loop
-Inv-loop head words vt₀ et₀ part at₀ vt et at =
-    (length vt ≡ length vt₀) × (length et ≡ length et₀)
-    × Fill (λ x. x ∷ []) (WCore (load words)) (concatMap incidencesOf (load words .vseq)) part (state head vt et) at
+Inv-loop head words vertices₀ edges₀ part at₀ vertices edges at =
+    (length vertices ≡ length vertices₀) × (length edges ≡ length edges₀)
+    × Fill (λ x. x ∷ []) (WCore (load words)) (concatMap incidencesOf (load words .vseq)) part (state head vertices edges) at
 
 abbrev μ-loop : tie.MeasureT-loop
-μ-loop head words vt₀ et₀ part at₀ vt et at = length part - at
+μ-loop head words vertices₀ edges₀ part at₀ vertices edges at = length part - at
 
 loop-holds : tie.Need-loop-holds Inv-loop μ-loop
 loop-holds c =
     let s = c .before .before .before .before in
-    let k = given (s .args .words .now) (s .args .vt .now) (s .args .et .now) (s .pre .0) in (
+    let k = given (s .args .words .now) (s .args .vertices .now) (s .args .edges .now) (s .pre .0) in (
       refl,
       refl,
-      fill-start (λ x. x ∷ []) (WCore (load (s .args .words .now))) (concatMap incidencesOf (load (s .args .words .now) .vseq)) (c .part .result .now) (state (s .args .head) (s .args .vt .now) (s .args .et .now)) (c .part .ensures .0 ∙ k .lists ∙ sym (each-one _)) (s .pre .1),
+      fill-start (λ x. x ∷ []) (WCore (load (s .args .words .now))) (concatMap incidencesOf (load (s .args .words .now) .vseq)) (c .part .result .now) (state (s .args .head) (s .args .vertices .now) (s .args .edges .now)) (c .part .ensures .0 ∙ k .lists ∙ sym (each-one _)) (s .pre .1),
     )
 
 -- what is known in a turn
 turn : (c : tie.In-loop Inv-loop μ-loop) → let s = c .before .before .before .before .before .before in let l = c .before .loop in
-    Turn (λ x. x ∷ []) (WCore (load (s .args .words .now))) (concatMap incidencesOf (load (s .args .words .now) .vseq)) (c .before .before .part .result .now) (state (s .args .head) (l .vt) (l .et)) (l .at)
+    Turn (λ x. x ∷ []) (WCore (load (s .args .words .now))) (concatMap incidencesOf (load (s .args .words .now) .vseq)) (c .before .before .part .result .now) (state (s .args .head) (l .vertices) (l .edges)) (l .at)
 turn c =
     let s = c .before .before .before .before .before .before in
     let l = c .before .loop in
-    fill-turn (λ x. x ∷ []) (WCore (load (s .args .words .now))) (concatMap incidencesOf (load (s .args .words .now) .vseq)) (c .before .before .part .result .now) (state (s .args .head) (l .vt) (l .et)) (l .at) (l .inv .2) (c .loop-test .taken)
+    fill-turn (λ x. x ∷ []) (WCore (load (s .args .words .now))) (concatMap incidencesOf (load (s .args .words .now) .vseq)) (c .before .before .part .result .now) (state (s .args .head) (l .vertices) (l .edges)) (l .at) (l .inv .2) (c .loop-test .taken)
 
 mul-word : tie.Need-mul-word Inv-loop μ-loop
 mul-word c = omega (arith, c .before .before .loop-test .taken)
@@ -53,7 +53,7 @@ word-requires c κs =
     let d = c .before .before .before in
     let s = d .before .before .before .before .before .before in
     let l = d .before .loop in
-    turn-can (s .args .words .now) (s .args .vt .now) (s .args .et .now) (s .pre .0) (d .before .before .part .result .now) (state (s .args .head) (l .vt) (l .et)) (l .at) (turn d)
+    turn-can (s .args .words .now) (s .args .vertices .now) (s .args .edges .now) (s .pre .0) (d .before .before .part .result .now) (state (s .args .head) (l .vertices) (l .edges)) (l .at) (turn d)
 
 add-at : tie.Need-add-at Inv-loop μ-loop
 add-at c = omega (arith, c .before .before .before .before .before .before .before .before .loop-test .taken)
@@ -69,7 +69,7 @@ loop-again c =
     let l = d .before .loop in (
       omega (arith, e .word .kept, l .inv .0),
       omega (arith, e .word .kept, l .inv .1),
-      turn-next (s .args .words .now) (s .args .vt .now) (s .args .et .now) (s .pre .0) (d .before .before .part .result .now) (state (s .args .head) (l .vt) (l .et)) (l .at) (turn d) _ (e .word .ensures),
+      turn-next (s .args .words .now) (s .args .vertices .now) (s .args .edges .now) (s .pre .0) (d .before .before .part .result .now) (state (s .args .head) (l .vertices) (l .edges)) (l .at) (turn d) _ (e .word .ensures),
     )
 
 returns : tie.Need-returns Inv-loop μ-loop
@@ -77,8 +77,8 @@ returns c =
     let s = c .before .before .before .before .before .before in
     let l = c .before .loop in
     let g = load (s .args .words .now) in
-    subst (λ (vs : List Vertex). Core (state (s .args .head) (l .vt) (l .et)) vs (g .eseq)) (filled-all g (given (s .args .words .now) (s .args .vt .now) (s .args .et .now) (s .pre .0) .formed))
-    (fill-end (λ x. x ∷ []) (WCore (load (s .args .words .now))) (concatMap incidencesOf (load (s .args .words .now) .vseq)) (c .before .before .part .result .now) (state (s .args .head) (l .vt) (l .et)) (l .at) (λ x. omega arith) (l .inv .2) (c .loop-test .left))
+    subst (λ (vs : List Vertex). Core (state (s .args .head) (l .vertices) (l .edges)) vs (g .eseq)) (filled-all g (given (s .args .words .now) (s .args .vertices .now) (s .args .edges .now) (s .pre .0) .formed))
+    (fill-end (λ x. x ∷ []) (WCore (load (s .args .words .now))) (concatMap incidencesOf (load (s .args .words .now) .vseq)) (c .before .before .part .result .now) (state (s .args .head) (l .vertices) (l .edges)) (l .at) (λ x. omega arith) (l .inv .2) (c .loop-test .left))
 
 pub lists-spec : {M : Type 1} → statement M
 lists-spec =

@@ -10,12 +10,11 @@ returns c =
     let e1 = e2 .before .before .before .before in
     let de = e1 .before .before in
     let ki = de .before in
-    let re = ki .before in
-    let ty = re .before in
+    let ty = ki .before in
     let th2 = ty .before in
     let th = th2 .before in
     let a = th .before .before .before .args in
-    six-by (a .out .now) (a .et .now) (a .at) (a .e) (e1 .three .ensures) (e2 .three2 .ensures) (th .this .ensures) (th2 .this2 .ensures) (ty .edge-type .ensures) (re .reading-at .ensures) (ki .kind-of .ensures) (de .decimetres-of .ensures)
+    six-by (a .out .now) (a .edges .now) (a .at) (a .e) (e1 .three .ensures) (e2 .three2 .ensures) (th .this .ensures) (th2 .this2 .ensures) (ty .edge-type .ensures) (ki .reading-kind .ensures) (de .reading-decimetres .ensures)
 
 pub edge-spec : {M : Type 1} → statement M
 edge-spec =
@@ -25,7 +24,6 @@ edge-spec =
     (λ c κs. search needs)
     (λ c. search needs)
     (λ c. search needs)
-    (λ c κs. search needs)
     (λ c κs. search needs)
     (λ c κs. search needs)
     (λ c κs. search needs)

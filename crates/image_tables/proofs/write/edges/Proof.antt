@@ -12,10 +12,10 @@ use Rattle.image_tables.proofs.write.edges.Statement.{statement}
 use Rattle.image_tables.proofs.write.edges.Tie as tie
 
 abbrev Inv-loop : tie.InvT-loop
-Inv-loop et out₀ from layout ends at₀ e₀ out at e = (length out ≡ length out₀) × Writing (edgeWords et) layout et ends out₀ from out at e
+Inv-loop edges out₀ from layout ends at₀ e₀ out at e = (length out ≡ length out₀) × Writing (edgeWords edges) layout edges ends out₀ from out at e
 
 abbrev μ-loop : tie.MeasureT-loop
-μ-loop et out₀ from layout ends at₀ e₀ out at e = left layout et ends e
+μ-loop edges out₀ from layout ends at₀ e₀ out at e = left layout edges ends e
 
 next-requires : tie.Need-next-requires Inv-loop μ-loop
 next-requires c κs = (valid-e, λ z. absurd (z refl))
@@ -23,15 +23,15 @@ next-requires c κs = (valid-e, λ z. absurd (z refl))
 loop-holds : tie.Need-loop-holds Inv-loop μ-loop
 loop-holds c =
     let s = c .before .before .before in
-    (refl, writing-start (edgeWords (s .args .et .now)) edgeLinks (s .args .et .now) (edgeListEnds (s .args .head)) (s .args .out .now) (s .args .from) valid-e (s .pre .0) (c .next .result) (c .next .ensures))
+    (refl, writing-start (edgeWords (s .args .edges .now)) edgeLinks (s .args .edges .now) (edgeListEnds (s .args .head)) (s .args .out .now) (s .args .from) valid-e (s .pre .0) (c .next .result) (c .next .ensures))
 
 -- what is known in a turn
 turn : (c : tie.In-loop Inv-loop μ-loop) → let s = c .before .before .before .before .before in let l = c .before .loop in
-    Turn (edgeWords (s .args .et .now)) edgeLinks (s .args .et .now) (edgeListEnds (s .args .head)) (s .args .out .now) (s .args .from) (l .out) (l .at) (l .e)
+    Turn (edgeWords (s .args .edges .now)) edgeLinks (s .args .edges .now) (edgeListEnds (s .args .head)) (s .args .out .now) (s .args .from) (l .out) (l .at) (l .e)
 turn c =
     let s = c .before .before .before .before .before in
     let l = c .before .loop in
-    writing-turn (edgeWords (s .args .et .now)) edgeLinks (s .args .et .now) (edgeListEnds (s .args .head)) (s .args .out .now) (s .args .from) (l .out) (l .at) (l .e) (l .inv .1) (c .loop-test .taken)
+    writing-turn (edgeWords (s .args .edges .now)) edgeLinks (s .args .edges .now) (edgeListEnds (s .args .head)) (s .args .out .now) (s .args .from) (l .out) (l .at) (l .e) (l .inv .1) (c .loop-test .taken)
 
 edge-requires : tie.Need-edge-requires Inv-loop μ-loop
 unfolding edgePartOf
@@ -63,7 +63,7 @@ unfolding edgePartOf
 returns c =
     let s = c .before .before .before .before .before in
     let l = c .before .loop in
-    writing-end (edgeWords (s .args .et .now)) edgeLinks (s .args .et .now) (edgeListEnds (s .args .head)) (s .args .out .now) (s .args .from) (l .out) (l .at) (l .e) (l .inv .1) (c .loop-test .left) .0
+    writing-end (edgeWords (s .args .edges .now)) edgeLinks (s .args .edges .now) (edgeListEnds (s .args .head)) (s .args .out .now) (s .args .from) (l .out) (l .at) (l .e) (l .inv .1) (c .loop-test .left) .0
 
 pub edges-spec : {M : Type 1} → statement M
 edges-spec =

@@ -15,10 +15,10 @@ use Rattle.image_tables.proofs.write.list.Statement.{statement}
 use Rattle.image_tables.proofs.write.list.Tie as tie
 
 abbrev Inv-loop : tie.InvT-loop
-Inv-loop vt et v out₀ from layout ends at₀ w₀ out at w = (length out ≡ length out₀) × Writing (λ x. x ∷ []) layout et ends out₀ from out at w
+Inv-loop vertices edges v out₀ from layout ends at₀ w₀ out at w = (length out ≡ length out₀) × Writing (λ x. x ∷ []) layout edges ends out₀ from out at w
 
 abbrev μ-loop : tie.MeasureT-loop
-μ-loop vt et v out₀ from layout ends at₀ w₀ out at w = left layout et ends w
+μ-loop vertices edges v out₀ from layout ends at₀ w₀ out at w = left layout edges ends w
 
 next-requires : tie.Need-next-requires Inv-loop μ-loop
 next-requires c κs = (valid-i, λ z. absurd (z refl))
@@ -27,23 +27,23 @@ loop-holds : tie.Need-loop-holds Inv-loop μ-loop
 loop-holds c =
     let e = c .before .ends-of in
     let s = c .before .before .before .before .before in
-    (refl, writing-start (λ x. x ∷ []) incidenceLinks (s .args .et .now) (e .result) (s .args .out .now) (s .args .from) valid-i (rw (e .ensures) (s .pre .1)) (c .next .result) (c .next .ensures))
+    (refl, writing-start (λ x. x ∷ []) incidenceLinks (s .args .edges .now) (e .result) (s .args .out .now) (s .args .from) valid-i (rw (e .ensures) (s .pre .1)) (c .next .result) (c .next .ensures))
 
 -- what is known in a turn
 turn : (c : tie.In-loop Inv-loop μ-loop) → let s = c .before .before .before .before .before .before .before in let l = c .before .loop in
-    Turn (λ x. x ∷ []) incidenceLinks (s .args .et .now) (c .before .before .before .ends-of .result) (s .args .out .now) (s .args .from) (l .out) (l .at) (l .w)
+    Turn (λ x. x ∷ []) incidenceLinks (s .args .edges .now) (c .before .before .before .ends-of .result) (s .args .out .now) (s .args .from) (l .out) (l .at) (l .w)
 turn c =
     let s = c .before .before .before .before .before .before .before in
     let l = c .before .loop in
-    writing-turn (λ x. x ∷ []) incidenceLinks (s .args .et .now) (c .before .before .before .ends-of .result) (s .args .out .now) (s .args .from) (l .out) (l .at) (l .w) (l .inv .1) (c .loop-test .taken)
+    writing-turn (λ x. x ∷ []) incidenceLinks (s .args .edges .now) (c .before .before .before .ends-of .result) (s .args .out .now) (s .args .from) (l .out) (l .at) (l .w) (l .inv .1) (c .loop-test .taken)
 
 -- there is room for the word
 room : (c : tie.In-loop Inv-loop μ-loop) → c .before .loop .at + 1 ≤ length (c .before .loop .out)
 room c =
     let s = c .before .before .before .before .before .before .before in
     let e = c .before .before .before .ends-of in
-    let q : length (listWords (s .args .vt .now) (s .args .et .now) (s .args .v)) ≡ length (concatMap (λ x. x ∷ []) (nodes incidenceLinks (s .args .et .now) (e .result))) =
-    ap length (sym (each-one _ ∙ ap (nodes incidenceLinks (s .args .et .now)) (e .ensures))) in
+    let q : length (listWords (s .args .vertices .now) (s .args .edges .now) (s .args .v)) ≡ length (concatMap (λ x. x ∷ []) (nodes incidenceLinks (s .args .edges .now) (e .result))) =
+    ap length (sym (each-one _ ∙ ap (nodes incidenceLinks (s .args .edges .now)) (e .ensures))) in
     omega (arith, turn c .room, s .pre .2, q, c .before .loop .inv .0)
 
 mul-out : tie.Need-mul-out Inv-loop μ-loop
@@ -71,8 +71,8 @@ returns c =
     let s = c .before .before .before .before .before .before .before in
     let e = c .before .before .before .ends-of in
     let l = c .before .loop in
-    let q : concatMap (λ x. x ∷ []) (nodes incidenceLinks (s .args .et .now) (e .result)) ≡ listWords (s .args .vt .now) (s .args .et .now) (s .args .v) = each-one _ ∙ ap (nodes incidenceLinks (s .args .et .now)) (e .ensures) in
-    rw (← q) (writing-end (λ x. x ∷ []) incidenceLinks (s .args .et .now) (e .result) (s .args .out .now) (s .args .from) (l .out) (l .at) (l .w) (l .inv .1) (c .loop-test .left))
+    let q : concatMap (λ x. x ∷ []) (nodes incidenceLinks (s .args .edges .now) (e .result)) ≡ listWords (s .args .vertices .now) (s .args .edges .now) (s .args .v) = each-one _ ∙ ap (nodes incidenceLinks (s .args .edges .now)) (e .ensures) in
+    rw (← q) (writing-end (λ x. x ∷ []) incidenceLinks (s .args .edges .now) (e .result) (s .args .out .now) (s .args .from) (l .out) (l .at) (l .w) (l .inv .1) (c .loop-test .left))
 
 pub list-spec : {M : Type 1} → statement M
 list-spec =

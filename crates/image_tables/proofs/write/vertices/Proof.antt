@@ -12,11 +12,11 @@ use Rattle.image_tables.proofs.write.vertices.Statement.{statement}
 use Rattle.image_tables.proofs.write.vertices.Tie as tie
 
 abbrev Inv-loop : tie.InvT-loop
-Inv-loop vt et out₀ from behind layout ends at₀ to₀ v₀ out at to v =
-    (length out ≡ length out₀) × Pairs (vertexWords vt et) (listWords vt et) layout vt ends out₀ from behind out at to v
+Inv-loop vertices edges out₀ from behind layout ends at₀ to₀ v₀ out at to v =
+    (length out ≡ length out₀) × Pairs (vertexWords vertices edges) (listWords vertices edges) layout vertices ends out₀ from behind out at to v
 
 abbrev μ-loop : tie.MeasureT-loop
-μ-loop vt et out₀ from behind layout ends at₀ to₀ v₀ out at to v = left layout vt ends v
+μ-loop vertices edges out₀ from behind layout ends at₀ to₀ v₀ out at to v = left layout vertices ends v
 
 next-requires : tie.Need-next-requires Inv-loop μ-loop
 next-requires c κs = (valid-v, λ z. absurd (z refl))
@@ -24,16 +24,16 @@ next-requires c κs = (valid-v, λ z. absurd (z refl))
 loop-holds : tie.Need-loop-holds Inv-loop μ-loop
 loop-holds c =
     let s = c .before .before .before .before in
-    (refl, pairs-start (vertexWords (s .args .vt .now) (s .args .et .now)) (listWords (s .args .vt .now) (s .args .et .now)) vertexLinks (s .args .vt .now) (vertexListEnds (s .args .head)) (s .args .out .now) (s .args .from) (s .args .behind) valid-v (s .pre .0) (c .next .result) (c .next .ensures))
+    (refl, pairs-start (vertexWords (s .args .vertices .now) (s .args .edges .now)) (listWords (s .args .vertices .now) (s .args .edges .now)) vertexLinks (s .args .vertices .now) (vertexListEnds (s .args .head)) (s .args .out .now) (s .args .from) (s .args .behind) valid-v (s .pre .0) (c .next .result) (c .next .ensures))
 
 -- what is known in a turn
 turn : (c : tie.In-loop Inv-loop μ-loop) → let s = c .before .before .before .before .before .before in let l = c .before .loop in
-    PairTurn (vertexWords (s .args .vt .now) (s .args .et .now)) (listWords (s .args .vt .now) (s .args .et .now)) vertexLinks (s .args .vt .now) (vertexListEnds (s .args .head)) (s .args .out .now) (s .args .from) (s .args .behind) (l .out) (l .at) (l .to) (l .v)
+    PairTurn (vertexWords (s .args .vertices .now) (s .args .edges .now)) (listWords (s .args .vertices .now) (s .args .edges .now)) vertexLinks (s .args .vertices .now) (vertexListEnds (s .args .head)) (s .args .out .now) (s .args .from) (s .args .behind) (l .out) (l .at) (l .to) (l .v)
 unfolding vertexPartOf
 turn c =
     let s = c .before .before .before .before .before .before in
     let l = c .before .loop in
-    pairs-turn (vertexWords (s .args .vt .now) (s .args .et .now)) (listWords (s .args .vt .now) (s .args .et .now)) vertexLinks (s .args .vt .now) (vertexListEnds (s .args .head)) (s .args .out .now) (s .args .from) (s .args .behind) (l .out) (l .at) (l .to) (l .v) (s .pre .2) (l .inv .1) (c .loop-test .taken)
+    pairs-turn (vertexWords (s .args .vertices .now) (s .args .edges .now)) (listWords (s .args .vertices .now) (s .args .edges .now)) vertexLinks (s .args .vertices .now) (vertexListEnds (s .args .head)) (s .args .out .now) (s .args .from) (s .args .behind) (l .out) (l .at) (l .to) (l .v) (s .pre .2) (l .inv .1) (c .loop-test .taken)
 
 vertex-requires : tie.Need-vertex-requires Inv-loop μ-loop
 unfolding incidencePartOf
@@ -66,7 +66,7 @@ unfolding vertexPartOf incidencePartOf
 returns c =
     let s = c .before .before .before .before .before .before in
     let l = c .before .loop in
-    pairs-end (vertexWords (s .args .vt .now) (s .args .et .now)) (listWords (s .args .vt .now) (s .args .et .now)) vertexLinks (s .args .vt .now) (vertexListEnds (s .args .head)) (s .args .out .now) (s .args .from) (s .args .behind) (l .out) (l .at) (l .to) (l .v) (l .inv .1) (c .loop-test .left)
+    pairs-end (vertexWords (s .args .vertices .now) (s .args .edges .now)) (listWords (s .args .vertices .now) (s .args .edges .now)) vertexLinks (s .args .vertices .now) (vertexListEnds (s .args .head)) (s .args .out .now) (s .args .from) (s .args .behind) (l .out) (l .at) (l .to) (l .v) (l .inv .1) (c .loop-test .left)
 
 pub vertices-spec : {M : Type 1} → statement M
 vertices-spec =

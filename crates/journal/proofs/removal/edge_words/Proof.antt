@@ -10,7 +10,7 @@ returns : tie.Need-returns
 returns c =
     let o = c .before .before .word-prev .ensures in
     let j = c .before .word-prev2 .ensures in
-    let q = c .before-word .ensures ∙ (λ k. ifEqual (o k) (2 * c .before .before .before .before .before .before .before .before .before .before .args .n + 1) (j k) (o k)) in
+    let q = c .choose .ensures ∙ (λ k. ifEqual (o k) (2 * c .before .before .before .before .before .before .before .before .before .before .args .n + 1) (j k) (o k)) in
     λ k. record {
       alpha = c .before .before .before .before .before .before .before .before .this .ensures k;
       omega = c .before .before .before .before .before .before .before .this2 .ensures k;

@@ -7,10 +7,10 @@ use Rattle.queries.proofs.questions.count_edges.Statement.{statement}
 use Rattle.queries.proofs.questions.count_edges.Tie as tie
 
 abbrev Inv-loop : tie.InvT-loop
-Inv-loop vt et v n₀ w₀ n w = Along (countedAt et) vt et v w n
+Inv-loop vertices edges v n₀ w₀ n w = Along (countedAt edges) vertices edges v w n
 
 abbrev μ-loop : tie.MeasureT-loop
-μ-loop vt et v n₀ w₀ n w = along-left vt et v w
+μ-loop vertices edges v n₀ w₀ n w = along-left vertices edges v w
 
 first-word-requires : tie.Need-first-word-requires Inv-loop μ-loop
 first-word-requires c κs = c .before .before .pre .row
@@ -24,7 +24,7 @@ counted-requires c κs = along-row _ _ _ _ _ _ (c .before .loop .inv) (c .loop-t
 add-n : tie.Need-add-n Inv-loop μ-loop
 add-n c =
     let s = c .before .before .before .before .before .before in
-    let h = along-fits _ _ _ _ _ _ (c .before .before .loop .inv) (c .before .loop-test .taken) (s .pre) (counted-le (s .args .et .now)) _ (c .counted .ensures) in
+    let h = along-fits _ _ _ _ _ _ (c .before .before .loop .inv) (c .before .loop-test .taken) (s .pre) (counted-le (s .args .edges .now)) _ (c .counted .ensures) in
     omega arith
 
 following-requires : tie.Need-following-requires Inv-loop μ-loop

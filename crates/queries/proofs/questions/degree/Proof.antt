@@ -9,8 +9,8 @@ returns : tie.Need-returns
 returns c =
     let s = c .before .before .before .before in
     let a = s .args in
-    let e = c .degree-from .ensures (a .vt .now) (a .v) (s .pre) (c .before .first-word .ensures) in
-    (e, λ rows good q. e ∙ degree-below rows (a .words .now) good q (a .t) (a .c) (a .vt .now) (a .et .now) (a .v))
+    let e = c .degree-from .ensures (a .vertices .now) (a .v) (s .pre) (c .before .first-word .ensures) in
+    (e, λ rows good q. e ∙ degree-below rows (a .words .now) good q (a .t) (a .c) (a .vertices .now) (a .edges .now) (a .v))
 
 pub degree-spec : {M : Type 1} → statement M
 degree-spec = tie.close (tie.spec (λ c κs. search needs) (λ c κs. search needs) returns)

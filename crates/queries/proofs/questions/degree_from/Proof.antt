@@ -126,62 +126,62 @@ test-none w = go (eqb w 0) refl
 -- ---- the state of a turn
 
 -- n is what f added up on the way to the cursor's word, along every list that begins with `first`
-pub record State (f : ℕ → ℕ) (et : RefT (List ℕ)) (first : ℕ) : Type 0 where
+pub record State (f : ℕ → ℕ) (edges : RefT (List ℕ)) (first : ℕ) : Type 0 where
   pub n : ℕ
   pub r : Cursor
-  pub edges : r .edges ≡ et
+  pub same-edges : r .edges ≡ edges
   pub n-fits : n < 2 ^ 32
   pub w-fits : r .word < 2 ^ 32
-  pub along : (vt : List ℕ) (v : ℕ) → CanWalk vt (now et) v → first ≡ vfirst vt v → Along f vt (now et) v (r .word) n
+  pub along : (vertices : List ℕ) (v : ℕ) → CanWalk vertices (now edges) v → first ≡ vfirst vertices v → Along f vertices (now edges) v (r .word) n
 
-module _ (f : ℕ → ℕ) (le : (w : ℕ) → f w ≤ 1) (et : RefT (List ℕ)) (first : ℕ) (ok : CanWalkFrom (now et) first) where
-  abbrev left : State f et first → ℕ
-  left i = along-left (ok .vt) (now et) (ok .v) (i .r .word)
+module _ (f : ℕ → ℕ) (le : (w : ℕ) → f w ≤ 1) (edges : RefT (List ℕ)) (first : ℕ) (ok : CanWalkFrom (now edges) first) where
+  abbrev left : State f edges first → ℕ
+  left i = along-left (ok .vertices) (now edges) (ok .v) (i .r .word)
 
-  abbrev Nearer : State f et first → State f et first → Type 0
+  abbrev Nearer : State f edges first → State f edges first → Type 0
   Nearer j i = left j < left i
 
   nearer-wf : WellFounded Nearer
   nearer-wf = InvImage·wf left (Nat·lt-wfRel .wf)
 
-  module _ (i : State f et first) where
-    here : Along f (ok .vt) (now et) (ok .v) (i .r .word) (i .n)
-    here = i .along (ok .vt) (ok .v) (ok .walks) (ok .here)
+  module _ (i : State f edges first) where
+    here : Along f (ok .vertices) (now edges) (ok .v) (i .r .word) (i .n)
+    here = i .along (ok .vertices) (ok .v) (ok .walks) (ok .here)
 
-    ends-with : i .r .word ≡ 0 → (vt : List ℕ) (v : ℕ) → CanWalk vt (now et) v → first ≡ vfirst vt v → i .n ≡ sumOf f (nodes incidenceLinks (now et) (endsAt vt v))
-    ends-with z = λ vt v w q. along-end _ _ _ _ _ _ (i .along vt v w q) z
+    ends-with : i .r .word ≡ 0 → (vertices : List ℕ) (v : ℕ) → CanWalk vertices (now edges) v → first ≡ vfirst vertices v → i .n ≡ sumOf f (nodes incidenceLinks (now edges) (endsAt vertices v))
+    ends-with z = λ vertices v w q. along-end _ _ _ _ _ _ (i .along vertices v w q) z
 
     module _ (z : i .r .word ≡ 0 → ⊥) where
-      row : EdgeRowIn (now et) (i .r .word / 2)
+      row : EdgeRowIn (now edges) (i .r .word / 2)
       row = along-row _ _ _ _ _ _ here z
 
-      inside : HalfRowIn (now et) (i .r .word)
+      inside : HalfRowIn (now edges) (i .r .word)
       inside = along-in _ _ _ _ _ _ here z
 
       sum-fits : i .n + f (i .r .word) < 2 ^ 32
       sum-fits = along-fits _ _ _ _ _ _ here z (ok .walks) le _ refl
 
-      abbrev next : (t : ℕ) (r : Cursor) → t ≡ i .n + f (i .r .word) → t < 2 ^ 32 → r .edges ≡ et → r .word ≡ wnext (now et) (i .r .word) → r .word < 2 ^ 32 → State f et first
+      abbrev next : (t : ℕ) (r : Cursor) → t ≡ i .n + f (i .r .word) → t < 2 ^ 32 → r .edges ≡ edges → r .word ≡ wnext (now edges) (i .r .word) → r .word < 2 ^ 32 → State f edges first
       next t r e p g h k = record {
         n = t;
         r = r;
-        edges = g;
+        same-edges = g;
         n-fits = p;
         w-fits = k;
-        along = λ vt v w q. subst (λ (m : ℕ). Along f vt (now et) v (r .word) m) (sym e) (along-on _ _ _ _ _ _ (i .along vt v w q) z _ h _ refl);
+        along = λ vertices v w q. subst (λ (m : ℕ). Along f vertices (now edges) v (r .word) m) (sym e) (along-on _ _ _ _ _ _ (i .along vertices v w q) z _ h _ refl);
       }
 
-      nearer : (r : Cursor) → r .word ≡ wnext (now et) (i .r .word) → along-left (ok .vt) (now et) (ok .v) (r .word) < left i
+      nearer : (r : Cursor) → r .word ≡ wnext (now edges) (i .r .word) → along-left (ok .vertices) (now edges) (ok .v) (r .word) < left i
       nearer r h = along-less _ _ _ _ _ _ here z _ h
 
-  abbrev start : (r : Cursor) → r .edges ≡ et → r .word ≡ first → r .word < 2 ^ 32 → State f et first
+  abbrev start : (r : Cursor) → r .edges ≡ edges → r .word ≡ first → r .word < 2 ^ 32 → State f edges first
   start r e p k = record {
     n = 0;
     r = r;
-    edges = e;
+    same-edges = e;
     n-fits = omega arith;
     w-fits = k;
-    along = λ vt v w q. along-start _ _ _ _ w _ (p ∙ q);
+    along = λ vertices v w q. along-start _ _ _ _ w _ (p ∙ q);
   }
 
 module _ {M : Type 1} (𝓤 : URA M) (H : Heap 𝓤) (A : Atoms 𝓤) (mem : Memory → SProp 𝓤) (run : Routine → Fun 𝓤) where
@@ -358,7 +358,7 @@ module _ {M : Type 1} (𝓤 : URA M) (H : Heap 𝓤) (A : Atoms 𝓤) (W : Given
           returns ! (look ! 25 refl) $ forget ! 7 refl $ forget ! 9 refl $ forget ! 11 refl $ forget ! 13 refl $ forget ! 15 refl $ forget ! 17 refl $ forget ! 19 refl $ forget ! 21 refl $ forget ! 23 refl $ forget ! 25 refl $
           move ! (25 ∷ 26 ∷ []) $ free1 ! $ move ! (23 ∷ 24 ∷ []) $ free1 ! $ move ! (21 ∷ 22 ∷ []) $ free1 ! $ move ! (19 ∷ 20 ∷ []) $ free1 ! $ move ! (17 ∷ 18 ∷ []) $ free1 ! $ move ! (15 ∷ 16 ∷ []) $ free1 ! $ move ! (13 ∷ 14 ∷ []) $ free1 ! $ move ! (11 ∷ 12 ∷ []) $ free1 ! $
           move ! (9 ∷ 10 ∷ []) $ free1 ! $ move ! (7 ∷ 8 ∷ []) $ free1 ! $ move ! (5 ∷ 6 ∷ []) $ free1 ! $ move ! (3 ∷ 4 ∷ []) $ free1 ! $ free0 ! $
-          drop ! $ by ! (exits (i .n) (i .n-fits) (λ vt u a b. ends-with one few s first ok i z vt u a b ∙ degree-sum (λ k. bitOf (now x) k t) c vt (now s) u))
+          drop ! $ by ! (exits (i .n) (i .n-fits) (λ vertices u a b. ends-with one few s first ok i z vertices u a b ∙ degree-sum (λ k. bitOf (now x) k t) c vertices (now s) u))
 
       -- the cursor's word is one of the list's: it is counted, and the cursor is stepped
       goes-on : (i : St) (y : Val) → (i .r .word ≡ 0 → ⊥) → Sq W (Tested i y) (runs C Λ En more (anyQ (Turned i)))
@@ -377,7 +377,7 @@ module _ {M : Type 1} (𝓤 : URA M) (H : Heap 𝓤) (A : Atoms 𝓤) (W : Given
           -- [the tokens; what s and x own; what the cursor owns; _11; …]
           split ! $ move ! (2 ∷ 0 ∷ []) $ join ! $ move ! (2 ∷ 1 ∷ []) $ peeks ! (Row (κ, tt)) (Is (Row (κ, tt))) (shows 𝓤 H A (Row (κ, tt))) (i .r) (T′.lowered (i .r) ∷ []) (λ is₀.
           assigns ! (of-opd ! (load ! (from ! (stop !)) (look ! 11 refl))) (from ! (stop !)) (init ! 3 refl (LL.lawful (T.the-type αᵉ) (T′.the-laws αᵉ) 𝓤 H A W .typed (i .r) _ is₀ .0)) $
-          use2 W (raw (Stepped 𝓤 H A mem run .pre (to-stepped (i .r)))) (goes-stepped (i .r) (subst (λ (x : RefT (List ℕ)). HalfRowIn (now x) w) (sym (i .edges)) (inside one few s first ok i z))) $
+          use2 W (raw (Stepped 𝓤 H A mem run .pre (to-stepped (i .r)))) (goes-stepped (i .r) (subst (λ (x : RefT (List ℕ)). HalfRowIn (now x) w) (sym (i .same-edges)) (inside one few s first ok i z))) $
           -- [the callee's pre; what s and x own; _11; …]
           calls-at-last ! fm (Stepped 𝓤 H A mem run) known-stepped (to-stepped (i .r)) (and-then ! (load ! (from ! (stop !)) (look ! 2 refl)) (no-more !)) (λ u₁.
           use1 W (later (some (λ (r₁ : Cursor). (Token ⊛ ‵ (Row (κ, tt) .own r₁ (u₁ ∷ []))) ⊛ raw (ensured 𝓤 H A stepped.ended (stepped.clauses 𝓤 H A mem run) (κ, tt) (i .r, tt) tt r₁)))) (id⊢ 𝓤 _) $ await ! tt $ pick ! (λ r₁.
@@ -397,10 +397,10 @@ module _ {M : Type 1} (𝓤 : URA M) (H : Heap 𝓤) (A : Atoms 𝓤) (W : Given
           n = i .n
 
           word-next : (r₁ : Cursor) → Steps (i .r) r₁ → r₁ .word ≡ wnext (now s) (i .r .word)
-          word-next r₁ e₁ = e₁ .1 ∙ ap (λ (x : RefT (List ℕ)). wnext (now x) (i .r .word)) (i .edges)
+          word-next r₁ e₁ = e₁ .1 ∙ ap (λ (x : RefT (List ℕ)). wnext (now x) (i .r .word)) (i .same-edges)
 
           then : (m : ℕ) (r₁ : Cursor) → m ≡ i .n + one (i .r .word) → m < 2 ^ 32 → Steps (i .r) r₁ → r₁ .word < 2 ^ 32 → St
-          then m r₁ e f e₁ k = next one few s first ok i z m r₁ e f (e₁ .0 ∙ i .edges) (word-next r₁ e₁) k
+          then m r₁ e f e₁ k = next one few s first ok i z m r₁ e f (e₁ .0 ∙ i .same-edges) (word-next r₁ e₁) k
 
       turns : (i : St) → Sq W (In i) (runs C Λ En turn (anyQ (Turned i)))
       unfolding afterTurn

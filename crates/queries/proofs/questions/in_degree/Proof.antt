@@ -12,7 +12,7 @@ use Rattle.queries.proofs.questions.in_degree.Tie as tie
 returns : tie.Need-returns
 returns c =
     let a = c .before .before .before .args in
-    bit-right (bitOf (a .words .now) (etype (a .et .now) (a .w / 2)) (a .t)) _ (sym (c .before .on-side .ensures) ∙ not-true (c .before .on-side .result) (c .if1 .taken))
+    bit-right (bitOf (a .words .now) (etype (a .edges .now) (a .w / 2)) (a .t)) _ (sym (c .before .on-side .ensures) ∙ not-true (c .before .on-side .result) (c .if1 .taken))
 
 -- the test of the edge's type is that of the type that was read
 returns-2 : tie.Need-returns-2

@@ -10,12 +10,12 @@ use Rattle.queries.proofs.questions.word_before.Tie as tie
 before-requires : tie.Need-before-requires
 before-requires c κs =
     let s = c .before .before .before .before in
-    before-asks incidenceLinks (s .args .et .now) valid-i (s .args .a) (c .ends-of .ensures ∙ ap (endsAt (s .args .vt .now)) (c .before .this .ensures)) (s .pre .2)
+    before-asks incidenceLinks (s .args .edges .now) valid-i (s .args .a) (c .ends-of .ensures ∙ ap (endsAt (s .args .vertices .now)) (c .before .this .ensures)) (s .pre .2)
 
 returns : tie.Need-returns
 returns c =
     let s = c .before .before .before .before .before in
-    before-read incidenceLinks (s .args .et .now) valid-i (s .args .a) (s .args .b) (c .before .ends-of .ensures ∙ ap (endsAt (s .args .vt .now)) (c .before .before .this .ensures))
+    before-read incidenceLinks (s .args .edges .now) valid-i (s .args .a) (s .args .b) (c .before .ends-of .ensures ∙ ap (endsAt (s .args .vertices .now)) (c .before .before .this .ensures))
     (c .before2 .ensures)
 
 pub word-before-spec : {M : Type 1} → statement M

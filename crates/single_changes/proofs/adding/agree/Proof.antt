@@ -3,11 +3,5 @@ use borrow.Author.Tests.{ne-eqb, eq-eqb}
 use Rattle.single_changes.proofs.adding.agree.Statement.{statement}
 use Rattle.single_changes.proofs.adding.agree.Tie as tie
 
-returns : tie.Need-returns
-returns c = let a = c .before .args in rw (ne-eqb (a .a) (a .b) (c .if1 .taken))
-
-returns-2 : tie.Need-returns-2
-returns-2 c = let a = c .before .args in rw (eq-eqb (a .a) (a .b) (c .if1 .left))
-
 pub agree-spec : {M : Type 1} → statement M
-agree-spec = tie.close (tie.spec returns returns-2)
+agree-spec = tie.close (tie.spec (λ c. let a = c .before .args in rw (ne-eqb (a .a) (a .b) (c .if1 .taken))) (λ c. let a = c .before .args in rw (eq-eqb (a .a) (a .b) (c .if1 .left))))

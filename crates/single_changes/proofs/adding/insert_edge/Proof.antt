@@ -10,12 +10,6 @@ use borrow.Author.Needs.{needs}
 use Rattle.single_changes.proofs.adding.insert_edge.Statement.{statement}
 use Rattle.single_changes.proofs.adding.insert_edge.Tie as tie
 
-returns : tie.Need-returns
-returns c = tries-full refl (c .before .if1 .taken) (c .unchanged .ensures)
-
-put-row-requires : tie.Need-put-row-requires
-put-row-requires c κs = c .before .before .before .before .before .pre .2 (c .before .if1 .left)
-
 attach-requires : tie.Need-attach-requires
 attach-requires c κs =
     let s = c .before .before .before .before .before .before .before .before .before .before .before .before .before .before .before in
@@ -34,7 +28,7 @@ returns-2 c =
     let s = c .before .before .before .before .before .before .before .before .before .before .before .before .before .before .before .before .before .before .before .before .before .before .before .before .before .before .before .before in
     let a = s .args in
     tries-made refl (c .before .before .before .before .before .before .before .before .before .before .before .before .before .before .before .before .before .before .before .before .before .before .before .before .if1 .left) (record {
-      state = three (placeEdgeS (a .n) (a .a) (a .z) (a .s) Untested (a .p)) (attachS (a .a) (a .out) (2 * a .n)) (attachS (a .z) (a .into) (2 * a .n + 1)) (c .before .before .before .before .before .before .before .before .before .before .before .before .before .before .before .before .before .place-edge .ensures) (c .before .before .before .before .before .before .before .before .before .before .before .before .attach .ensures) (c .before .before .before .before .before .attach2 .ensures);
+      state = three (placeEdgeS (a .n) (a .a) (a .z) (a .sort) Untested (a .p)) (attachS (a .a) (a .out) (2 * a .n)) (attachS (a .z) (a .into) (2 * a .n + 1)) (c .before .before .before .before .before .before .before .before .before .before .before .before .before .before .before .before .before .place-edge .ensures) (c .before .before .before .before .before .before .before .before .before .before .before .before .attach .ensures) (c .before .before .before .before .before .attach2 .ensures);
       row = rowed-by _ _ _ _ _ _ refl (c .before .before .before .before .before .before .before .before .before .before .before .before .before .before .before .before .before .before .before .before .before .before .put-row .ensures);
     }) (c .altered .ensures)
 
@@ -43,8 +37,8 @@ insert-edge-spec =
     tie.close
     (tie.spec
     (λ c κs. search needs)
-    returns
-    put-row-requires
+    (λ c. tries-full refl (c .before .if1 .taken) (c .unchanged .ensures))
+    (λ c κs. c .before .before .before .before .before .pre .2 (c .before .if1 .left))
     (λ c κs. search needs)
     (λ c. search needs)
     attach-requires

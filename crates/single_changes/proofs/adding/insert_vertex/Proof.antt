@@ -6,12 +6,6 @@ use borrow.Author.Needs.{needs}
 use Rattle.single_changes.proofs.adding.insert_vertex.Statement.{statement}
 use Rattle.single_changes.proofs.adding.insert_vertex.Tie as tie
 
-returns : tie.Need-returns
-returns c = tries-full refl (c .before .if1 .taken) (c .unchanged .ensures)
-
-put-row-requires : tie.Need-put-row-requires
-put-row-requires c κs = c .before .before .before .before .before .pre .1 (c .before .if1 .left)
-
 returns-2 : tie.Need-returns-2
 returns-2 c = tries-made refl (c .before .before .before .before .before .before .before .before .before .if1 .left) (record { state = c .before .before .before .insert-vertex .ensures; row = rowed-by _ _ _ _ _ _ refl (c .before .before .before .before .before .before .before .put-row .ensures) }) (c .altered .ensures)
 
@@ -20,8 +14,8 @@ insert-vertex-spec =
     tie.close
     (tie.spec
     (λ c κs. search needs)
-    returns
-    put-row-requires
+    (λ c. tries-full refl (c .before .if1 .taken) (c .unchanged .ensures))
+    (λ c κs. c .before .before .before .before .before .pre .1 (c .before .if1 .left))
     (λ c κs. search needs)
     (λ c κs. search needs)
     (λ c. search needs)

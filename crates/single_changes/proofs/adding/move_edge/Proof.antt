@@ -7,15 +7,6 @@ use borrow.Author.Needs.{needs}
 use Rattle.single_changes.proofs.adding.move_edge.Statement.{statement}
 use Rattle.single_changes.proofs.adding.move_edge.Tie as tie
 
-returns : tie.Need-returns
-returns c = tries-kept (eq-eqb _ _ (c .before .if1 .taken)) (c .unchanged .ensures)
-
-returns-2 : tie.Need-returns-2
-returns-2 c = tries-full (ne-eqb _ _ (c .before .before .if1 .left)) (c .before .if2 .taken) (c .unchanged2 .ensures)
-
-put-row-requires : tie.Need-put-row-requires
-put-row-requires c κs = c .before .before .before .before .before .before .pre .1 (c .before .if2 .left)
-
 returns-3 : tie.Need-returns-3
 returns-3 c = tries-made (ne-eqb _ _ (c .before .before .before .before .before .before .before .before .before .before .if1 .left)) (c .before .before .before .before .before .before .before .before .before .if2 .left) (record { state = c .before .before .before .move-edge .ensures; row = rowed-by _ _ _ _ _ _ refl (c .before .before .before .before .before .before .before .put-row .ensures) }) (c .altered .ensures)
 
@@ -24,10 +15,10 @@ move-edge-spec =
     tie.close
     (tie.spec
     (λ c κs. search needs)
-    returns
+    (λ c. tries-kept (eq-eqb _ _ (c .before .if1 .taken)) (c .unchanged .ensures))
     (λ c κs. search needs)
-    returns-2
-    put-row-requires
+    (λ c. tries-full (ne-eqb _ _ (c .before .before .if1 .left)) (c .before .if2 .taken) (c .unchanged2 .ensures))
+    (λ c κs. c .before .before .before .before .before .before .pre .1 (c .before .if2 .left))
     (λ c κs. search needs)
     (λ c κs. search needs)
     (λ c. search needs)

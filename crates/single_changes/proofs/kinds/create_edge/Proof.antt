@@ -2,56 +2,26 @@
 use Prim.Native.Nat.{_*_}
 use Rattle.graph.specs.declared.Change.the-variants.{CreateEdge}
 use Rattle.lists.specs.Choice.{ifEqual}
-use Rattle.single_changes.proofs.OneLaws.{one-refused, one-can, one-tried, tries-by, insert-edge-by}
-use Rattle.graph_tables.proofs.Steps.{can-by}
+use Rattle.single_changes.proofs.OneLaws.{Accepted, one-refused, accept, can-make, one-tried, tries-by, insert-edge-by}
 use Rattle.graph_tables.specs.Tables.{state}
-use mathlib.Core.Path.{sym, _∙_}
+use mathlib.Core.Path.{_≡_, _∙_}
 use native.Mathlib.Omega.{arith}
+use Rattle.graph.specs.declared.Edit.the-variants.{InsertEdge}
+use Rattle.queries.specs.Plans.{planS}
+use Rattle.graph.specs.declared.Reading.the-variants.{Untested}
 use borrow.Author.Needs.{needs}
 use Rattle.single_changes.proofs.kinds.create_edge.Statement.{statement}
 use Rattle.single_changes.proofs.kinds.create_edge.Tie as tie
 
-returns : tie.Need-returns
-returns c =
-    let s = c .before .before .before .before .before .before .before .before in
-    let a = s .args in
-    one-refused (CreateEdge (a .n) (a .a) (a .z) (a .s)) (a .types) (a .i) (a .free) (a .h) (a .vt .now) (a .et .now) (a .t .now) tt _ (λ g y. c .before .before .create-edge .ensures .1 g y) (c .before .if1 .taken) (c .unchanged .ensures)
+accepted : (c : tie.Else1) → let a = c .before .before .before .before .before .before .before .args in
+    Accepted (CreateEdge (a .n) (a .a) (a .z) (a .sort)) (a .types) (a .row) (a .free) (state (a .head) (a .vertices .now) (a .edges .now)) (a .journal .now)
+accepted c = accept tt (λ g y. c .before .create-edge .ensures .1 g y) (c .if1 .left) tt (c .before .before .before .before .before .before .before .pre)
 
-last-word-requires : tie.Need-last-word-requires
-last-word-requires c κs =
-    let s = c .before .before .before .before .before .before .before .before in
-    let a = s .args in
-    let k = one-can (CreateEdge (a .n) (a .a) (a .z) (a .s)) (a .types) (a .i) (a .free) (a .h) (a .vt .now) (a .et .now) (a .t .now) tt _ (λ g y. c .before .before .create-edge .ensures .1 g y) (c .before .if1 .left) tt (s .pre) in
-    k .0 .0 .1
-
-last-word-requires-2 : tie.Need-last-word-requires-2
-last-word-requires-2 c κs =
-    let s = c .before .before .before .before .before .before .before .before .before .before in
-    let a = s .args in
-    let k = one-can (CreateEdge (a .n) (a .a) (a .z) (a .s)) (a .types) (a .i) (a .free) (a .h) (a .vt .now) (a .et .now) (a .t .now) tt _ (λ g y. c .before .before .before .before .create-edge .ensures .1 g y) (c .before .before .before .if1 .left) tt (s .pre) in
-    k .0 .0 .2
-
-mul-choose : tie.Need-mul-choose
-mul-choose c =
-    let s = c .before .before .before .before .before .before .before .before .before .before .before in
-    let a = s .args in
-    let k = one-can (CreateEdge (a .n) (a .a) (a .z) (a .s)) (a .types) (a .i) (a .free) (a .h) (a .vt .now) (a .et .now) (a .t .now) tt _ (λ g y. c .before .before .before .before .before .create-edge .ensures .1 g y) (c .before .before .before .before .if1 .left) tt (s .pre) in
-    omega (arith, k .0 .0 .0)
-
-insert-edge-requires : tie.Need-insert-edge-requires
-insert-edge-requires c κs =
-    let s = c .before .before .before .before .before .before .before .before .before .before .before .before .before .before .before in
-    let a = s .args in
-    let k = one-can (CreateEdge (a .n) (a .a) (a .z) (a .s)) (a .types) (a .i) (a .free) (a .h) (a .vt .now) (a .et .now) (a .t .now) tt _ (λ g y. c .before .before .before .before .before .before .before .before .before .create-edge .ensures .1 g y) (c .before .before .before .before .before .before .before .before .if1 .left) tt (s .pre) in
-    let r = can-by (state (a .h) (a .vt .now) (a .et .now)) (sym (insert-edge-by (a .n) (a .a) (a .z) (a .s) (a .h .elast) (c .before .before .before .before .before .before .last-word .ensures) (c .before .before .before .choose .ensures ∙ (λ j. ifEqual (a .a) (a .z) (2 * a .n) (c .before .before .before .before .last-word2 .ensures j))))) (k .0 .1) in
-    (r .0, r .1, k .1)
-
-returns-2 : tie.Need-returns-2
-returns-2 c =
-    let s = c .before .before .before .before .before .before .before .before .before .before .before .before .before .before .before .before .before .before .before .before .before .before in
-    let a = s .args in
-    one-tried (CreateEdge (a .n) (a .a) (a .z) (a .s)) (a .types) (a .i) (a .free) (a .h) (a .vt .now) (a .et .now) (a .t .now) tt _ (λ g y. c .before .before .before .before .before .before .before .before .before .before .before .before .before .before .before .before .create-edge .ensures .1 g y) (c .before .before .before .before .before .before .before .before .before .before .before .before .before .before .before .if1 .left) _ _ _ _
-    (tries-by (insert-edge-by (a .n) (a .a) (a .z) (a .s) (a .h .elast) (c .before .before .before .before .before .before .before .before .before .before .before .before .before .last-word .ensures) (c .before .before .before .before .before .before .before .before .before .before .choose .ensures ∙ (λ j. ifEqual (a .a) (a .z) (2 * a .n) (c .before .before .before .before .before .before .before .before .before .before .before .last-word2 .ensures j)))) (c .before .before .before .before .before .before .insert-edge .ensures))
+planned : (c : tie.After-choose) → let a = c .before .before .before .before .before .before .before .before .before .before .before .before .args in
+    InsertEdge (a .n) (a .a) (a .z) (a .sort) Untested (a .head .elast) (c .before .before .before .last-word .result) (c .choose .result) ≡ planS (CreateEdge (a .n) (a .a) (a .z) (a .sort)) (state (a .head) (a .vertices .now) (a .edges .now))
+planned c =
+    let a = c .before .before .before .before .before .before .before .before .before .before .before .before .args in
+    insert-edge-by (a .n) (a .a) (a .z) (a .sort) (a .head .elast) (c .before .before .before .last-word .ensures) (c .choose .ensures ∙ (λ j. ifEqual (a .a) (a .z) (2 * a .n) (c .before .last-word2 .ensures j)))
 
 pub create-edge-spec : {M : Type 1} → statement M
 create-edge-spec =
@@ -61,13 +31,13 @@ create-edge-spec =
     (λ c κs. search needs)
     (λ c. search needs)
     (λ c. search needs)
-    returns
-    last-word-requires
-    last-word-requires-2
-    mul-choose
+    (λ c. one-refused tt (λ g y. c .before .before .create-edge .ensures .1 g y) (c .before .if1 .taken) (c .unchanged .ensures))
+    (λ c κs. accepted (c .before) .rows .1)
+    (λ c κs. accepted (c .before .before .before) .rows .2)
+    (λ c. omega (arith, accepted (c .before .before .before .before) .rows .0))
     (λ c κs. search needs)
-    insert-edge-requires
+    (λ c κs. let r = can-make (accepted (c .before .before .before .before .before .before .before .before)) (planned (c .before .before .before)) in (r .0 .0, r .0 .1, r .1))
     (λ c. search needs)
     (λ c. search needs)
     (λ c. search needs)
-    returns-2)
+    (λ c. one-tried (accepted (c .before .before .before .before .before .before .before .before .before .before .before .before .before .before .before)) (tries-by (planned (c .before .before .before .before .before .before .before .before .before .before)) (c .before .before .before .before .before .before .insert-edge .ensures))))

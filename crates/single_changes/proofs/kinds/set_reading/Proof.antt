@@ -1,51 +1,26 @@
 -- `single_changes::kinds::set_reading` meets its contract.
+use Prim.Native.Nat.{ℕ}
 use Rattle.graph.specs.declared.Change.the-variants.{SetReading}
-use Rattle.single_changes.proofs.OneLaws.{one-refused, one-can, one-tried, tries-by, set-edge-by, words-by}
+use Rattle.single_changes.proofs.OneLaws.{Accepted, one-refused, accept, one-tried, tries-by, set-edge-by, words-by}
 use mathlib.Core.Path.{refl}
+use Rattle.graph_tables.specs.Tables.{state}
 use borrow.Author.Needs.{needs}
 use Rattle.single_changes.proofs.kinds.set_reading.Statement.{statement}
 use Rattle.single_changes.proofs.kinds.set_reading.Tie as tie
 
-returns : tie.Need-returns
-returns c =
-    let s = c .before .before .before .before .before .before .before in
-    let a = s .args in
-    one-refused (SetReading (a .a) (a .k2) (a .d2)) (a .types) (a .i) (a .free) (a .h) (a .vt .now) (a .et .now) (a .t .now) tt _ (λ g y. c .before .before .set-reading .ensures .1 g (_, y)) (c .before .if1 .taken) (c .unchanged .ensures)
-
-edge-type-requires : tie.Need-edge-type-requires
-edge-type-requires c κs =
-    let s = c .before .before .before .before .before .before .before in
-    let a = s .args in
-    let k = one-can (SetReading (a .a) (a .k2) (a .d2)) (a .types) (a .i) (a .free) (a .h) (a .vt .now) (a .et .now) (a .t .now) tt _ (λ g y. c .before .before .set-reading .ensures .1 g (_, y)) (c .before .if1 .left) tt (s .pre) in
-    k .0 .0
-
-reading-kind-requires : tie.Need-reading-kind-requires
-reading-kind-requires c κs =
-    let s = c .before .before .before .before .before .before .before .before .before in
-    let a = s .args in
-    let k = one-can (SetReading (a .a) (a .k2) (a .d2)) (a .types) (a .i) (a .free) (a .h) (a .vt .now) (a .et .now) (a .t .now) tt _ (λ g y. c .before .before .before .before .set-reading .ensures .1 g (_, y)) (c .before .before .before .if1 .left) tt (s .pre) in
-    k .0 .0
-
-reading-decimetres-requires : tie.Need-reading-decimetres-requires
-reading-decimetres-requires c κs =
-    let s = c .before .before .before .before .before .before .before .before .before .before .before in
-    let a = s .args in
-    let k = one-can (SetReading (a .a) (a .k2) (a .d2)) (a .types) (a .i) (a .free) (a .h) (a .vt .now) (a .et .now) (a .t .now) tt _ (λ g y. c .before .before .before .before .before .before .set-reading .ensures .1 g (_, y)) (c .before .before .before .before .before .if1 .left) tt (s .pre) in
-    k .0 .0
+accepted : (types : ℕ) (c : tie.Else1) → let a = c .before .before .before .before .before .before .args in
+    Accepted (SetReading (a .a) (a .kind2) (a .decimetres2)) types (a .row) (a .free) (state (a .head) (a .vertices .now) (a .edges .now)) (a .journal .now)
+accepted types c = accept tt (λ g y. c .before .set-reading .ensures .1 g (_, y)) (c .if1 .left) tt (c .before .before .before .before .before .before .pre)
 
 set-edge-requires : tie.Need-set-edge-requires
 set-edge-requires c κs =
-    let s = c .before .before .before .before .before .before .before .before .before .before .before .before .before .before in
-    let a = s .args in
-    let k = one-can (SetReading (a .a) (a .k2) (a .d2)) (a .types) (a .i) (a .free) (a .h) (a .vt .now) (a .et .now) (a .t .now) tt _ (λ g y. c .before .before .before .before .before .before .before .before .before .set-reading .ensures .1 g (_, y)) (c .before .before .before .before .before .before .before .before .if1 .left) tt (s .pre) in
-    (k .0 .1, words-by (c .before .before .before .before .reading-kind .ensures) (c .before .before .reading-decimetres .ensures) (k .0 .2 .0), k .0 .2 .1, k .1)
+    let k = accepted 0 (c .before .before .before .before .before .before .before .before) in
+    (k .can, words-by (c .before .before .before .before .reading-kind .ensures) (c .before .before .reading-decimetres .ensures) (k .words .0), k .words .1, k .room)
 
 returns-2 : tie.Need-returns-2
 returns-2 c =
-    let s = c .before .before .before .before .before .before .before .before .before .before .before .before .before .before .before .before .before .before .before in
-    let a = s .args in
-    one-tried (SetReading (a .a) (a .k2) (a .d2)) (a .types) (a .i) (a .free) (a .h) (a .vt .now) (a .et .now) (a .t .now) tt _ (λ g y. c .before .before .before .before .before .before .before .before .before .before .before .before .before .before .set-reading .ensures .1 g (_, y)) (c .before .before .before .before .before .before .before .before .before .before .before .before .before .if1 .left) _ _ _ _
-    (tries-by (set-edge-by (a .a) {l = a .k2} {f = a .d2} (c .before .before .before .before .before .before .before .before .before .before .before .edge-type .ensures) (c .before .before .before .before .before .before .before .before .before .reading-kind .ensures) (c .before .before .before .before .before .before .before .reading-decimetres .ensures) (c .before .before .before .before .before .before .before .before .before .before .before .edge-type .ensures) refl refl) (c .before .before .before .before .set-edge .ensures))
+    let a = c .before .before .before .before .before .before .before .before .before .before .before .before .before .before .before .before .before .before .before .args in
+    λ types. one-tried (accepted types (c .before .before .before .before .before .before .before .before .before .before .before .before .before)) (tries-by (set-edge-by (a .a) {l = a .kind2} {f = a .decimetres2} (c .before .before .before .before .before .before .before .before .before .before .before .edge-type .ensures) (c .before .before .before .before .before .before .before .before .before .reading-kind .ensures) (c .before .before .before .before .before .before .before .reading-decimetres .ensures) (c .before .before .before .before .before .before .before .before .before .before .before .edge-type .ensures) refl refl) (c .before .before .before .before .set-edge .ensures))
 
 pub set-reading-spec : {M : Type 1} → statement M
 set-reading-spec =
@@ -54,10 +29,10 @@ set-reading-spec =
     (λ c κs. search needs)
     (λ c κs. search needs)
     (λ c. search needs)
-    returns
-    edge-type-requires
-    reading-kind-requires
-    reading-decimetres-requires
+    (λ c types. one-refused tt (λ g y. c .before .before .set-reading .ensures .1 g (_, y)) (c .before .if1 .taken) (c .unchanged .ensures))
+    (λ c κs. accepted 0 (c .before) .rows)
+    (λ c κs. accepted 0 (c .before .before .before) .rows)
+    (λ c κs. accepted 0 (c .before .before .before .before .before) .rows)
     set-edge-requires
     (λ c. search needs)
     (λ c. search needs)

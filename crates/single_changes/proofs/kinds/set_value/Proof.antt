@@ -1,45 +1,27 @@
 -- `single_changes::kinds::set_value` meets its contract.
+use Prim.Native.Nat.{ℕ}
 use Rattle.graph.specs.declared.Change.the-variants.{SetValue}
-use Rattle.single_changes.proofs.OneLaws.{one-refused, one-can, one-tried, tries-by, set-vertex-by}
+use Rattle.single_changes.proofs.OneLaws.{Accepted, one-refused, accept, one-tried, tries-by, set-vertex-by}
 use mathlib.Core.Path.{refl}
 use native.Mathlib.Omega.{arith}
+use Rattle.graph_tables.specs.Tables.{state}
 use borrow.Author.Needs.{needs}
 use Rattle.single_changes.proofs.kinds.set_value.Statement.{statement}
 use Rattle.single_changes.proofs.kinds.set_value.Tie as tie
 
-returns : tie.Need-returns
-returns c =
-    let s = c .before .before .before .before .before .before .before in
-    let a = s .args in
-    one-refused (SetValue (a .a) (a .x2)) (a .types) (a .i) (a .free) (a .h) (a .vt .now) (a .et .now) (a .t .now) (omega (arith, s .fits .x2)) _ (λ g y. c .before .before .vertex-code .ensures .1 g (_, y)) (c .before .if1 .taken) (c .unchanged .ensures)
-
-vertex-type-requires : tie.Need-vertex-type-requires
-vertex-type-requires c κs =
-    let s = c .before .before .before .before .before .before .before in
-    let a = s .args in
-    let k = one-can (SetValue (a .a) (a .x2)) (a .types) (a .i) (a .free) (a .h) (a .vt .now) (a .et .now) (a .t .now) (omega (arith, s .fits .x2)) _ (λ g y. c .before .before .vertex-code .ensures .1 g (_, y)) (c .before .if1 .left) tt (s .pre) in
-    k .0 .0
-
-vertex-value-requires : tie.Need-vertex-value-requires
-vertex-value-requires c κs =
-    let s = c .before .before .before .before .before .before .before .before .before in
-    let a = s .args in
-    let k = one-can (SetValue (a .a) (a .x2)) (a .types) (a .i) (a .free) (a .h) (a .vt .now) (a .et .now) (a .t .now) (omega (arith, s .fits .x2)) _ (λ g y. c .before .before .before .before .vertex-code .ensures .1 g (_, y)) (c .before .before .before .if1 .left) tt (s .pre) in
-    k .0 .0
+accepted : (types : ℕ) (c : tie.Else1) → let a = c .before .before .before .before .before .before .args in
+    Accepted (SetValue (a .a) (a .value2)) types (a .row) (a .free) (state (a .head) (a .vertices .now) (a .edges .now)) (a .journal .now)
+accepted types c = accept (omega (arith, c .before .before .before .before .before .before .fits .value2)) (λ g y. c .before .vertex-code .ensures .1 g (_, y)) (c .if1 .left) tt (c .before .before .before .before .before .before .pre)
 
 set-vertex-requires : tie.Need-set-vertex-requires
 set-vertex-requires c κs =
-    let s = c .before .before .before .before .before .before .before .before .before .before .before .before in
-    let a = s .args in
-    let k = one-can (SetValue (a .a) (a .x2)) (a .types) (a .i) (a .free) (a .h) (a .vt .now) (a .et .now) (a .t .now) (omega (arith, s .fits .x2)) _ (λ g y. c .before .before .before .before .before .before .before .vertex-code .ensures .1 g (_, y)) (c .before .before .before .before .before .before .if1 .left) tt (s .pre) in
-    (k .0 .1, k .1)
+    let k = accepted 0 (c .before .before .before .before .before .before) in
+    (k .can, k .room)
 
 returns-2 : tie.Need-returns-2
 returns-2 c =
-    let s = c .before .before .before .before .before .before .before .before .before .before .before .before .before .before .before .before .before in
-    let a = s .args in
-    one-tried (SetValue (a .a) (a .x2)) (a .types) (a .i) (a .free) (a .h) (a .vt .now) (a .et .now) (a .t .now) (omega (arith, s .fits .x2)) _ (λ g y. c .before .before .before .before .before .before .before .before .before .before .before .before .vertex-code .ensures .1 g (_, y)) (c .before .before .before .before .before .before .before .before .before .before .before .if1 .left) _ _ _ _
-    (tries-by (set-vertex-by (a .a) (c .before .before .before .before .before .before .before .before .before .vertex-type .ensures) (c .before .before .before .before .before .before .before .vertex-value .ensures) (c .before .before .before .before .before .before .before .before .before .vertex-type .ensures) refl) (c .before .before .before .before .set-vertex .ensures))
+    let a = c .before .before .before .before .before .before .before .before .before .before .before .before .before .before .before .before .before .args in
+    λ types. one-tried (accepted types (c .before .before .before .before .before .before .before .before .before .before .before)) (tries-by (set-vertex-by (a .a) (c .before .before .before .before .before .before .before .before .before .vertex-type .ensures) (c .before .before .before .before .before .before .before .vertex-value .ensures) (c .before .before .before .before .before .before .before .before .before .vertex-type .ensures) refl) (c .before .before .before .before .set-vertex .ensures))
 
 pub set-value-spec : {M : Type 1} → statement M
 set-value-spec =
@@ -48,9 +30,9 @@ set-value-spec =
     (λ c κs. search needs)
     (λ c κs. search needs)
     (λ c. search needs)
-    returns
-    vertex-type-requires
-    vertex-value-requires
+    (λ c types. one-refused (omega (arith, c .before .before .before .before .before .before .before .fits .value2)) (λ g y. c .before .before .vertex-code .ensures .1 g (_, y)) (c .before .if1 .taken) (c .unchanged .ensures))
+    (λ c κs. accepted 0 (c .before) .rows)
+    (λ c κs. accepted 0 (c .before .before .before) .rows)
     set-vertex-requires
     (λ c. search needs)
     (λ c. search needs)

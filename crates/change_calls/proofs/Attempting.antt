@@ -1,0 +1,184 @@
+-- What the two crates below say of a change, as code of its rule and as step.
+use Prim.Native.Nat.{ℕ, zero, suc, _-_}
+use mathlib.Core.Path.{_≡_, refl, sym, ap, _∙_, subst}
+use mathlib.Core.Logic.{_≢_}
+use mathlib.Core.Bool.{Bool, true, false, not, _&&_}
+use mathlib.Core.List.{List}
+use native.Mathlib.Omega.{arith}
+use borrow.Author.Tests.{ne-eqb, eqb-true, eqb-false, lt-ltb, le-ltb}
+use lib.Dec.{ltb}
+use Rattle.lists.specs.Choice.{_⇒_else_, _==_}
+use Rattle.graph.specs.declared.Change.{Change}
+use Rattle.graph.specs.declared.Change.the-variants.{DeleteVertex}
+use Rattle.graph.specs.declared.Edit.{Edit}
+use Rattle.graph.specs.Graph.{Graph, hasVertex}
+use Rattle.graph.specs.WellFormed.{Bounds, WellFormed}
+use Rattle.graph.specs.Changes.{Allowed, cost}
+use Rattle.graph.specs.Same.{idle, alters}
+use Rattle.graph.proofs.Alters.{alters-plan}
+use Rattle.history.specs.Machine.{Machine, present, freeOf, extended, stepOf}
+use Rattle.machine.specs.HistoryCodes.{tooDear}
+use Rattle.machine.specs.Rules.{firstCode, changeRule}
+use Rattle.machine.specs.Codes.{changeCode}
+use Rattle.machine.proofs.Allows.{allows}
+use Rattle.graph_tables.specs.Tables.{State}
+use Rattle.graph_tables.specs.Holds.{Holds}
+use Rattle.graph_tables.specs.Capacities.{boundsOf}
+use Rattle.queries.specs.Plans.{planS, OneEdit}
+use Rattle.queries.proofs.PlanLaws.{plan-is, one-edit}
+use Rattle.single_changes.specs.One.{HoldsGraph, One, tried, withRoom}
+use Rattle.single_changes.proofs.OneLaws.{no-code, some-room}
+use Rattle.timeline.specs.declared.Position.{Position}
+use Rattle.timeline.specs.Current.{afterStep}
+use Rattle.timeline.specs.Steps.{Journal}
+use Rattle.timeline.proofs.Steps.{holds-current, sound-current, journal-free}
+use Rattle.vertex_deletion.specs.Deleting.{Deletes}
+use Rattle.history_calls.specs.Memory.{capacityOf}
+use Rattle.change_calls.proofs.SingleStep.{single-step}
+
+-- ---- what a change comes to, on tables and journal
+
+-- the change altered the graph, and is the next step
+pub record StepMade (c : Change) (b : Bounds) (m : Machine) (j : Position) (n : ℕ) (s′ : State)
+    (t′ : List ℕ) : Type 0 where
+  pub alters-graph : alters c (present m) ≡ true
+  pub costs : n ≡ cost c (present m)
+  pub steps : Journal b (afterStep j (s′ .head) n .position) s′ t′ (extended (stepOf c (present m)) (m .line))
+
+-- of one machine: the code of the change's rule; cost 0 says that it is refused or alters nothing
+pub record Comes (c : Change) (b : Bounds) (m : Machine) (j : Position) (t : List ℕ) (code n : ℕ) (s′ : State)
+    (t′ : List ℕ) : Type 0 where
+  pub coded : code ≡ changeRule b (capacityOf t) c .code m
+  pub idle : n ≡ 0 → code ≡ 0 → alters c (present m) ≡ false
+  pub made : n ≢ 0 → StepMade c b m j n s′ t′
+
+-- whatever machine was there; cost 0 says that nothing was written
+pub record Attempts (c : Change) (types : ℕ) (j : Position) (s : State) (t : List ℕ) (code n : ℕ) (s′ : State)
+    (t′ : List ℕ) : Type 0 where
+  pub stays : n ≡ 0 → (s′ ≡ s) × (t′ ≡ t)
+  pub accepts : n ≢ 0 → code ≡ 0
+  pub comes : (b : Bounds) (m : Machine) → b .types ≡ types → Journal b j s t (m .line) → Comes c b m j t code n s′ t′
+
+-- ---- codes
+
+-- no room for one row
+room-test : (free n k : ℕ) → n ≡ free → k ≡ 1 → (free == 0) ≡ ltb n k
+room-test free n k e i = go (free == 0) refl
+  where
+    go : (p : Bool) → (free == 0) ≡ p → p ≡ ltb n k
+    go true p = sym (lt-ltb n k (omega (arith, eqb-true free 0 p)))
+    go false p = let d = eqb-false free 0 p in sym (le-ltb n k (omega arith))
+
+-- room is asked only of an edit that alters something
+tried-code : (keeps : Bool) (free : ℕ) (dear : Bool) → (free == 0) ≡ dear → tried keeps free ≡ ((dear && not keeps) ⇒ 10 else 0)
+tried-code true free true e = refl
+tried-code true free false e = refl
+tried-code false free true e = ap (λ (p : Bool). p ⇒ 10 else 0) e
+tried-code false free false e = ap (λ (p : Bool). p ⇒ 10 else 0) e
+
+-- 4, then 10
+deletion-codes : (lacks dear : Bool) → _≡_ {A = ℕ} (lacks ⇒ 4 else dear ⇒ 10 else 0) (firstCode (lacks ⇒ 4 else 0) ((dear && true) ⇒ 10 else 0))
+deletion-codes true dear = refl
+deletion-codes false true = refl
+deletion-codes false false = refl
+
+deletion-alters : (a : ℕ) (g : Graph) → alters (DeleteVertex a) g ≡ true
+unfolding alters
+deletion-alters a g = refl
+
+module _ (types : ℕ) (j : Position) (s : State) (t : List ℕ) where
+  module _ (b : Bounds) (m : Machine) (e : b .types ≡ types) (k : Journal b j s t (m .line)) where
+    -- the capacities of the tables are those of the machine's graphs
+    bounds-are : boundsOf (s .vertices) (s .edges) types ≡ b
+    bounds-are = λ i. record { vertices = sym (k .rows .sized .vertices) i; edges = sym (k .rows .sized .edges) i; types = sym e i }
+
+    holds : Holds s (present m)
+    holds = holds-current b j s t (m .line) k
+
+    sound : WellFormed (present m)
+    sound = sound-current b j s t (m .line) k
+
+    pub stands-now : HoldsGraph s
+    stands-now =
+        let z = k .rows .sized in
+        record {
+          graph = present m;
+          holds = holds;
+          sized = λ n. record { vertices = refl; edges = refl; fewVertices = omega (arith, z .vertices, z .fewVertices); fewEdges = omega (arith, z .edges, z .fewEdges) };
+        }
+
+  module _ (code n : ℕ) (s′ : State) (t′ : List ℕ) where
+    -- ---- a change of one edit
+
+    module _ (free : ℕ) (q : free ≡ capacityOf t - j .used) (c : Change) (o : OneEdit c) (r : One c types (j .used) free s t code n s′ t′) where
+      abbrev plan-now : Edit
+      plan-now = planS c s
+
+      module _ (b : Bounds) (m : Machine) (e : b .types ≡ types) (k : Journal b j s t (m .line)) where
+        -- what the tables say of the edit is what the graph says of the change
+        alters-now : Allowed b (present m) c → alters c (present m) ≡ not (idle plan-now)
+        alters-now a = alters-plan (present m) (sound b m e k) b c a (one-edit c o (present m) .0) ∙ ap (λ (y : Edit). not (idle y)) (sym (plan-is s (present m) (holds b m e k) b c a))
+
+        answers : code ≡ withRoom (idle plan-now) free (changeCode b (present m) c)
+        answers = r .answers (present m) (s .head, holds b m e k) ∙ ap (λ (y : Bounds). withRoom (idle plan-now) free (changeCode y (present m) c)) (bounds-are b m e k)
+
+        allowed : code ≡ 0 → Allowed b (present m) c
+        allowed z = allows b (present m) (sound b m e k) c (r .fits) (no-code (idle plan-now) free (changeCode b (present m) c) (sym answers ∙ z))
+
+        single-code : code ≡ changeRule b (capacityOf t) c .code m
+        single-code = answers ∙ go (changeCode b (present m) c) refl
+          where
+            dear : (free == 0) ≡ ltb (freeOf (capacityOf t) (m .line)) (cost c (present m))
+            dear = room-test free _ (cost c (present m)) (sym (journal-free b j s t (m .line) (capacityOf t) k) ∙ sym q) (one-edit c o (present m) .1)
+
+            go : (i : ℕ) → changeCode b (present m) c ≡ i → withRoom (idle plan-now) free i ≡ firstCode i (tooDear (capacityOf t) m c ⇒ 10 else 0)
+            go zero z =
+                tried-code (idle plan-now) free _ dear
+                ∙ ap (λ (p : Bool). (ltb (freeOf (capacityOf t) (m .line)) (cost c (present m)) && p) ⇒ 10 else 0) (sym (alters-now (allows b (present m) (sound b m e k) c (r .fits) z)))
+            go (suc i) z = let f : (suc i == 0) ≡ false = ne-eqb (suc i) 0 (omega arith) in rw f
+
+        single-comes : Comes c b m j t code n s′ t′
+        single-comes = record {
+          coded = single-code;
+          idle = λ y z. alters-now (allowed z) ∙ ap not (r .keeps y z);
+          made = λ y.
+              let d = r .made y in
+              let a = allowed (d .coded) in
+              let f = ap (λ (p : Bool). withRoom p free (changeCode b (present m) c)) (sym (d .alters)) in
+              let i = some-room free (changeCode b (present m) c) (f ∙ sym answers ∙ d .coded) in
+              record {
+                alters-graph = alters-now a ∙ ap not (d .alters);
+                costs = d .costs ∙ sym (one-edit c o (present m) .1);
+                steps = single-step c b j s t (m .line) k a o (omega (arith, q, i)) s′ t′ (d .written) (afterStep j (s′ .head) n .position) refl refl (omega (arith, d .costs));
+              };
+        }
+
+      pub single-attempts : Attempts c types j s t code n s′ t′
+      single-attempts = record { stays = r .stays; accepts = λ y. r .made y .coded; comes = single-comes }
+
+    -- ---- the deletion of a vertex
+
+    module _ (a : ℕ) (r : Deletes a j s t code n s′ t′) where
+      deletion-code : (b : Bounds) (m : Machine) → Journal b j s t (m .line) → code ≡ changeRule b (capacityOf t) (DeleteVertex a) .code m
+      deletion-code b m k =
+          let lacks = not (hasVertex (present m) a) in
+          let price = cost (DeleteVertex a) (present m) in
+          r .coded b (m .line) k
+          ∙ ap (λ (i : ℕ). lacks ⇒ 4 else ltb i price ⇒ 10 else 0) (journal-free b j s t (m .line) (capacityOf t) k)
+          ∙ deletion-codes lacks (ltb (freeOf (capacityOf t) (m .line)) price)
+          ∙ ap (λ (p : Bool). firstCode (lacks ⇒ 4 else 0) ((ltb (freeOf (capacityOf t) (m .line)) price && p) ⇒ 10 else 0)) (sym (deletion-alters a (present m)))
+
+      pub deletion-attempts : Attempts (DeleteVertex a) types j s t code n s′ t′
+      deletion-attempts = record {
+        stays = λ y. (r .stays y .1, r .stays y .2);
+        accepts = λ y. r .made y .0;
+        comes = λ b m e k. record {
+          coded = deletion-code b m k;
+          idle = λ y z. absurd (r .stays y .0 z);
+          made = λ y. record {
+            alters-graph = deletion-alters a (present m);
+            costs = r .made y .1 .costs b (m .line) k;
+            steps = r .made y .1 .steps b (m .line) k;
+          };
+        };
+      }

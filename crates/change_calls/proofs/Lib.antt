@@ -1,0 +1,4 @@
+pub mod Singles
+pub mod SingleStep
+pub mod Attempting
+pub mod Following

@@ -1,0 +1,57 @@
+-- `change_calls::delete_vertex` meets its contract.
+use mathlib.Core.Path.{refl}
+use Rattle.graph.specs.declared.Change.the-variants.{DeleteVertex}
+use Rattle.graph_tables.specs.Tables.{state}
+use Rattle.history_calls.specs.Memory.{Memory, memory, tablesOf}
+use Rattle.change_calls.proofs.Attempting.{deletion-attempts}
+use Rattle.change_calls.proofs.Following.{altered-by, step-fits, change-kept, change-made}
+use borrow.Author.Needs.{needs}
+use Rattle.change_calls.proofs.delete_vertex.Statement.{statement}
+use Rattle.change_calls.proofs.delete_vertex.Tie as tie
+
+-- the lent words as the call begins
+abbrev given : tie.Start → Memory
+given s = memory (s .args .vertices .now) (s .args .edges .now) (s .args .journal .now) (s .args .marks .now)
+
+returns : tie.Need-returns
+returns c =
+    let s = c .before .before .before .before .before .before .before .before .before .before .before .before .before .before .before .before .before in
+    let k = c .before .before .before .before .before .before .before .before .before .delete in
+    let s′ = state (k .result .head) (k .last .1 .0) (k .last .1 .1 .0) in
+    let t′ = k .last .1 .1 .1 .0 in
+    let z = c .before .if1 .taken in
+    λ types. altered-by (DeleteVertex (s .args .vertex)) types (s .args .store) (given s) _ (c .stay .ensures) (change-kept (DeleteVertex (s .args .vertex)) types (s .args .store) (given s) _ _ s′ t′ (deletion-attempts types (s .args .store .current .position) (tablesOf (s .args .store) (given s)) (s .args .journal .now) _ _ s′ t′ (s .args .vertex) (k .ensures)) z)
+
+stepped-requires : tie.Need-stepped-requires
+stepped-requires c κs =
+    let s = c .before .before .before .before .before .before .before .before .before .before .before .before .before .before .before .before in
+    let k = c .before .before .before .before .before .before .before .before .delete in
+    let p = s .pre in
+    let s′ = state (k .result .head) (k .last .1 .0) (k .last .1 .1 .0) in
+    let t′ = k .last .1 .1 .1 .0 in
+    step-fits (DeleteVertex (s .args .vertex)) (p .0 .types) (s .args .store) (given s) _ _ s′ t′ (deletion-attempts (p .0 .types) (s .args .store .current .position) (tablesOf (s .args .store) (given s)) (s .args .journal .now) _ _ s′ t′ (s .args .vertex) (k .ensures)) (p .0) (p .1) refl (p .2) (c .if1 .left)
+
+returns-2 : tie.Need-returns-2
+returns-2 c =
+    let s = c .before .before .before .before .before .before .before .before .before .before .before .before .before .before .before .before .before .before in
+    let k = c .before .before .before .before .before .before .before .before .before .before .delete in
+    let s′ = state (k .result .head) (k .last .1 .0) (k .last .1 .1 .0) in
+    let t′ = k .last .1 .1 .1 .0 in
+    λ types. change-made (DeleteVertex (s .args .vertex)) types (s .args .store) (given s) _ _ s′ t′ (deletion-attempts types (s .args .store .current .position) (tablesOf (s .args .store) (given s)) (s .args .journal .now) _ _ s′ t′ (s .args .vertex) (k .ensures)) (c .before .before .if1 .left) _ (c .before .stepped .ensures) (c .cut .ensures)
+
+pub delete-vertex-spec : {M : Type 1} → statement M
+delete-vertex-spec =
+    tie.close
+    (tie.spec
+    (λ c κs. search needs)
+    (λ c κs. search needs)
+    (λ c. search needs)
+    (λ c. search needs)
+    (λ c. search needs)
+    returns
+    stepped-requires
+    (λ c κs. search needs)
+    (λ c. search needs)
+    (λ c. search needs)
+    (λ c. search needs)
+    returns-2)

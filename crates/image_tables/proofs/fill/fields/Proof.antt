@@ -1,0 +1,44 @@
+-- `image_tables::fill::fields` meets its contract.
+use mathlib.Core.Path.{sym}
+use native.Mathlib.Omega.{arith}
+use lib.ListN.{length-set}
+use Rattle.graph.specs.Graph.{readingOf}
+use Rattle.graph_tables.proofs.Steps.{edge-row-by}
+use borrow.Author.Needs.{needs}
+use Rattle.image_tables.proofs.fill.fields.Statement.{statement}
+use Rattle.image_tables.proofs.fill.fields.Tie as tie
+
+slice-write-edges-2 : tie.Need-slice-write-edges-2
+slice-write-edges-2 c = simp length-set (omega arith)
+
+slice-write-edges-3 : tie.Need-slice-write-edges-3
+slice-write-edges-3 c = simp length-set (omega arith)
+
+slice-write-edges-4 : tie.Need-slice-write-edges-4
+slice-write-edges-4 c = simp length-set (omega arith)
+
+returns : tie.Need-returns
+returns c =
+    let a = c .args in
+    edge-row-by (a .e) 1 (a .sort) (readingOf (a .kind) (a .heard)) (a .edges .now) (sym (c .pre .1 .0)) (sym (c .pre .1 .1))
+
+pub fields-spec : {M : Type 1} → statement M
+fields-spec =
+    tie.close
+    (tie.spec
+    (λ c. search needs)
+    (λ c. search needs)
+    (λ c. search needs)
+    (λ c. search needs)
+    (λ c. search needs)
+    (λ c. search needs)
+    (λ c. search needs)
+    slice-write-edges-2
+    (λ c. search needs)
+    (λ c. search needs)
+    slice-write-edges-3
+    (λ c. search needs)
+    (λ c. search needs)
+    slice-write-edges-4
+    (λ c. search needs)
+    returns)

@@ -1,0 +1,37 @@
+-- The deletion of a vertex: its code, and what it leaves.
+use Prim.Native.Nat.{ℕ, _-_, _/_}
+use mathlib.Core.Path.{_≡_}
+use mathlib.Core.Logic.{_≢_}
+use mathlib.Core.Bool.{not}
+use mathlib.Core.List.{List}
+use lib.Dec.{ltb}
+use lib.ListN.{length}
+use Rattle.lists.specs.Choice.{_⇒_else_}
+use Rattle.graph.specs.declared.Change.the-variants.{DeleteVertex}
+use Rattle.graph.specs.Graph.{Graph, hasVertex}
+use Rattle.graph.specs.WellFormed.{Bounds}
+use Rattle.graph.specs.Changes.{cost}
+use Rattle.history.specs.Machine.{Timeline, presentIn, extended, stepOf}
+use Rattle.graph_tables.specs.Tables.{State}
+use Rattle.timeline.specs.Current.{afterStep}
+use Rattle.timeline.specs.declared.Position.{Position}
+use Rattle.timeline.specs.Steps.{Journal}
+
+-- with so many free changes: REFERENCE 7.4, then 7.10
+abbrev pub deletionCode : ℕ → ℕ → Graph → ℕ
+deletionCode a free g = not (hasVertex g a) ⇒ 4 else ltb free (cost (DeleteVertex a) g) ⇒ 10 else 0
+
+-- whatever timeline there was: the cost is that of the deletion, which is its next step
+pub record DeletionMade (a : ℕ) (j : Position) (s : State) (t : List ℕ) (n : ℕ) (s′ : State) (t′ : List ℕ) : Type 0
+  where
+    pub costs : (b : Bounds) (l : Timeline) → Journal b j s t l → n ≡ cost (DeleteVertex a) (presentIn l)
+    pub steps : (b : Bounds) (l : Timeline) → Journal b j s t l
+        → Journal b (afterStep j (s′ .head) n .position) s′ t′ (extended (stepOf (DeleteVertex a) (presentIn l)) l)
+
+-- cost 0 says that it is refused and nothing was written
+pub record Deletes (a : ℕ) (j : Position) (s : State) (t : List ℕ) (code n : ℕ) (s′ : State) (t′ : List ℕ) : Type 0
+  where
+    pub coded : (b : Bounds) (l : Timeline) → Journal b j s t l
+        → code ≡ deletionCode a (length t / 12 - j .used) (presentIn l)
+    pub stays : n ≡ 0 → (code ≢ 0) × (s′ ≡ s) × (t′ ≡ t)
+    pub made : n ≢ 0 → (code ≡ 0) × DeletionMade a j s t n s′ t′
