@@ -134,7 +134,7 @@ fn drop_edge(head: Head, vertices: &[u32], edges: &mut [u32], n: u32) -> Head
     }
 }
 
-// Puts edge x into Eseq and its words into the lists.
+// Puts an edge into Eseq and its words into the lists.
 pub fn insert_edge(
     head: Head,
     vertices: &mut [u32],
