@@ -5,6 +5,7 @@ use mathlib.Core.Path.{_≡_}
 use lib.ListN.{length}
 use denote.Ref.{now}
 use Rattle.machine.specs.Demand.{Demand3}
+use Rattle.machine.specs.Demands.{Demand1}
 use Rattle.machine.specs.Run.{Lent, AfterRun, listRefusal}
 use Rattle.engine.specs.declared.run.RunResult.{RunResult}
 use Rattle.lists.specs.Slices.{Slice}
@@ -44,6 +45,10 @@ Same s = now (s .exit) ≡ now (s .entry)
 -- REFERENCE 9.8, for the tables
 abbrev pub Untouched : Lent → Slice → Slice → Slice → Type 0
 Untouched l vertices edges journal = (listRefusal l ≡ 0 → ⊥) → Same vertices × Same edges × Same journal
+
+-- REFERENCE 14.1: of a refused list the tables are as they were
+abbrev pub MeetsDemand1 : Lent → AfterRun → Slice → Slice → Slice → Type 0
+MeetsDemand1 l r vertices edges journal = Demand1 l r (Same vertices × Same edges × Same journal)
 
 -- REFERENCE 14.3, for a list that is not refused
 abbrev pub MeetsDemand3 : Lent → AfterRun → Type 0

@@ -5,8 +5,9 @@ use crate::refusals::refusal;
 use image_tables::save;
 use type_rows::closure;
 ghost use mathlib.Core.Path.{_≡_};
+ghost use Rattle.machine.specs.Demands.{Demand2};
 ghost use Rattle.machine.specs.Run.{listRefusal, accepted as acceptedOf, run as runOf};
-ghost use Rattle.engine.specs.Outcomes.{lent, runResult, given, left, Untouched, MeetsDemand3};
+ghost use Rattle.engine.specs.Outcomes.{lent, runResult, given, left, Untouched, MeetsDemand1, MeetsDemand3};
 
 // The code of the list, the calls done, the words of the end image. Of a refused list `done` is the number beside its
 // code. The layout is that of include/futtockfig.h.
@@ -72,6 +73,9 @@ pub fn run(
 ) -> RunResult
     ensures { λ r. ⌜ left r answers image ≡ runOf (given start rows calls vertices edges journal answers image) ⌝ }
     ensures { λ r. ⌜ Untouched (given start rows calls vertices edges journal answers image) vertices edges journal ⌝ }
+    ensures { λ r. ⌜ MeetsDemand1 (given start rows calls vertices edges journal answers image)
+        (left r answers image) vertices edges journal ⌝ }
+    ensures { λ r. ⌜ Demand2 (given start rows calls vertices edges journal answers image) (left r answers image) ⌝ }
     ensures { λ r. ⌜ MeetsDemand3 (given start rows calls vertices edges journal answers image)
         (left r answers image) ⌝ }
 {

@@ -3,9 +3,12 @@ use commands::Command;
 use history_calls::Called;
 use history_calls::Store;
 use question_calls::reply;
+ghost use Rattle.history_calls.specs.Memory.{entry, exit};
+ghost use Rattle.history_calls.specs.Outcomes.{Leaves};
 ghost use Rattle.engine.specs.Running.{Runs, Answers};
 
-// Any command. The words of tables, journal and marks are left open, but for the machine that they stand for.
+// Any command. A refused one leaves every lent word; else those of tables, journal and marks are left open, but for the
+// machine that they stand for.
 pub fn step(
     store: Store,
     vertices: &mut [u32],
@@ -18,6 +21,7 @@ pub fn step(
 ) -> Called
     requires { ⌜ Runs store vertices edges journal marks closed types ⌝ }
     ensures { λ r. ⌜ Answers command store r vertices edges journal marks closed types ⌝ }
+    ensures { λ r. ⌜ Leaves store (entry vertices edges journal marks) r (exit vertices edges journal marks) ⌝ }
 {
     match command {
         Command::Alter(change) => change_calls::alter(

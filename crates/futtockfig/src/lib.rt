@@ -5,10 +5,11 @@ use page::Printed;
 use page::print;
 ghost use mathlib.Core.Path.{_≡_};
 ghost use lib.ListN.{length};
+ghost use Rattle.machine.specs.Demands.{Demand2};
 ghost use Rattle.machine.specs.Run.{run as runOf};
 ghost use Rattle.image.specs.Image.{part as partOf};
 ghost use Rattle.image.specs.Parts.{partStart};
-ghost use Rattle.engine.specs.Outcomes.{given, left, Untouched, MeetsDemand3};
+ghost use Rattle.engine.specs.Outcomes.{given, left, Untouched, MeetsDemand1, MeetsDemand3};
 ghost use Rattle.page.specs.Page.{pageOf, printed};
 
 // A slice is a pointer and a length.
@@ -25,6 +26,9 @@ pub extern "C" fn futtockfig_run(
 ) -> RunResult
     ensures { λ r. ⌜ left r answers image ≡ runOf (given start rows calls vertices edges journal answers image) ⌝ }
     ensures { λ r. ⌜ Untouched (given start rows calls vertices edges journal answers image) vertices edges journal ⌝ }
+    ensures { λ r. ⌜ MeetsDemand1 (given start rows calls vertices edges journal answers image)
+        (left r answers image) vertices edges journal ⌝ }
+    ensures { λ r. ⌜ Demand2 (given start rows calls vertices edges journal answers image) (left r answers image) ⌝ }
     ensures { λ r. ⌜ MeetsDemand3 (given start rows calls vertices edges journal answers image)
         (left r answers image) ⌝ }
 {

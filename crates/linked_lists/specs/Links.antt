@@ -15,7 +15,7 @@ use Rattle.linked_lists.specs.Lists.{Distinct, All}
 
 -- ---- where the links stand
 
--- a lane that can be used: nodes do not overlap, and an address is computed without overflow
+-- a layout that can be used: nodes do not overlap, and an address is computed without overflow
 pub record ValidLayout (layout : LinkLayout) : Type 0 where
   pub two : 2 ≤ layout .stride
   pub near : layout .offset ≤ 65536
@@ -33,8 +33,8 @@ abbrev pub linkAddress : Side → LinkLayout → ℕ → ℕ
 linkAddress backward layout x = nodeAddress layout x
 linkAddress forward layout x = nodeAddress layout x + 1
 
--- The difference in `addr` is 0 where the node would start before the table, so that such nodes share an address.
--- They have no words: `Starts` is the fact that a node is none of them, and `early` the test that it is one.
+-- The difference in `nodeAddress` is 0 where a node would start before the table, so such nodes share an address.
+-- They have no words: `HasAddress` is the fact that a node is none of them, and `lacksAddress` the test that it is one.
 -- With the test in `linkOf` and `putT`, a link that is put changes no other node's link, whatever the numbers are.
 abbrev pub HasAddress : LinkLayout → ℕ → Type 0
 HasAddress layout x = layout .offset ≤ layout .stride * x
@@ -95,8 +95,8 @@ abbrev pub nodesFrom : (ℕ → ℕ) → ℕ → ℕ → List ℕ
 nodesFrom n zero k = []
 nodesFrom n (suc f) k = (k == 0) ⇒ [] else (k ∷ nodesFrom n f (n k))
 
--- the list read off a table from its first node on. It has no more nodes than a lane has in the table, which are below
--- this bound.
+-- the list read off a table from its first node on. It has no more nodes than a layout has in the table, and these are
+-- below this bound.
 unfoldable pub nodes : LinkLayout → List ℕ → Ends → List ℕ
 nodes layout t e = nodesFrom (linkOf forward layout t e) (length t + layout .offset) (linkOf forward layout t e 0)
 

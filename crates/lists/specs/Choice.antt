@@ -13,7 +13,7 @@ _⇒_else_ false x y = y
 abbrev pub _==_ : ℕ → ℕ → Bool
 m == n = eqb m n
 
--- `pick m n a b` is a where m and n are the same number, else b
+-- a where m and n are the same number, else b
 unfoldable pub ifEqual {ℓ} : {A : Type ℓ} → ℕ → ℕ → A → A → A
 ifEqual m n a b = (m == n) ⇒ a else b
 

@@ -19,6 +19,11 @@ module _ (w : Parameters) (m : Machine) (c : Command) where
   unfolding answerTo
   not-refused e = e
 
+  -- an accepted command answers the number of its deed
+  pub number-is : (refusal w m c == 0) ≡ true → answerTo w m c .number ≡ deedOf w c m .number
+  unfolding answerTo
+  number-is f = rw f
+
   pub accepted-step : (refusal w m c == 0) ≡ true → stepTo w m c ≡ effected (deedOf w c m .effect) m
   unfolding stepTo
   accepted-step f = rw f

@@ -1,4 +1,5 @@
 pub mod Accepts
+pub mod MarkCalls
 pub mod Stands
 pub mod MarkLaws
 pub mod PriceLaws

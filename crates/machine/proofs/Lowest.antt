@@ -1,15 +1,15 @@
 -- The code given is that of the first row that applies, of a call the lowest; 10 is given for want of room.
-use Prim.Native.Nat.{ℕ, suc, _<_}
-use mathlib.Core.Path.{_≡_, refl}
-use mathlib.Core.Logic.{_↔_}
-use mathlib.Core.Bool.{Bool, true, false}
+use Prim.Native.Nat.{ℕ, suc, _≤_, _<_}
+use mathlib.Core.Path.{_≡_, refl, sym, _∙_}
+use mathlib.Core.Logic.{_↔_, _⊎_, inl, inr}
+use mathlib.Core.Bool.{Bool, true, false, _&&_}
 use mathlib.Core.List.{List, [], _∷_, map}
 use native.Mathlib.Omega.{arith}
-use lib.Dec.{leb}
-use borrow.Author.Tests.{leb-true, ltb-true, lt-ltb}
-use Rattle.lists.specs.Choice.{_⇒_else_}
-use Rattle.lists.specs.Lists.{done, more, range}
-use Rattle.lists.proofs.Bools.{and-true}
+use lib.Dec.{leb, ltb}
+use borrow.Author.Tests.{eqb-true, leb-true, ltb-true, lt-ltb}
+use Rattle.lists.specs.Choice.{_⇒_else_, _==_}
+use Rattle.lists.specs.Lists.{any, done, more, range}
+use Rattle.lists.proofs.Bools.{ft, or-true, and-true}
 use Rattle.lists.proofs.Sums.{all-bool}
 use Rattle.graph.specs.Changes.{cost}
 use Rattle.graph.specs.Same.{alters}
@@ -20,7 +20,7 @@ use Rattle.machine.specs.HistoryCodes.{isChange}
 use Rattle.commands.specs.Commands.{changeOf, callOf}
 use Rattle.machine.specs.Codes.{free, codeTable, refusal}
 use Rattle.machine.specs.HistoryCodes.{noRoom}
-use Rattle.commands.specs.Tables.{Row, inTurn, First, found, later, NoneApplies, none, passed}
+use Rattle.commands.specs.Tables.{Row, inTurn, lowest, First, found, later, NoneApplies, none, passed}
 use Rattle.commands.specs.declared.Command.{Command}
 use Rattle.machine.proofs.Families.{Coded}
 use Rattle.machine.specs.Run.{Lent, listTable, listRefusal}
@@ -60,6 +60,41 @@ none-to (r ∷ rs) (more c cs) e = go (λ i. none-to rs cs i) (r .applies) refl 
 pub none-from : {rs : List Row} → NoneApplies rs → inTurn rs ≡ 0
 none-from none = refl
 none-from (passed f h) = rw f (none-from h)
+
+-- ---- the lowest
+
+-- each code is above the one before it, the first above p
+abbrev pub rises : ℕ → List Row → Bool
+rises p [] = true
+rises p (r ∷ rs) = ltb p (r .code) && rises (r .code) rs
+
+-- code k has a row that applies
+abbrev pub appliesIn : ℕ → List Row → Bool
+appliesIn k rs = any (λ (r : Row). (r .code == k) && r .applies) rs
+
+above : (p k : ℕ) (rs : List Row) → rises p rs ≡ true → appliesIn k rs ≡ true → p < k
+above p k [] h a = ft a
+above p k (r ∷ rs) h a = go (λ i. above (r .code) k rs (and-true (ltb p (r .code)) (rises (r .code) rs) h .1) i) (or-true ((r .code == k) && r .applies) (appliesIn k rs) a)
+  where
+    go : (appliesIn k rs ≡ true → r .code < k) → (((r .code == k) && r .applies) ≡ true) ⊎ (appliesIn k rs ≡ true) → p < k
+    go ih (inl i) = omega (arith, ltb-true p (r .code) (and-true (ltb p (r .code)) (rises (r .code) rs) h .0), eqb-true (r .code) k (and-true (r .code == k) (r .applies) i .0))
+    go ih (inr i) = omega (arith, ltb-true p (r .code) (and-true (ltb p (r .code)) (rises (r .code) rs) h .0), ih i)
+
+-- of rows whose codes rise, no code that applies is below the first that does
+least : (p k : ℕ) (rs : List Row) → rises p rs ≡ true → appliesIn k rs ≡ true → inTurn rs ≤ k
+least p k [] h a = ft a
+least p k (r ∷ rs) h a = go (λ i. least (r .code) k rs (and-true (ltb p (r .code)) (rises (r .code) rs) h .1) i) (r .applies) refl (or-true ((r .code == k) && r .applies) (appliesIn k rs) a)
+  where
+    go : (appliesIn k rs ≡ true → inTurn rs ≤ k) → (t : Bool) → r .applies ≡ t → (((r .code == k) && r .applies) ≡ true) ⊎ (appliesIn k rs ≡ true) → (r .applies ⇒ r .code else inTurn rs) ≤ k
+    go ih true f (inl i) = rw f (omega (arith, eqb-true (r .code) k (and-true (r .code == k) (r .applies) i .0)))
+    go ih true f (inr i) = rw f (omega (arith, above (r .code) k rs (and-true (ltb p (r .code)) (rises (r .code) rs) h .1) i))
+    go ih false f (inl i) = ft (sym f ∙ and-true (r .code == k) (r .applies) i .1)
+    go ih false f (inr i) = rw f (ih i)
+
+-- the code of a call is not above any code whose row applies to its words
+pub lowest-is : (w : Parameters) (m : Machine) (x : Call) (k : ℕ) → appliesIn k (codeTable w m x) ≡ true → lowest (codeTable w m x) ≤ k
+unfolding codeTable
+lowest-is w m x k a = least 0 k (codeTable w m x) refl a
 
 -- ---- the table of a call
 

@@ -23,9 +23,10 @@ use Rattle.commands.specs.Commands.{commandOf}
 use Rattle.machine.specs.Calls.{Parameters}
 use Rattle.machine.specs.Codes.{refusal}
 use Rattle.machine.specs.Machine.{deedOf, answerTo, answer, step, last}
-use Rattle.machine.specs.Marks.{eventOf, events, setsBy, setsMark, endsBy, endsMark, Kept, set-here, set-later, goTo, MarkSentence}
+use Rattle.machine.specs.Marks.{eventOf, events, setsMark, endsMark, Kept, set-here, set-later, goTo, MarkSentence}
 use Rattle.machine.proofs.Families.{change-effect}
 use Rattle.machine.proofs.Accepts.{code-is, accepted-step, refused-step, not-refused}
+use Rattle.machine.proofs.MarkCalls.{setsBy, endsBy, sets-is, ends-is}
 use Rattle.machine.proofs.Stands.{gone-at, cut-at, set-to, drop-to, KeptOrStanding, last-to, kept-from}
 
 -- ---- the places stay within the graphs, and a kept place keeps its graph
@@ -164,13 +165,13 @@ holds-ends w m x k q g h i e = go (refusal w m (commandOf x) == 0) refl
     go : (t : Bool) → (refusal w m (commandOf x) == 0) ≡ t → Holds (step w m x) q g
     go true f =
         rw (accepted-step w m (commandOf x) f)
-        (holds-next (deedOf w (commandOf x) m .effect) m q g h i (ends-loses (deedOf w (commandOf x) m .effect) k q (m .line .place) (rw (code-is w m (commandOf x) true f) at e)))
+        (holds-next (deedOf w (commandOf x) m .effect) m q g h i (ends-loses (deedOf w (commandOf x) m .effect) k q (m .line .place) (rw (code-is w m (commandOf x) true f) at (sym (ends-is w m k q x) ∙ e))))
     go false f = rw (refused-step w m (commandOf x) f) i
 
 holds-sets : (w : Parameters) (m : Machine) (x : Call) (k q : ℕ) (g : Graph) → PlacesInRange m → Holds m q g →
     setsMark k (eventOf w m x) ≡ true → Holds (step w m x) q g
 holds-sets w m x k q g h i e =
-    let a = and-true _ _ e in
+    let a = and-true _ _ (sym (sets-is w m k q x) ∙ e) in
     let f = not-refused w m (commandOf x) (a .0) in
     rw (accepted-step w m (commandOf x) f) (holds-next (deedOf w (commandOf x) m .effect) m q g h i (sets-loses (deedOf w (commandOf x) m .effect) k q (m .line .place) (a .1)))
 
@@ -208,7 +209,7 @@ sets-range w m Unknown k f e = ft e
 kept-range : (w : Parameters) (m : Machine) (xs : List Call) (k q : ℕ) (g : Graph) → Kept k q g (events w m xs) → within 1 64 k ≡ true
 unfolding events
 kept-range w m (x ∷ xs) k q g (set-here s p c nz) =
-    let a = and-true _ _ s in
+    let a = and-true _ _ (sym (sets-is w m k q x) ∙ s) in
     sets-range w m (commandOf x) k (not-refused w m (commandOf x) (a .0)) (a .1)
 kept-range w m (x ∷ xs) k q g (set-later r) = kept-range w (step w m x) xs k q g r
 

@@ -17,17 +17,14 @@ use Rattle.machine.specs.Calls.{Parameters, known}
 use Rattle.machine.specs.Codes.{codeTable, refusal}
 
 -- a call of kind k with the other words of x
-abbrev ofKind : ℕ → Call → Call
+abbrev pub ofKind : ℕ → Call → Call
 ofKind k x = five k (x .a) (x .b) (x .c) (x .d)
 
-call-is : (x : Call) (k : ℕ) → x .kind ≡ k → x ≡ ofKind k x
+pub call-is : (x : Call) (k : ℕ) → x .kind ≡ k → x ≡ ofKind k x
 call-is x k e = λ i. five (e i) (x .a) (x .b) (x .c) (x .d)
 
-abbrev OnWords : Parameters → Machine → Call → Type 0
-OnWords w m x = lowest (codeTable w m x) ≡ refusal w m (commandOf x)
-
-module _ (w : Parameters) (m : Machine) (x : Call) where
-  unknown : known (x .kind) ≡ false → commandOf x ≡ Unknown
+module _ (x : Call) where
+  pub unknown : known (x .kind) ≡ false → commandOf x ≡ Unknown
   unfolding commandOf
   unknown e = low (x .kind == 0) refl
     where
@@ -61,12 +58,19 @@ module _ (w : Parameters) (m : Machine) (x : Call) where
           high (leb (x .kind) 29) refl f (lt-leb (x .kind) 16 (omega arith)) (lt-leb (x .kind) 22 (omega arith))
 
   -- this kind, or a later one
-  next : (k : ℕ) → OnWords w m (ofKind k x) → (suc k ≤ x .kind → OnWords w m x) → k ≤ x .kind → OnWords w m x
-  next k h later l = go (x .kind == k) refl
+  pub next-kind : (P : Call → Type 0) (k : ℕ) → P (ofKind k x) → (suc k ≤ x .kind → P x) → k ≤ x .kind → P x
+  next-kind P k h later l = go (x .kind == k) refl
     where
-      go : (t : Bool) → (x .kind == k) ≡ t → OnWords w m x
-      go true e = subst (λ y. OnWords w m y) (sym (call-is x k (eqb-true (x .kind) k e))) h
+      go : (t : Bool) → (x .kind == k) ≡ t → P x
+      go true e = subst P (sym (call-is x k (eqb-true (x .kind) k e))) h
       go false e = let d = eqb-false (x .kind) k e in later (omega arith)
+
+abbrev OnWords : Parameters → Machine → Call → Type 0
+OnWords w m x = lowest (codeTable w m x) ≡ refusal w m (commandOf x)
+
+module _ (w : Parameters) (m : Machine) (x : Call) where
+  next : (k : ℕ) → OnWords w m (ofKind k x) → (suc k ≤ x .kind → OnWords w m x) → k ≤ x .kind → OnWords w m x
+  next k h later l = next-kind x (OnWords w m) k h later l
 
   early : x .kind ≤ 22 → 1 ≤ x .kind → OnWords w m x
   unfolding refusal commandOf
@@ -79,7 +83,7 @@ module _ (w : Parameters) (m : Machine) (x : Call) where
   -- a kind that is not named
   other : known (x .kind) ≡ false → OnWords w m x
   unfolding refusal
-  other e = (rw e) ∙ sym (ap (refusal w m) (unknown e))
+  other e = (rw e) ∙ sym (ap (refusal w m) (unknown x e))
 
   pub on-words : OnWords w m x
   on-words = go (known (x .kind)) refl

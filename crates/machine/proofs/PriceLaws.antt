@@ -1,14 +1,15 @@
 -- A price is read off the present graph alone, so it comes back with the graph of a mark; where code 17 is given.
 use Prim.Native.Nat.{ℕ, _<_}
-use mathlib.Core.Path.{_≡_, refl, ap, _∙_}
+use mathlib.Core.Path.{_≡_, refl, sym, ap, _∙_}
 use mathlib.Core.Logic.{_↔_}
 use mathlib.Core.Bool.{Bool, true, false, _||_}
-use mathlib.Core.List.{List}
+use mathlib.Core.List.{List, [], _∷_, _++_}
 use native.Mathlib.Omega.{arith}
 use lib.Dec.{ltb}
 use borrow.Author.Tests.{ltb-true, lt-ltb}
 use Rattle.lists.proofs.Bools.{ft}
 use Rattle.lists.specs.Choice.{_⇒_else_, _==_}
+use Rattle.lists.specs.Lists.{any}
 use Rattle.graph.specs.Graph.{Graph}
 use Rattle.history.specs.Machine.{Machine, fresh, present}
 use Rattle.commands.specs.declared.PriceCall.{PriceCall}
@@ -21,7 +22,7 @@ use Rattle.prices.specs.Prices.{nothingHeard}
 use Rattle.machine.specs.Codes.{lacksVertex, priceCode}
 use Rattle.commands.specs.declared.Answer.{Answer}
 use Rattle.machine.specs.Machine.{priceNumber, answerTo, answer, step, last}
-use Rattle.machine.specs.Marks.{events, Kept, goTo}
+use Rattle.machine.specs.Marks.{eventOf, events, setsMark, endsMark, Kept, set-here, set-later, goTo}
 use Rattle.machine.proofs.Families.{price-refusal}
 use Rattle.machine.proofs.MarkLaws.{mark-sentence}
 
@@ -60,3 +61,21 @@ price-comes-back w g xs k q h b c d r x p e =
     ap (answerTo w (step w (last w (fresh g) xs) (goTo k b c d))) e
     ∙ price-of-present w (step w (last w (fresh g) xs) (goTo k b c d)) p
     ∙ ap (λ (y : Graph). priceOn y p) (mark-sentence w g xs .going k q h b c d r .1)
+
+-- a mark that call s sets and none of the calls vs ends
+kept-at : (w : Parameters) (m : Machine) (us vs : List Call) (s : Call) (k : ℕ) → setsMark k (eventOf w (last w m us) s) ≡ true →
+    any (endsMark k (last w m us .line .place)) (events w (step w (last w m us) s) vs) ≡ false →
+    Kept k (last w m us .line .place) (present (last w m us)) (events w m (us ++ (s ∷ vs)))
+unfolding last events
+kept-at w m [] vs s k e f = set-here e refl refl f
+kept-at w m (u ∷ us) vs s k e f = set-later (kept-at w (step w m u) us vs s k e f)
+
+-- after returning to a mark, each call of the price list answers what it would have answered where the mark was set
+pub price-as-there : (w : Parameters) (g : Graph) (us vs : List Call) (s : Call) (k b c d : ℕ) →
+    setsMark k (eventOf w (last w (fresh g) us) s) ≡ true →
+    any (endsMark k (last w (fresh g) us .line .place)) (events w (step w (last w (fresh g) us) s) vs) ≡ false →
+    (x : Call) (p : PriceCall) → commandOf x ≡ Quote p →
+    answer w (step w (last w (fresh g) (us ++ (s ∷ vs))) (goTo k b c d)) x ≡ answer w (last w (fresh g) us) x
+price-as-there w g us vs s k b c d e f x p i =
+    price-comes-back w g (us ++ (s ∷ vs)) k _ (present (last w (fresh g) us)) b c d (kept-at w (fresh g) us vs s k e f) x p i
+    ∙ sym (ap (answerTo w (last w (fresh g) us)) i ∙ price-of-present w (last w (fresh g) us) p)

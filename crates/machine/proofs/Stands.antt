@@ -17,8 +17,9 @@ use Rattle.commands.specs.Commands.{commandOf}
 use Rattle.machine.specs.Calls.{Parameters}
 use Rattle.machine.specs.Codes.{refusal}
 use Rattle.machine.specs.Machine.{deedOf, step, last}
-use Rattle.machine.specs.Marks.{eventOf, events, setsBy, setsMark, endsBy, endsMark, Kept, set-here, set-later}
+use Rattle.machine.specs.Marks.{eventOf, events, setsMark, endsMark, Kept, set-here, set-later}
 use Rattle.machine.proofs.Accepts.{code-is, accepted-step, refused-step}
+use Rattle.machine.proofs.MarkCalls.{setsBy, endsBy, sets-is, ends-is}
 
 -- mark k stands at q after an effect e at place p: the call set it there, or it stood there before and the call did not end it
 After : Effect → Machine → ℕ → ℕ → Type 0
@@ -88,8 +89,8 @@ unfolding AfterCall After
 step-to w m x k q e = go (refusal w m (commandOf x) == 0) refl
   where
     go : (t : Bool) → (refusal w m (commandOf x) == 0) ≡ t → AfterCall w m x k q
-    go true f = rw (code-is w m (commandOf x) true f) (next-to (deedOf w (commandOf x) m .effect) m k q (rw (accepted-step w m (commandOf x) f) at e))
-    go false f = rw (code-is w m (commandOf x) false f) (inr (rw (refused-step w m (commandOf x) f) at e, refl))
+    go true f = rw (sets-is w m k q x, ends-is w m k q x, code-is w m (commandOf x) true f) (next-to (deedOf w (commandOf x) m .effect) m k q (rw (accepted-step w m (commandOf x) f) at e))
+    go false f = rw (sets-is w m k q x, ends-is w m k q x, code-is w m (commandOf x) false f) (inr (rw (refused-step w m (commandOf x) f) at e, refl))
 
 refused-from : {P Q : Type 0} → ((false ≡ true) × P) ⊎ (Q × (false ≡ false)) → Q
 refused-from (inl h) = ft (h .0)
@@ -100,8 +101,8 @@ unfolding AfterCall After
 step-from w m x k q e = go (refusal w m (commandOf x) == 0) refl
   where
     go : (t : Bool) → (refusal w m (commandOf x) == 0) ≡ t → step w m x .marks k ≡ at q
-    go true f = rw (accepted-step w m (commandOf x) f) (next-from (deedOf w (commandOf x) m .effect) m k q (rw (code-is w m (commandOf x) true f) at e))
-    go false f = rw (refused-step w m (commandOf x) f) (refused-from (rw (code-is w m (commandOf x) false f) at e))
+    go true f = rw (accepted-step w m (commandOf x) f) (next-from (deedOf w (commandOf x) m .effect) m k q (rw (sets-is w m k q x, ends-is w m k q x, code-is w m (commandOf x) true f) at e))
+    go false f = rw (refused-step w m (commandOf x) f) (refused-from (rw (sets-is w m k q x, ends-is w m k q x, code-is w m (commandOf x) false f) at e))
 
 -- ---- the first sentence, from any machine
 

@@ -1,35 +1,38 @@
 -- Every step made another graph, so what kind 49 counts are steps that altered the graph.
 use Prim.Native.Nat.{ℕ, zero, suc, _≤_, _<_}
-use mathlib.Core.Path.{_≡_, refl, sym, _∙_}
+use mathlib.Core.Path.{_≡_, refl, sym, ap}
 use mathlib.Core.Bool.{Bool, true, false, not}
 use mathlib.Core.List.{List, [], _∷_, _++_}
 use native.Mathlib.Omega.{arith}
-use lib.ListN.{length, take}
-use Rattle.lists.specs.Choice.{_==_}
-use Rattle.lists.specs.Lists.{All, done, more}
+use lib.ListN.{length, take, length-append}
+use borrow.Author.Tests.{not-false}
+use Rattle.lists.specs.Choice.{_⇒_else_, _==_}
+use Rattle.lists.specs.Keyed.{countBy}
 use Rattle.lists.proofs.Bools.{ft}
+use Rattle.lists.proofs.Counts.{any-count}
+use Rattle.lists.proofs.KeyedLaws.{count-rem}
+use Rattle.lists.proofs.Picks.{is-yes}
+use Rattle.graph.specs.declared.Reading.the-variants.{Untested}
 use Rattle.graph.specs.declared.Change.{Change}
-use Rattle.graph.specs.Graph.{Graph}
-use Rattle.graph.specs.Changes.{changed}
+use Rattle.graph.specs.declared.Change.the-variants.{CreateVertex, DeleteVertex, CreateEdge, DeleteEdge, RetypeVertex, RetypeEdge, SetValue, SetReading, SetAlpha, SetOmega, VertexBefore, VertexAfter, EdgeBefore, EdgeAfter, WordBefore, WordAfter}
+use Rattle.graph.specs.Graph.{Graph, vertexNumber, edgeNumber, hasVertex, hasEdge}
+use Rattle.graph.specs.WellFormed.{Bounds}
+use Rattle.graph.specs.Changes.{createVertex, createEdge, deleteEdge, deleteEdges, deleteVertex, edgesAt, changed}
 use Rattle.graph.specs.Same.{sameGraph, differs, alters}
-use Rattle.graph.proofs.Facts.{to-facts}
-use Rattle.graph.proofs.Alters.{same-from, alters-exactly}
+use Rattle.graph.proofs.Alters.{same-from}
+use Rattle.graph.proofs.EdgesAt.{removals-are, removals-vertices}
 use Rattle.commands.specs.declared.Command.{Command}
 use Rattle.commands.specs.declared.Command.the-variants.{Alter, History, Ask, Quote, Unknown}
 use Rattle.commands.specs.Calls.{Call}
 use Rattle.commands.specs.Commands.{commandOf}
-use Rattle.commands.specs.Fits.{Words, CommandFits}
-use Rattle.commands.proofs.Fitting.{command-fits}
 use Rattle.history.specs.Machine.{Step, stepOf, Machine, graphAt, fresh, present}
 use Rattle.machine.specs.Rules.{Effect, steps, marks, unmarks, goes, clears, nothing, effected}
 use Rattle.machine.specs.Calls.{Parameters, boundsIn}
-use Rattle.machine.specs.Codes.{refusal}
+use Rattle.machine.specs.Codes.{lacksVertex, lacksEdge, changeCode, refusal}
 use Rattle.machine.specs.Machine.{deedOf, answerTo, stepTo, step, last}
 use Rattle.machine.proofs.Accepts.{accepted-step, refused-step}
-use Rattle.machine.proofs.Allows.{allows}
 use Rattle.machine.proofs.Families.{Makes, change-effect, history-makes, change-passed}
-use Rattle.machine.proofs.Graphs.{Formed, present-formed}
-use Rattle.machine.proofs.Invariant.{Invariant, fresh-invariant, step-invariant}
+use Rattle.machine.proofs.MarkLaws.{PlacesInRange, fresh-places, places-step}
 
 -- each graph differs from the one before it, from g on
 abbrev pub Altering : Graph → List Step → Type 0
@@ -44,22 +47,64 @@ cut (suc p) g (x ∷ ss) s a h n = (a .0, cut p (x .graph) ss s (a .1) (omega ar
 abbrev Another : Machine → Step → Type 0
 Another m s = present m ≡ s .graph → ⊥
 
+-- ---- a change that no code from 2 to 9 refuses and that alters the graph makes another one, whatever graph it is
+
+passed-row : (t : Bool) (k r : ℕ) → 1 ≤ k → _≡_ {A = ℕ} (t ⇒ k else r) 0 → t ≡ false
+passed-row true k r p e = absurd (omega arith)
+passed-row false k r p e = refl
+
+module _ (b : Bounds) (g : Graph) where
+  compared : (c : Change) → differs c g ≡ true → g ≡ changed c g → ⊥
+  unfolding differs
+  compared c d q = no (sameGraph (changed c g) g) (same-from _ _ (sym q)) d
+    where
+      no : (t : Bool) → t ≡ true → not t ≡ true → ⊥
+      no true p r = ft r
+      no false p r = ft p
+
+  another : (c : Change) → changeCode b g c ≡ 0 → alters c g ≡ true → g ≡ changed c g → ⊥
+  unfolding alters changed createVertex createEdge deleteEdge deleteVertex
+  another (CreateVertex n t x) e a q = omega (arith, ap (λ (y : Graph). length (y .vseq)) q, length-append (g .vseq) (record { number = n; type = t; value = x; incidences = [] } ∷ []))
+  another (DeleteVertex i) e a q =
+      omega (
+        arith,
+        any-count vertexNumber i (g .vseq) (not-false (hasVertex g i) (passed-row (lacksVertex g i) 4 0 (omega arith) e)),
+        count-rem vertexNumber i i (deleteEdges (edgesAt g i) g .vseq),
+        is-yes i i refl,
+        ap (λ (y : Graph). countBy vertexNumber i (y .vseq)) (removals-are (edgesAt g i) g),
+        removals-vertices (edgesAt g i) i g,
+        ap (λ (y : Graph). countBy vertexNumber i (y .vseq)) q,
+      )
+  another (CreateEdge n i o t) e a q = omega (arith, ap (λ (y : Graph). length (y .eseq)) q, length-append (g .eseq) (record { number = n; alpha = i; omega = o; type = t; reading = Untested } ∷ []))
+  another (DeleteEdge i) e a q =
+      omega (
+        arith,
+        any-count edgeNumber i (g .eseq) (not-false (hasEdge g i) (passed-row (lacksEdge g i) 5 0 (omega arith) e)),
+        count-rem edgeNumber i i (g .eseq),
+        is-yes i i refl,
+        ap (λ (y : Graph). countBy edgeNumber i (y .eseq)) q,
+      )
+  another (RetypeVertex i t) e a q = compared (RetypeVertex i t) a q
+  another (RetypeEdge i t) e a q = compared (RetypeEdge i t) a q
+  another (SetValue i x) e a q = compared (SetValue i x) a q
+  another (SetReading i k d) e a q = compared (SetReading i k d) a q
+  another (SetAlpha i v) e a q = compared (SetAlpha i v) a q
+  another (SetOmega i v) e a q = compared (SetOmega i v) a q
+  another (VertexBefore i j) e a q = compared (VertexBefore i j) a q
+  another (VertexAfter i j) e a q = compared (VertexAfter i j) a q
+  another (EdgeBefore i j) e a q = compared (EdgeBefore i j) a q
+  another (EdgeAfter i j) e a q = compared (EdgeAfter i j) a q
+  another (WordBefore i j) e a q = compared (WordBefore i j) a q
+  another (WordAfter i j) e a q = compared (WordAfter i j) a q
+
 -- a step that an accepted command makes
-makes-another : (w : Parameters) (m : Machine) (c : Command) → CommandFits c → Invariant w m → (refusal w m c == 0) ≡ true → Makes (Another m) (deedOf w c m .effect)
-unfolding stepOf differs
-makes-another w m (Alter c) f i e =
-    let p = present-formed w m (i .formed) in
-    let wf = to-facts (boundsIn w) (present m) p .0 in
-    let d = alters-exactly (present m) wf (boundsIn w) c (allows (boundsIn w) (present m) wf c f (change-passed w m c e .0)) in
-    change-effect (Makes (Another m)) c m (λ a q. no (sameGraph (changed c (present m)) (present m)) (same-from _ _ (sym q)) (sym d ∙ a)) tt
-  where
-    no : (t : Bool) → t ≡ true → not t ≡ true → ⊥
-    no true p r = ft r
-    no false p r = ft p
-makes-another w m (History h) f i e = history-makes (Another m) (w .changes) h m
-makes-another w m (Ask q) f i e = tt
-makes-another w m (Quote p) f i e = tt
-makes-another w m Unknown f i e = tt
+makes-another : (w : Parameters) (m : Machine) (c : Command) → (refusal w m c == 0) ≡ true → Makes (Another m) (deedOf w c m .effect)
+unfolding stepOf
+makes-another w m (Alter c) e = change-effect (Makes (Another m)) c m (λ a q. another (boundsIn w) (present m) c (change-passed w m c e .0) a q) tt
+makes-another w m (History h) e = history-makes (Another m) (w .changes) h m
+makes-another w m (Ask q) e = tt
+makes-another w m (Quote p) e = tt
+makes-another w m Unknown e = tt
 
 altering-next : (e : Effect) (m : Machine) → m .line .place ≤ length (m .line .steps) → Makes (Another m) e → Altering (m .line .start) (m .line .steps) →
     Altering (effected e m .line .start) (effected e m .line .steps)
@@ -70,20 +115,20 @@ altering-next (goes p) m h n a = a
 altering-next clears m h n a = tt
 altering-next nothing m h n a = a
 
-altering-step : (w : Parameters) (m : Machine) (x : Call) → Words x → Invariant w m → Altering (m .line .start) (m .line .steps) → Altering (step w m x .line .start) (step w m x .line .steps)
-altering-step w m x f i a = go (refusal w m c == 0) refl
+altering-step : (w : Parameters) (m : Machine) (x : Call) → PlacesInRange m → Altering (m .line .start) (m .line .steps) → Altering (step w m x .line .start) (step w m x .line .steps)
+altering-step w m x i a = go (refusal w m c == 0) refl
   where
     c : Command
     c = commandOf x
 
     go : (t : Bool) → (refusal w m c == 0) ≡ t → Altering (stepTo w m c .line .start) (stepTo w m c .line .steps)
-    go true e = rw (accepted-step w m c e) (altering-next (deedOf w c m .effect) m (i .places .place-in) (makes-another w m c (command-fits x f) i e) a)
+    go true e = rw (accepted-step w m c e) (altering-next (deedOf w c m .effect) m (i .place-in) (makes-another w m c e) a)
     go false e = rw (refused-step w m c e) a
 
-altering-last : (w : Parameters) (m : Machine) (xs : List Call) → All Words xs → Invariant w m → Altering (m .line .start) (m .line .steps) → Altering (last w m xs .line .start) (last w m xs .line .steps)
+altering-last : (w : Parameters) (m : Machine) (xs : List Call) → PlacesInRange m → Altering (m .line .start) (m .line .steps) → Altering (last w m xs .line .start) (last w m xs .line .steps)
 unfolding last
-altering-last w m [] done i a = a
-altering-last w m (x ∷ xs) (more f fs) i a = altering-last w (step w m x) xs fs (step-invariant w m x f i) (altering-step w m x f i a)
+altering-last w m [] i a = a
+altering-last w m (x ∷ xs) i a = altering-last w (step w m x) xs (places-step w m x i) (altering-step w m x i a)
 
 differ-at : (i : ℕ) (g : Graph) (ss : List Step) → Altering g ss → i < length ss → graphAt i g ss ≡ graphAt (suc i) g ss → ⊥
 differ-at i g [] a h = absurd (omega arith)
@@ -91,9 +136,9 @@ differ-at zero g (s ∷ ss) a h = a .0
 differ-at (suc i) g (s ∷ ss) a h = differ-at i (s .graph) ss (a .1) (omega arith)
 
 -- in a machine that calls reach, Gi and Gi+1 are never the same
-pub steps-alter : (w : Parameters) (g : Graph) (xs : List Call) → Formed w g → All Words xs → (i : ℕ) → i < length (last w (fresh g) xs .line .steps) →
+pub steps-alter : (w : Parameters) (g : Graph) (xs : List Call) → (i : ℕ) → i < length (last w (fresh g) xs .line .steps) →
     graphAt i (last w (fresh g) xs .line .start) (last w (fresh g) xs .line .steps) ≡ graphAt (suc i) (last w (fresh g) xs .line .start) (last w (fresh g) xs .line .steps) → ⊥
-steps-alter w g xs h fs i = differ-at i _ _ (altering-last w (fresh g) xs fs (fresh-invariant w g h) tt)
+steps-alter w g xs i = differ-at i _ _ (altering-last w (fresh g) xs (fresh-places g) tt)
 
 -- an accepted change that alters nothing answers 0 and leaves the machine as it is
 pub unaltered : (w : Parameters) (m : Machine) (c : Change) → refusal w m (Alter c) ≡ 0 → alters c (present m) ≡ false →

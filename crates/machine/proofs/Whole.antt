@@ -17,6 +17,7 @@ use Rattle.machine.specs.Run.{Lent, AfterRun, parametersOf, listRefusal,
 use Rattle.machine.specs.Demand.{begins, after, Demand3}
 use Rattle.machine.proofs.MarkLaws.{mark-sentence}
 use Rattle.machine.proofs.ListRows.{passed}
+use Rattle.machine.proofs.StepsAlter.{steps-alter}
 use Rattle.machine.proofs.Ends.{run-end-fits}
 
 -- the answer to each call of a list is the one on what the calls before it left
@@ -26,12 +27,16 @@ unfolding answers last
 answered w m [] ys x = refl
 answered w m (y ∷ xs) ys x = ap (λ (r : List Answer). answer w m y ∷ r) (answered w (step w m y) xs ys x)
 
--- the codes of the events are those answered
-pub codes-answered : (w : Parameters) (m : Machine) (xs : List Call) →
-    map (λ (e : Event). e .code) (events w m xs) ≡ map (λ (r : Answer). r .code) (answers w m xs)
+-- the events are the calls with their answers
+pub events-called : (w : Parameters) (m : Machine) (xs : List Call) → map (λ (e : Event). e .call) (events w m xs) ≡ xs
+unfolding events
+events-called w m [] = refl
+events-called w m (x ∷ xs) = ap (λ (r : List Call). x ∷ r) (events-called w (step w m x) xs)
+
+pub events-answered : (w : Parameters) (m : Machine) (xs : List Call) → map (λ (e : Event). e .answer) (events w m xs) ≡ answers w m xs
 unfolding answers events
-codes-answered w m [] = refl
-codes-answered w m (x ∷ xs) = ap (λ (r : List ℕ). answer w m x .code ∷ r) (codes-answered w (step w m x) xs)
+events-answered w m [] = refl
+events-answered w m (x ∷ xs) = ap (λ (r : List Answer). answer w m x ∷ r) (events-answered w (step w m x) xs)
 
 runs : (l : Lent) → listRefusal l ≡ 0 → run l ≡ accepted l
 unfolding run
@@ -46,8 +51,9 @@ demand-3 l e = record {
   saved = ap (λ (r : AfterRun). r .end) (runs l e);
   words = ap (λ (r : AfterRun). r .words) (runs l e);
   each-call = λ xs ys x c. rw (← c) (answered (parametersOf l) (begins l) xs ys x);
-  event-codes = λ xs. codes-answered (parametersOf l) (begins l) xs;
+  events-are = λ xs. (events-called (parametersOf l) (begins l) xs, events-answered (parametersOf l) (begins l) xs);
   every-point = λ xs ys c. mark-sentence (parametersOf l) (load (l .start)) xs;
+  steps-alter = λ xs ys c i h. steps-alter (parametersOf l) (load (l .start)) xs i h;
 }
 
 -- ---- the slices keep their lengths

@@ -1,12 +1,13 @@
 -- The way back as one claim about a whole list that is not refused: REFERENCE 14.2 and 14.3.
+use Prim.Native.Nat.{ℕ, suc, _<_}
 use mathlib.Core.Path.{_≡_}
+use mathlib.Core.Logic.{_≢_}
 use mathlib.Core.List.{List, _∷_, _++_, map}
 use lib.ListN.{length}
 use Rattle.lists.specs.Lists.{overwritten}
 use Rattle.image.specs.Image.{save, load}
-use Rattle.history.specs.Machine.{Machine, fresh, present}
+use Rattle.history.specs.Machine.{Machine, graphAt, fresh, present}
 use Rattle.commands.specs.Calls.{Call, callsOf}
-use Rattle.commands.specs.declared.Answer.{Answer}
 use Rattle.machine.specs.Machine.{answer, answers, step, last}
 use Rattle.machine.specs.Marks.{Event, events, MarkSentence}
 use Rattle.machine.specs.Run.{Lent, AfterRun, parametersOf, answerWords}
@@ -36,9 +37,14 @@ pub record Demand3 (l : Lent) (r : AfterRun) : Type 0 where
       answers (parametersOf l) (begins l) xs
       ++ (answer (parametersOf l) (after l xs) x ∷ answers (parametersOf l)
       (step (parametersOf l) (after l xs) x) ys)
-  -- at each point, also after the last call: the events are the calls with the codes answered
-  pub event-codes : (xs : List Call)
-      → map (λ (e : Event). e .code) (events (parametersOf l) (begins l) xs) ≡ map (λ (a : Answer). a .code)
-      (answers (parametersOf l) (begins l) xs)
+  -- at each point, also after the last call: the events are the calls with their answers
+  pub events-are : (xs : List Call)
+      → (map (λ (e : Event). e .call) (events (parametersOf l) (begins l) xs) ≡ xs)
+      × (map (λ (e : Event). e .answer) (events (parametersOf l) (begins l) xs) ≡ answers (parametersOf l) (begins l) xs)
   pub every-point : (xs ys : List Call) → xs ++ ys ≡ callsOf (l .calls)
       → MarkSentence (parametersOf l) (load (l .start)) xs
+  -- and each graph of the machine differs from the one before it: the steps between two marks altered something
+  pub steps-alter : (xs ys : List Call) → xs ++ ys ≡ callsOf (l .calls)
+      → (i : ℕ) → i < length (after l xs .line .steps)
+      → graphAt i (after l xs .line .start) (after l xs .line .steps)
+      ≢ graphAt (suc i) (after l xs .line .start) (after l xs .line .steps)

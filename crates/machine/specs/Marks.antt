@@ -2,65 +2,53 @@
 use Prim.Native.Nat.{ℕ}
 use mathlib.Core.Path.{_≡_}
 use mathlib.Core.Logic.{_↔_}
-use mathlib.Core.Bool.{Bool, true, false, _&&_}
+use mathlib.Core.Bool.{Bool, true, false, not, _&&_}
 use mathlib.Core.List.{List, [], _∷_}
 use lib.Dec.{ltb}
-use Rattle.lists.specs.Choice.{_==_}
-use Rattle.lists.specs.Lists.{any}
+use Rattle.lists.specs.Choice.{_⇒_else_, _==_}
+use Rattle.lists.specs.Lists.{any, _is_}
 use Rattle.graph.specs.Graph.{Graph}
 use Rattle.history.specs.Machine.{Machine, at, distance, fresh, present}
-use Rattle.machine.specs.Rules.{Effect, steps, marks, unmarks, goes, clears, nothing}
 use Rattle.commands.specs.Calls.{Call, five}
-use Rattle.commands.specs.Commands.{commandOf}
+use Rattle.commands.specs.declared.Answer.{Answer}
 use Rattle.machine.specs.Calls.{Parameters}
-use Rattle.machine.specs.Machine.{deedOf, answer, step, last}
+use Rattle.machine.specs.HistoryCodes.{isChange}
+use Rattle.machine.specs.Machine.{answer, step, last}
 
--- a call, its answer's code, what it does where it is accepted, and p and Gp as it begins
+-- a call, its answer, and p and Gp as it begins
 pub record Event : Type 0 where
   pub call : Call
-  pub code : ℕ
-  pub effect : Effect
+  pub answer : Answer
   pub place : ℕ
   pub graph : Graph
 
 abbrev pub eventOf : Parameters → Machine → Call → Event
-eventOf w m x = record {
-  call = x;
-  code = answer w m x .code;
-  effect = deedOf w (commandOf x) m .effect;
-  place = m .line .place;
-  graph = present m;
-}
+eventOf w m x = record { call = x; answer = answer w m x; place = m .line .place; graph = present m }
 
 -- what happened, in the order of the calls
 unfoldable pub events : Parameters → Machine → List Call → List Event
 events w m [] = []
 events w m (x ∷ xs) = eventOf w m x ∷ events w (step w m x) xs
 
-abbrev pub setsBy : Effect → ℕ → Bool
-setsBy (marks n) k = k == n
-setsBy (steps s) k = false
-setsBy (unmarks n) k = false
-setsBy (goes p) k = false
-setsBy clears k = false
-setsBy nothing k = false
+-- kind 17 of mark k
+abbrev pub callSets : ℕ → Call → Bool
+callSets k x = (x .kind == 17) && (k == x .a)
 
--- the call set mark k
+-- the call was accepted, and set mark k
 abbrev pub setsMark : ℕ → Event → Bool
-setsMark k e = (e .code == 0) && setsBy (e .effect) k
+setsMark k e = (e .answer .code == 0) && callSets k (e .call)
 
--- whether an accepted call at place p ends mark k, which stands at q: k set anew or dropped, a commit, a change with p
--- below q
-abbrev pub endsBy : Effect → ℕ → ℕ → ℕ → Bool
-endsBy (steps s) k q p = ltb p q
-endsBy (marks n) k q p = k == n
-endsBy (unmarks n) k q p = k == n
-endsBy clears k q p = true
-endsBy (goes r) k q p = false
-endsBy nothing k q p = false
+-- whether an accepted call at place p, with the number n, ends mark k, which stands at q: k set anew or dropped, a
+-- commit, or a change with p below q. A change that alters nothing has the number 0 and is not counted (REFERENCE 3.11).
+abbrev pub callEnds : ℕ → ℕ → ℕ → ℕ → Call → Bool
+callEnds k q p n x =
+    (x .kind is (17 ∷ 18 ∷ [])) ⇒ (k == x .a) else
+    (x .kind == 22) ⇒ true else
+    isChange (x .kind) ⇒ (not (n == 0) && ltb p q) else
+    false
 
 abbrev pub endsMark : ℕ → ℕ → Event → Bool
-endsMark k q e = (e .code == 0) && endsBy (e .effect) k q (e .place)
+endsMark k q e = (e .answer .code == 0) && callEnds k q (e .place) (e .answer .number) (e .call)
 
 -- an accepted call set mark k at place q, where the graph was g, and since then no call of these events ended it
 pub data Kept (k q : ℕ) (g : Graph) : List Event → Type 0 where

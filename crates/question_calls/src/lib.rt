@@ -212,7 +212,7 @@ fn below_of(closed: &[u64; 64], types: u32, s: u32, t: u32) -> Answer
     accepted(as_number(below))
 }
 
-// The answer to a question; types is their number, closed the closure of their rows.
+// The answer to a question; types is their number, closed the closure of some rows.
 pub fn reply(
     head: Head,
     vertices: &[u32],
@@ -223,6 +223,7 @@ pub fn reply(
 ) -> Answer
     requires { ⌜ ((b : Bounds) × (g : Graph) × Sized b (state head (now vertices) (now edges))
         × Holds (state head (now vertices) (now edges)) g) ⌝ }
+    requires { ⌜ ((rows : List ℕ) × (goodRows rows ≡ true) × (now closed ≡ closureWords rows)) ⌝ }
     ensures { λ r. ⌜ ((g : Graph) → (rows : List ℕ) → (b : Bounds) → Sized b (entryState head vertices edges)
         → Holds (entryState head vertices edges) g → goodRows rows ≡ true → now (closed .entry) ≡ closureWords rows
         → r ≡ answerOf (questionCode types g question) (questionNumber rows g question)) ⌝ }

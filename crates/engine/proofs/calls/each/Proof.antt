@@ -67,7 +67,7 @@ loop-again c =
       s .kept .1 .1 .1 .0 ∙ l .inv .3,
       simp length-set (l .inv .4),
       λ w m h.
-          rw (c .same .ensures) (after-calls-more w m _ _ _ _ _ _ (a .calls .now) (l .k) _ (s .result) _ (l .inv .5 w m h) (c .before .before .before .before .before .before .before .before .before .before .before .before .decode .ensures) (s .ensures)
+          rw (c .same .ensures) (after-calls-more w m _ _ _ _ _ _ (a .calls .now) (l .k) _ (s .result) _ (l .inv .5 w m h) (c .before .before .before .before .before .before .before .before .before .before .before .before .decode .ensures) (s .ensures .0)
           (omega (arith, c .before .before .before .before .before .before .before .before .before .before .before .before .before .before)) (omega (arith, c .before .before .before .before .before .before .before .before .before .before .before .before .before .before))),
     )
 

@@ -3,7 +3,7 @@ use mathlib.Core.Path.{_≡_, refl, sym, _∙_}
 use borrow.Author.Needs.{needs}
 use Rattle.machine.specs.Run.{Lent, listRefusal, listNumber}
 use Rattle.engine.specs.Outcomes.{lent}
-use Rattle.engine.proofs.Demand.{meets-demand-3}
+use Rattle.engine.proofs.Demand.{meets-demand-1, meets-demand-2, meets-demand-3}
 use Rattle.engine.proofs.RunLaws.{lends, run-refused, run-accepted}
 use Rattle.engine.proofs.run.run.Statement.{statement}
 use Rattle.engine.proofs.run.run.Tie as tie
@@ -24,7 +24,8 @@ returns c =
     let d = c .before .before .before in
     let t = told d in
     let n = c .before .if1 .taken in
-    (run-refused (given d) _ _ (t .0) (t .1) n, (λ z. (refl, refl, refl), λ e. absurd (n (t .0 ∙ e))))
+    let ran-as = run-refused (given d) _ _ (t .0) (t .1) n in
+    (ran-as, (λ z. (refl, refl, refl), (meets-demand-1 (given d) _ _ _ ran-as _ (λ z. (refl, refl, refl)), (meets-demand-2 (given d) _ _ _ ran-as, λ e. absurd (n (t .0 ∙ e))))))
 
 accepted-requires : tie.Need-accepted-requires
 accepted-requires c κs = sym (told (c .before .before .before .before .before .before .before) .0) ∙ c .before .before .before .before .before .if1 .left
@@ -34,7 +35,7 @@ returns-2 c =
     let d = c .before .before .before .before .before .before .before .before .before .before .before .before .before .before .before .before .before .before in
     let e = sym (told d .0) ∙ c .before .before .before .before .before .before .before .before .before .before .before .before .before .before .before .before .if1 .left in
     let ran-as = run-accepted (given d) _ e (c .before .before .before .before .before .before .before .before .before .before .accepted .ensures) in
-    (ran-as, (λ n. absurd (n e), meets-demand-3 (given d) _ _ _ ran-as))
+    (ran-as, (λ n. absurd (n e), (meets-demand-1 (given d) _ _ _ ran-as _ (λ n. absurd (n e)), (meets-demand-2 (given d) _ _ _ ran-as, meets-demand-3 (given d) _ _ _ ran-as))))
 
 pub run-spec : {M : Type 1} → statement M
 run-spec =

@@ -1,0 +1,131 @@
+-- The calls that set and end marks, by their kinds and answers, are those whose effect does.
+use Prim.Native.Nat.{ℕ, suc, _≤_, _<_}
+use mathlib.Core.Path.{_≡_, refl, sym, ap, _∙_}
+use mathlib.Core.Logic.{_⊎_, inl, inr}
+use mathlib.Core.Bool.{Bool, true, false, not, _&&_}
+use native.Mathlib.Omega.{arith}
+use lib.Dec.{leb, ltb}
+use borrow.Author.Tests.{eqb-true, eqb-false, ne-eqb, leb-false, le-leb, lt-leb}
+use Rattle.lists.specs.Choice.{_⇒_else_, _==_, within}
+use Rattle.lists.proofs.Bools.{or-true, or-none, within-range}
+use Rattle.graph.specs.declared.Change.{Change}
+use Rattle.graph.specs.Changes.{cost}
+use Rattle.graph.specs.Same.{alters}
+use Rattle.history.specs.Machine.{Machine, present}
+use Rattle.commands.specs.declared.Command.{Command}
+use Rattle.commands.specs.declared.Command.the-variants.{Alter}
+use Rattle.commands.specs.Calls.{Call}
+use Rattle.commands.specs.Commands.{changeOf, commandOf}
+use Rattle.machine.specs.Rules.{Effect, steps, marks, unmarks, goes, clears, nothing, changeDeed}
+use Rattle.machine.specs.Calls.{Parameters, known}
+use Rattle.machine.specs.Codes.{refusal}
+use Rattle.machine.specs.Machine.{deedOf, answerTo, answer}
+use Rattle.machine.specs.Marks.{eventOf, callSets, setsMark, callEnds, endsMark}
+use Rattle.machine.proofs.Accepts.{code-is, number-is}
+use Rattle.machine.proofs.Families.{change-effect}
+use Rattle.machine.proofs.GraphBounds.{cost-real}
+use Rattle.machine.proofs.OnWords.{ofKind, unknown, next-kind}
+
+-- ---- the same by the effect
+
+abbrev pub setsBy : Effect → ℕ → Bool
+setsBy (marks n) k = k == n
+setsBy (steps s) k = false
+setsBy (unmarks n) k = false
+setsBy (goes p) k = false
+setsBy clears k = false
+setsBy nothing k = false
+
+abbrev pub endsBy : Effect → ℕ → ℕ → ℕ → Bool
+endsBy (steps s) k q p = ltb p q
+endsBy (marks n) k q p = k == n
+endsBy (unmarks n) k q p = k == n
+endsBy clears k q p = true
+endsBy (goes r) k q p = false
+endsBy nothing k q p = false
+
+-- ---- by the kind
+
+is-change : (x : Call) → within 1 16 (x .kind) ≡ true → commandOf x ≡ Alter (changeOf x)
+unfolding commandOf
+is-change x h = let r = within-range 1 16 (x .kind) h in rw (ne-eqb (x .kind) 0 (omega arith), le-leb (x .kind) 16 (r .1))
+
+change-ends : (c : Change) (m : Machine) (k q p : ℕ) → (not (changeDeed c m .number == 0) && ltb p q) ≡ endsBy (changeDeed c m .effect) k q p
+change-ends c m k q p = go (alters c (present m)) refl
+  where
+    go : (t : Bool) → alters c (present m) ≡ t → (not (changeDeed c m .number == 0) && ltb p q) ≡ endsBy (changeDeed c m .effect) k q p
+    go true e = rw (e, ne-eqb (cost c (present m)) 0 (λ z. omega (arith, z, cost-real c (present m))))
+    go false e = rw e
+
+-- what is to be shown of a call: whether it sets mark k, and whether it ends mark k, which stands at q
+abbrev ByKind : Parameters → Machine → ℕ → ℕ → Call → Type 0
+ByKind w m k q x =
+    (callSets k x ≡ setsBy (deedOf w (commandOf x) m .effect) k)
+    × (callEnds k q (m .line .place) (deedOf w (commandOf x) m .number) x ≡ endsBy (deedOf w (commandOf x) m .effect) k q (m .line .place))
+
+module _ (w : Parameters) (m : Machine) (k q : ℕ) (x : Call) where
+  change-kind : within 1 16 (x .kind) ≡ true → ByKind w m k q x
+  change-kind h =
+      let r = within-range 1 16 (x .kind) h in (
+        rw (is-change x h, ne-eqb (x .kind) 17 (omega arith)) (change-effect (λ e. false ≡ setsBy e k) (changeOf x) m (λ _. refl) refl),
+        rw (is-change x h, ne-eqb 17 (x .kind) (omega arith), ne-eqb 18 (x .kind) (omega arith), ne-eqb (x .kind) 22 (omega arith), h)
+            (change-ends (changeOf x) m k q (m .line .place)),
+      )
+
+  next : (n : ℕ) → ByKind w m k q (ofKind n x) → (suc n ≤ x .kind → ByKind w m k q x) → n ≤ x .kind → ByKind w m k q x
+  next n h later l = next-kind x (ByKind w m k q) n h later l
+
+  history-kind : x .kind ≤ 22 → 17 ≤ x .kind → ByKind w m k q x
+  unfolding commandOf
+  history-kind top = next 17 (refl, refl) (next 18 (refl, refl) (next 19 (refl, refl) (next 20 (refl, refl) (next 21 (refl, refl) (next 22 (refl, refl) (λ h. absurd (omega arith)))))))
+
+  late-kind : x .kind ≤ 54 → 30 ≤ x .kind → ByKind w m k q x
+  unfolding commandOf
+  late-kind top = next 30 (refl, refl) (next 31 (refl, refl) (next 32 (refl, refl) (next 33 (refl, refl) (next 34 (refl, refl) (next 35 (refl, refl) (next 36 (refl, refl) (next 37 (refl, refl) (next 38 (refl, refl) (next 39 (refl, refl) (next 40 (refl, refl) (next 41 (refl, refl) (next 42 (refl, refl) (next 43 (refl, refl) (next 44 (refl, refl) (next 45 (refl, refl) (next 46 (refl, refl) (next 47 (refl, refl) (next 48 (refl, refl) (next 49 (refl, refl) (next 50 (refl, refl) (next 51 (refl, refl) (next 52 (refl, refl) (next 53 (refl, refl) (next 54 (refl, refl) (λ h. absurd (omega arith))))))))))))))))))))))))))
+
+  -- a kind that is not named
+  other-kind : known (x .kind) ≡ false → ByKind w m k q x
+  other-kind e = rw (unknown x e) (quiet (x .kind == 0) refl)
+    where
+      quiet : (t : Bool) → (x .kind == 0) ≡ t → (callSets k x ≡ false) × (callEnds k q (m .line .place) 0 x ≡ false)
+      quiet true z =
+          let i = eqb-true (x .kind) 0 z in (
+            rw (ne-eqb (x .kind) 17 (omega (arith, i))),
+            rw (ne-eqb 17 (x .kind) (omega (arith, i)), ne-eqb 18 (x .kind) (omega (arith, i)), ne-eqb (x .kind) 22 (omega (arith, i)), lt-leb 1 (x .kind) (omega (arith, i))),
+          )
+      quiet false z =
+          let i = eqb-false (x .kind) 0 z in
+          let j : 22 < x .kind = leb-false (x .kind) 22 (sym (ap (λ (t : Bool). t && leb (x .kind) 22) (le-leb 1 (x .kind) (omega arith))) ∙ or-none (within 1 22 (x .kind)) (within 30 54 (x .kind)) e .0) in (
+            rw (ne-eqb (x .kind) 17 (omega arith)),
+            rw (ne-eqb 17 (x .kind) (omega arith), ne-eqb 18 (x .kind) (omega arith), ne-eqb (x .kind) 22 (omega arith), le-leb 1 (x .kind) (omega arith), lt-leb (x .kind) 16 (omega arith)),
+          )
+
+  by-kind : ByKind w m k q x
+  by-kind = go (known (x .kind)) refl
+    where
+      first : (t : Bool) → leb (x .kind) 16 ≡ t → (1 ≤ x .kind) → (x .kind ≤ 22) → ByKind w m k q x
+      first true e l h = change-kind (rw (le-leb 1 (x .kind) l, e))
+      first false e l h = let i = leb-false (x .kind) 16 e in history-kind h (omega arith)
+
+      either : (within 1 22 (x .kind) ≡ true) ⊎ (within 30 54 (x .kind) ≡ true) → ByKind w m k q x
+      either (inl h) = let r = within-range 1 22 (x .kind) h in first (leb (x .kind) 16) refl (r .0) (r .1)
+      either (inr h) = let r = within-range 30 54 (x .kind) h in late-kind (r .1) (r .0)
+
+      go : (t : Bool) → known (x .kind) ≡ t → ByKind w m k q x
+      go true e = either (or-true (within 1 22 (x .kind)) (within 30 54 (x .kind)) e)
+      go false e = other-kind e
+
+  -- ---- events
+
+  pub sets-is : setsMark k (eventOf w m x) ≡ ((answer w m x .code == 0) && setsBy (deedOf w (commandOf x) m .effect) k)
+  sets-is = ap (λ (t : Bool). (answer w m x .code == 0) && t) (by-kind .0)
+
+  pub ends-is : endsMark k q (eventOf w m x) ≡ ((answer w m x .code == 0) && endsBy (deedOf w (commandOf x) m .effect) k q (m .line .place))
+  ends-is = go (refusal w m (commandOf x) == 0) refl
+    where
+      go : (t : Bool) → (refusal w m (commandOf x) == 0) ≡ t →
+          endsMark k q (eventOf w m x) ≡ ((answer w m x .code == 0) && endsBy (deedOf w (commandOf x) m .effect) k q (m .line .place))
+      go true f =
+          ap (λ (n : ℕ). (answer w m x .code == 0) && callEnds k q (m .line .place) n x) (number-is w m (commandOf x) f)
+          ∙ ap (λ (t : Bool). (answer w m x .code == 0) && t) (by-kind .1)
+      go false f = rw (code-is w m (commandOf x) false f)
