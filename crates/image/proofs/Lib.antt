@@ -29,3 +29,4 @@ pub mod FirstBad
 pub mod Fill
 pub mod Follows
 pub mod LoadCodes
+pub mod HeaderCode

@@ -1,9 +1,10 @@
 -- Every answer word is below 2^32.
-use Prim.Native.Nat.{ℕ, _^_, _≤_, _<_}
+use Prim.Native.Nat.{ℕ, suc, _^_, _≤_, _<_}
 use mathlib.Core.Path.{_≡_, refl}
 use mathlib.Core.Bool.{Bool, true, false}
 use mathlib.Core.List.{List, [], _∷_}
 use native.Mathlib.Omega.{arith}
+use lib.ListN.{getD}
 use lib.Dec.{leb}
 use borrow.Author.Tests.{leb-true}
 use Rattle.lists.specs.Choice.{_⇒_else_, _==_, toBit}
@@ -160,6 +161,11 @@ answers-fit w m [] k i done = done
 answers-fit w m (x ∷ xs) k i (more f fs) =
     let a = answer-fits w m k i (commandOf x) in
     more (a .0) (more (a .1) (answers-fit w (step w m x) xs k (step-invariant w m x f i) fs))
+
+-- words of which each has 32 bits
+pub all-fit : (ws : List ℕ) → ((i : ℕ) → getD ws i 0 < 2 ^ 32) → All Word ws
+all-fit [] h = done
+all-fit (w ∷ ws) h = more (h 0) (all-fit ws (λ i. h (suc i)))
 
 -- calls of words that have 32 bits
 pub calls-fit : {ws : List ℕ} → All Word ws → All Words (callsOf ws)

@@ -1,12 +1,19 @@
 -- Every list meets demands 1 and 2.
-use Prim.Native.Nat.{ℕ, suc}
-use mathlib.Core.Path.{_≡_, sym, ap, _∙_}
-use mathlib.Core.Bool.{true}
+use Prim.Native.Nat.{ℕ, suc, _≤_}
+use mathlib.Core.Path.{_≡_, refl, sym, ap, _∙_}
+use mathlib.Core.Logic.{⊎-elim}
+use mathlib.Core.Bool.{Bool, true, false}
 use mathlib.Core.List.{List, [], _∷_}
 use native.Mathlib.Omega.{arith}
-use borrow.Author.Tests.{eq-eqb, ne-eqb}
+use borrow.Author.Tests.{eq-eqb, eqb-true, ne-eqb}
 use Rattle.lists.specs.Choice.{_==_}
-use Rattle.image.proofs.Loads.{loads-back, saved-same, saved-loads, loads}
+use Rattle.lists.specs.Lists.{All}
+use Rattle.graph.specs.Graph.{Graph}
+use Rattle.graph.specs.WellFormed.{wellFormed}
+use Rattle.image.specs.Image.{SavesAs}
+use Rattle.image.proofs.Loads.{loads-back, saved-same, saved-loads, saves-loads, loads, loaded}
+use Rattle.image.proofs.LoadCodes.{code-loads}
+use Rattle.image.proofs.WordSize.{Word}
 use Rattle.history.specs.Machine.{Machine}
 use Rattle.commands.specs.declared.Command.{Command}
 use Rattle.commands.specs.Calls.{Call, callsOf}
@@ -16,13 +23,15 @@ use Rattle.machine.specs.Calls.{Parameters, boundsIn}
 use Rattle.machine.specs.Codes.{codeTable, refusal}
 use Rattle.commands.specs.declared.Answer.{Answer}
 use Rattle.machine.specs.Machine.{deedOf, answerTo, answer, answers, step}
-use Rattle.machine.specs.Run.{Lent, parametersOf, listTable, listRefusal, listNumber, refused, run}
+use Rattle.machine.specs.Run.{Lent, parametersOf, listTable, listRefusal, listNumber, accepted, refused, run}
 use Rattle.machine.specs.Demand.{begins}
 use Rattle.machine.specs.Demands.{Each, ByTable, Demand1, OfTheGraph, Demand2}
 use Rattle.machine.proofs.Accepts.{refused-step}
+use Rattle.machine.proofs.AnswerBounds.{calls-fit}
 use Rattle.machine.proofs.Graphs.{end-formed}
-use Rattle.machine.proofs.ListRows.{start-formed}
-use Rattle.machine.proofs.Lowest.{turn-to, turn-from, none-to, none-from, coded, list-code-given}
+use Rattle.machine.proofs.BadStart.{found}
+use Rattle.machine.proofs.ListRows.{passed, start-formed}
+use Rattle.machine.proofs.Lowest.{turn-to, turn-from, none-to, none-from, coded, list-code-given, list-either}
 use Rattle.machine.proofs.OnWords.{on-words}
 use Rattle.machine.proofs.Whole.{demand-3}
 
@@ -60,22 +69,43 @@ refused-is : (l : Lent) (k : ℕ) → listRefusal l ≡ suc k → run l ≡ refu
 unfolding run
 refused-is l k e = rw (e, ne-eqb (suc k) 0 (omega arith))
 
+code-is : (l : Lent) → run l .code ≡ listRefusal l
+unfolding run accepted refused
+code-is l = go (listRefusal l == 0) refl
+  where
+    go : (t : Bool) → (listRefusal l == 0) ≡ t → run l .code ≡ listRefusal l
+    go true e = rw e (sym (eqb-true (listRefusal l) 0 e))
+    go false e = rw e
+
+-- a start that some graph saves as has none of its codes
+unsaved : (l : Lent) (k : ℕ) → run l .code ≡ k → 105 ≤ k → (106 ≡ k → ⊥) → (g : Graph) → wellFormed (boundsIn (parametersOf l)) g ≡ true → SavesAs g (l .start) → ⊥
+unsaved l k e c n g h s =
+    let f = found l k (sym (code-is l) ∙ e) c n .0 in
+    let z = code-loads (boundsIn (parametersOf l)) (l .start) .1 (saves-loads (boundsIn (parametersOf l)) g h (l .start) s) in
+    omega (arith, f, z, c)
+
 pub demand-1 : (l : Lent) (tables-stay : Type 0) → ((listRefusal l ≡ 0 → ⊥) → tables-stay) → Demand1 l (run l) tables-stay
 demand-1 l T f = record {
+  either = list-either l;
   refusal = λ k h. let e = list-code-given l k .1 h in (refused-is l k e, f (λ z. omega (arith, e, z)));
   answered = λ h.
       let d = demand-3 l (not-refused l h) in
       (d .code, d .done, (answers (parametersOf l) (begins l) (callsOf (l .calls)), d .answered, each (ByTable (parametersOf l)) (parametersOf l) (by-table (parametersOf l)) (begins l) (callsOf (l .calls))));
 }
 
-pub demand-2 : (l : Lent) → Demand2 l (run l)
-demand-2 l = record {
+-- the words of the calls have 32 bits, as those of every slice that is lent
+pub demand-2 : (l : Lent) → All Word (l .calls) → Demand2 l (run l)
+demand-2 l fits = record {
   answered = λ h.
       (answers (parametersOf l) (begins l) (callsOf (l .calls)), demand-3 l (not-refused l h) .answered, each (OfTheGraph (parametersOf l)) (parametersOf l) (of-the-graph (parametersOf l)) (begins l) (callsOf (l .calls)));
+  starts = λ h. let d = loaded (boundsIn (parametersOf l)) (l .start) (passed l (not-refused l h) .start-loads) in (d .formed, d .saves);
+  refuses = λ o g h s.
+      ⊎-elim (λ e. unsaved l 105 e (omega arith) (λ z. omega arith) g h s)
+      (λ p. ⊎-elim (λ e. unsaved l 108 e (omega arith) (λ z. omega arith) g h s) (λ e. unsaved l 109 e (omega arith) (λ z. omega arith) g h s) p) o;
   loads = loads (boundsIn (parametersOf l));
   same = loads-back (boundsIn (parametersOf l));
-  ends = λ h f.
+  ends = λ h.
       let e = not-refused l h in
-      let g = end-formed (parametersOf l) _ (callsOf (l .calls)) (start-formed l e) f in
+      let g = end-formed (parametersOf l) _ (callsOf (l .calls)) (start-formed l e) (calls-fit fits) in
       (demand-3 l e .saved, saved-loads (boundsIn (parametersOf l)) _ g, saved-same (boundsIn (parametersOf l)) _ g);
 }

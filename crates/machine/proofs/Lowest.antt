@@ -1,5 +1,5 @@
 -- The code given is that of the first row that applies, of a call the lowest; 10 is given for want of room.
-use Prim.Native.Nat.{ℕ, suc, _≤_, _<_}
+use Prim.Native.Nat.{ℕ, zero, suc, _≤_, _<_}
 use mathlib.Core.Path.{_≡_, refl, sym, _∙_}
 use mathlib.Core.Logic.{_↔_, _⊎_, inl, inr}
 use mathlib.Core.Bool.{Bool, true, false, _&&_}
@@ -124,3 +124,16 @@ no-room w m x =
 pub list-code-given : (l : Lent) (k : ℕ) → (listRefusal l ≡ suc k) ↔ First (suc k) (listTable l)
 unfolding listRefusal
 list-code-given l k = (turn-to k (listTable l), turn-from k)
+
+pub list-coded : (l : Lent) → Coded (listTable l)
+unfolding listTable
+list-coded l = all-bool (λ (r : Row). leb 1 (r .code)) (λ r e. leb-true 1 (r .code) e) (listTable l) refl
+
+-- a list has a code, or no row applies
+pub list-either : (l : Lent) → NoneApplies (listTable l) ⊎ ((k : ℕ) × First (suc k) (listTable l))
+unfolding listRefusal
+list-either l = go (listRefusal l) refl
+  where
+    go : (n : ℕ) → listRefusal l ≡ n → NoneApplies (listTable l) ⊎ ((k : ℕ) × First (suc k) (listTable l))
+    go zero e = inl (none-to (listTable l) (list-coded l) e)
+    go (suc k) e = inr (k, list-code-given l k .0 e)

@@ -1,13 +1,12 @@
 -- Demands 1 and 2 as claims about the result of any list. What the tables hold is no part of a result, so demand 1
--- takes the
--- claim that they are as they were.
+-- takes the claim that they are as they were.
 use Prim.Native.Nat.{ℕ, suc}
 use mathlib.Core.Path.{_≡_}
-use mathlib.Core.Logic.{_↔_}
+use mathlib.Core.Logic.{_↔_, _⊎_}
 use mathlib.Core.Bool.{true}
 use mathlib.Core.List.{List, [], _∷_}
 use lib.ListN.{length}
-use Rattle.lists.specs.Lists.{All, overwritten}
+use Rattle.lists.specs.Lists.{overwritten}
 use Rattle.graph.specs.Graph.{Graph}
 use Rattle.graph.specs.WellFormed.{wellFormed}
 use Rattle.image.specs.Image.{save, SavesAs, load, loadable}
@@ -17,7 +16,6 @@ use Rattle.commands.specs.declared.PriceCall.{PriceCall}
 use Rattle.commands.specs.declared.Command.the-variants.{Ask, Quote}
 use Rattle.commands.specs.Calls.{Call, callsOf}
 use Rattle.commands.specs.Commands.{commandOf}
-use Rattle.commands.specs.Fits.{Words}
 use Rattle.commands.specs.Tables.{First, NoneApplies}
 use Rattle.machine.specs.Calls.{Parameters, boundsIn}
 use Rattle.machine.specs.Codes.{codeTable}
@@ -42,6 +40,8 @@ pub record ByTable (w : Parameters) (m : Machine) (x : Call) (a : Answer) : Type
   pub leaves : (a .code ≡ 0 → ⊥) → step w m x ≡ m
 
 pub record Demand1 (l : Lent) (r : AfterRun) (tables-stay : Type 0) : Type 0 where
+  -- a list has a code of its table, or none of them applies
+  pub either : NoneApplies (listTable l) ⊎ ((k : ℕ) × First (suc k) (listTable l))
   -- a list has the first code of its table that applies, with the number beside it; nothing is done and nothing written
   pub refusal : (k : ℕ) → First (suc k) (listTable l) → (r ≡ refused (suc k) (listNumber l) l) × tables-stay
   -- else each call has its answer
@@ -59,13 +59,19 @@ pub record Demand2 (l : Lent) (r : AfterRun) : Type 0 where
   pub answered : NoneApplies (listTable l) →
       ((bs : List Answer) × (r .answers ≡ overwritten (answerWords bs) (l .answers))
       × Each (OfTheGraph (parametersOf l)) (parametersOf l) (begins l) (callsOf (l .calls)) bs)
+  -- the start of a list that is not refused is what the graph it begins with saves as, new or old; one that is refused
+  -- for its start is what no graph within the capacities saves as
+  pub starts : NoneApplies (listTable l) →
+      (wellFormed (boundsIn (parametersOf l)) (present (begins l)) ≡ true) × SavesAs (present (begins l)) (l .start)
+  pub refuses : ((r .code ≡ 105) ⊎ ((r .code ≡ 108) ⊎ (r .code ≡ 109))) → (g : Graph)
+      → wellFormed (boundsIn (parametersOf l)) g ≡ true → SavesAs g (l .start) → ⊥
   -- words load exactly where some graph within the capacities saves as them, new or old, and then they are that graph
   pub loads : (ws : List ℕ)
       → (loadable (boundsIn (parametersOf l)) ws ≡ true) ↔ ((g : Graph)
       × (wellFormed (boundsIn (parametersOf l)) g ≡ true) × SavesAs g ws)
   pub same : (g : Graph) → wellFormed (boundsIn (parametersOf l)) g ≡ true → (ws : List ℕ) → SavesAs g ws → load ws ≡ g
   -- and so is the end image of this list
-  pub ends : NoneApplies (listTable l) → All Words (callsOf (l .calls)) →
+  pub ends : NoneApplies (listTable l) →
       (r .end ≡ overwritten (save (present (after l (callsOf (l .calls))))) (l .end))
       × (loadable (boundsIn (parametersOf l)) (save (present (after l (callsOf (l .calls))))) ≡ true)
       × (load (save (present (after l (callsOf (l .calls))))) ≡ present (after l (callsOf (l .calls))))

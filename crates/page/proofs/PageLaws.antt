@@ -1,25 +1,30 @@
 -- The three answers: the code of words that do not load, 107, or the rows.
 use Prim.Native.Nat.{ℕ, _*_, _/_, _≤_, _<_}
 use mathlib.Core.Path.{_≡_, refl, sym, ap, _∙_}
-use mathlib.Core.Bool.{true}
+use mathlib.Core.Logic.{_⊎_, inl, inr, ⊎-elim, _↔_}
+use mathlib.Core.Bool.{Bool, true, false}
 use mathlib.Core.List.{List}
 use native.Mathlib.Omega.{arith}
 use lib.ListN.{length}
-use borrow.Author.Tests.{lt-ltb, le-ltb, ne-eqb}
+use lib.Dec.{ltb}
+use borrow.Author.Tests.{lt-ltb, le-ltb, ltb-true, ltb-false, eqb-true, eqb-false, ne-eqb}
+use Rattle.lists.specs.Choice.{_==_}
 use Rattle.lists.specs.Lists.{overwritten}
 use Rattle.decimal.specs.Stored.{Stored}
 use Rattle.decimal.proofs.Stores.{stored-over}
 use Rattle.graph.specs.Graph.{Graph}
 use Rattle.graph.specs.WellFormed.{wellFormed}
 use Rattle.image.specs.Image.{SavesAs, recordSize, soundHeader, part, edgeCount, edgePart, load, loadable}
-use Rattle.image.specs.Checks.{loadCode, loadOffset, verdict}
+use Rattle.image.specs.Checks.{codeOf, loadCode, loadOffset, verdict}
+use Rattle.image.specs.declared.Verdict.{Verdict}
+use Rattle.image.specs.declared.Verdict.the-variants.{Sound, BadHeader, BadRecord, BadIncidence}
 use Rattle.image.proofs.Verdicts.{zero-sound}
 use Rattle.image.proofs.LoadCodes.{code-loads}
-use Rattle.image.proofs.Loads.{loads-back, saves-loads, loaded}
+use Rattle.image.proofs.Loads.{loads, loads-back, saves-loads, loaded}
 use Rattle.image.proofs.SavedSound.{loads-sound}
 use Rattle.image.proofs.SoundLoads.{long-edges}
 use Rattle.image.proofs.Room.{few-edges}
-use Rattle.page.specs.Rows.{rowsOf, rowsFrom}
+use Rattle.page.specs.Rows.{rowBytes, rowsOf, rowsFrom}
 use Rattle.page.specs.Page.{PageResult, pageBounds, pageBytes, pageCode, pageOf}
 use Rattle.page.proofs.RowLaws.{rows-length}
 use Rattle.page.proofs.Turns.{from-length}
@@ -56,6 +61,51 @@ page-same g h us ws page s t =
       loads-sound pageBounds ws (saves-loads pageBounds g h ws t),
       e,
     )
+
+-- the page of words that a graph within the bounds saves as: 107 under 25 bytes an edge, else the graph's rows
+module _ (g : Graph) (h : wellFormed pageBounds g ≡ true) (ws page : List ℕ) (s : SavesAs g ws) where
+  loaded-code : loadCode pageBounds ws ≡ 0
+  loaded-code = code-loads pageBounds ws .1 (saves-loads pageBounds g h ws s)
+
+  loaded-graph : load ws ≡ g
+  loaded-graph = loads-back pageBounds g h ws s
+
+  pub graph-short : length page < rowBytes * length (g .eseq) → pageOf ws page ≡ answer 107 0 page
+  graph-short k = sym (page-under ws page loaded-code (rw loaded-graph k))
+
+  pub graph-rows : rowBytes * length (g .eseq) ≤ length page →
+      pageOf ws page ≡ answer 0 (rowBytes * length (g .eseq)) (overwritten (rowsOf g) page)
+  graph-rows k =
+      sym (page-full ws page loaded-code (rw loaded-graph k)) ∙ ap (λ (x : Graph). answer 0 (length (rowsOf x)) (overwritten (rowsOf x) page)) loaded-graph
+      ∙ ap (λ (n : ℕ). answer 0 n (overwritten (rowsOf g) page)) (rows-length g)
+
+-- a page is refused for its words exactly where no graph within the bounds saves as them
+pub page-loads : (ws page : List ℕ) →
+    ((pageOf ws page .code ≡ 0) ⊎ (pageOf ws page .code ≡ 107)) ↔ ((g : Graph) × (wellFormed pageBounds g ≡ true) × SavesAs g ws)
+page-loads ws page = (λ o. go (loadCode pageBounds ws == 0) refl o, λ w. from (w .0) (w .1) (w .2))
+  where
+    own : (loadCode pageBounds ws ≡ 0 → ⊥) → pageOf ws page .code ≡ loadCode pageBounds ws
+    own n = sym (ap (λ (x : PageResult). x .code) (page-refused ws page _ _ refl refl n))
+
+    no-107 : (v : Verdict) → codeOf v ≡ 107 → ⊥
+    no-107 Sound e = omega arith
+    no-107 BadHeader e = omega arith
+    no-107 (BadRecord at) e = omega arith
+    no-107 (BadIncidence at) e = omega arith
+
+    go : (t : Bool) → (loadCode pageBounds ws == 0) ≡ t → ((pageOf ws page .code ≡ 0) ⊎ (pageOf ws page .code ≡ 107)) →
+        (g : Graph) × (wellFormed pageBounds g ≡ true) × SavesAs g ws
+    go true e o = loads pageBounds ws .0 (code-loads pageBounds ws .0 (eqb-true _ 0 e))
+    go false e o =
+        let n = eqb-false (loadCode pageBounds ws) 0 e in
+        ⊎-elim (λ z. absurd (n (sym (own n) ∙ z))) (λ z. absurd (no-107 (verdict pageBounds ws) (sym (own n) ∙ z))) o
+
+    from : (g : Graph) → wellFormed pageBounds g ≡ true → SavesAs g ws → (pageOf ws page .code ≡ 0) ⊎ (pageOf ws page .code ≡ 107)
+    from g h s = split (ltb (length page) (rowBytes * length (g .eseq))) refl
+      where
+        split : (t : Bool) → ltb (length page) (rowBytes * length (g .eseq)) ≡ t → (pageOf ws page .code ≡ 0) ⊎ (pageOf ws page .code ≡ 107)
+        split true e = inr (ap (λ (x : PageResult). x .code) (graph-short g h ws page s (ltb-true _ _ e)))
+        split false e = inl (ap (λ (x : PageResult). x .code) (graph-rows g h ws page s (ltb-false _ _ e)))
 
 -- ---- the edge part of words that load
 

@@ -1,5 +1,8 @@
 -- `engine::run::run` meets its contract.
+use Prim.Native.Nat.{ℕ, _^_, _<_}
 use mathlib.Core.Path.{_≡_, refl, sym, _∙_}
+use native.Mathlib.Omega.{arith}
+use lib.ListN.{getD}
 use borrow.Author.Needs.{needs}
 use Rattle.machine.specs.Run.{Lent, listRefusal, listNumber}
 use Rattle.engine.specs.Outcomes.{lent}
@@ -19,13 +22,17 @@ told c =
     let a = c .before .before .before .before .before .before .before .before .before .args in
     c .refusal .ensures (given c) (lends (a .start .now) (a .rows .now) (a .calls .now) (a .vertices .now) (a .edges .now) (a .journal .now) (a .answers .now) (a .image .now))
 
+-- the words of the calls have 32 bits
+words : (c : tie.After-refusal) (i : ℕ) → getD (given c .calls) i 0 < 2 ^ 32
+words c i = omega (arith, c .before .before .before .before .before .before .shared-slice-known3 .given i)
+
 returns : tie.Need-returns
 returns c =
     let d = c .before .before .before in
     let t = told d in
     let n = c .before .if1 .taken in
     let ran-as = run-refused (given d) _ _ (t .0) (t .1) n in
-    (ran-as, (λ z. (refl, refl, refl), (meets-demand-1 (given d) _ _ _ ran-as _ (λ z. (refl, refl, refl)), (meets-demand-2 (given d) _ _ _ ran-as, λ e. absurd (n (t .0 ∙ e))))))
+    (ran-as, (λ z. (refl, refl, refl), (meets-demand-1 (given d) _ _ _ ran-as _ (λ z. (refl, refl, refl)), (meets-demand-2 (given d) _ _ _ ran-as (words d), λ e. absurd (n (t .0 ∙ e))))))
 
 accepted-requires : tie.Need-accepted-requires
 accepted-requires c κs = sym (told (c .before .before .before .before .before .before .before) .0) ∙ c .before .before .before .before .before .if1 .left
@@ -35,7 +42,7 @@ returns-2 c =
     let d = c .before .before .before .before .before .before .before .before .before .before .before .before .before .before .before .before .before .before in
     let e = sym (told d .0) ∙ c .before .before .before .before .before .before .before .before .before .before .before .before .before .before .before .before .if1 .left in
     let ran-as = run-accepted (given d) _ e (c .before .before .before .before .before .before .before .before .before .before .accepted .ensures) in
-    (ran-as, (λ n. absurd (n e), (meets-demand-1 (given d) _ _ _ ran-as _ (λ n. absurd (n e)), (meets-demand-2 (given d) _ _ _ ran-as, meets-demand-3 (given d) _ _ _ ran-as))))
+    (ran-as, (λ n. absurd (n e), (meets-demand-1 (given d) _ _ _ ran-as _ (λ n. absurd (n e)), (meets-demand-2 (given d) _ _ _ ran-as (words d), meets-demand-3 (given d) _ _ _ ran-as))))
 
 pub run-spec : {M : Type 1} → statement M
 run-spec =
