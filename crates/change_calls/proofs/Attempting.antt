@@ -26,7 +26,8 @@ use Rattle.graph_tables.specs.Holds.{Holds}
 use Rattle.graph_tables.specs.Capacities.{boundsOf}
 use Rattle.queries.specs.Plans.{planS, OneEdit}
 use Rattle.queries.proofs.PlanLaws.{plan-is, one-edit}
-use Rattle.single_changes.specs.One.{HoldsGraph, One, tried, withRoom}
+use Rattle.tried_edits.specs.Tried.{tried}
+use Rattle.single_changes.specs.One.{HoldsGraph, One, withRoom}
 use Rattle.single_changes.proofs.OneLaws.{no-code, some-room}
 use Rattle.timeline.specs.declared.Position.{Position}
 use Rattle.timeline.specs.Current.{afterStep}

@@ -30,8 +30,6 @@ use Rattle.graph_tables.specs.Capacities.{Sized, boundsOf}
 use Rattle.graph_tables.proofs.Callers.{small, vertex-in, edge-in}
 use Rattle.graph_tables.proofs.Refines.{can-edit}
 use Rattle.graph_tables.proofs.Steps.{can-by}
-use Rattle.journal.specs.Rows.{costing}
-use Rattle.journal.specs.Written.{Written}
 use Rattle.queries.specs.Plans.{planS, CanPlan, OneEdit}
 use Rattle.queries.proofs.Answers.{reading-words}
 use Rattle.queries.proofs.PlanLaws.{can-plan, plan-is, one-edit}
@@ -39,8 +37,9 @@ use Rattle.machine.specs.Codes.{changeCode}
 use Rattle.change_codes.specs.Held.{HoldsVE}
 use Rattle.commands.specs.Fits.{ChangeFits}
 use Rattle.machine.proofs.Allows.{allows}
-use Rattle.single_changes.specs.declared.Made.{Made}
-use Rattle.single_changes.specs.One.{HoldsGraph, ReadingWords, tried, Tries, One, withRoom}
+use Rattle.tried_edits.specs.declared.Made.{Made}
+use Rattle.tried_edits.specs.Tried.{tried, Tries}
+use Rattle.single_changes.specs.One.{HoldsGraph, ReadingWords, One, withRoom}
 
 pub no-code : (keeps : Bool) (free c : ℕ) → withRoom keeps free c ≡ 0 → c ≡ 0
 no-code keeps free c e = go (c == 0) refl e
@@ -177,41 +176,8 @@ no-deletion (WordAfter a b) o z = omega arith
 
 -- ---- what is written is the plan
 
--- nothing is written where the edit keeps the graph, or where there is no room
-module _ {e : Edit} {i free : ℕ} {h : Head} {vertices edges t : List ℕ} {r : Made} where
-  pub tries-kept : idle e ≡ true → r ≡ record { head = h; code = 0; cost = 0 } → Tries e i free (state h vertices edges) t (r .code) (r .cost) (state (r .head) vertices edges) t
-  tries-kept a q = subst (λ (y : Made). Tries e i free (state h vertices edges) t (y .code) (y .cost) (state (y .head) vertices edges) t) (sym q) (record {
-    coded = ap (λ (p : Bool). tried p free) (sym a);
-    stays = λ _. (refl, refl);
-    keeps = λ _ _. a;
-    made = λ d. absurd (d refl);
-  })
-
-  pub tries-full : idle e ≡ false → free ≡ 0 → r ≡ record { head = h; code = 10; cost = 0 } → Tries e i free (state h vertices edges) t (r .code) (r .cost) (state (r .head) vertices edges) t
-  tries-full a z q = subst (λ (y : Made). Tries e i free (state h vertices edges) t (y .code) (y .cost) (state (y .head) vertices edges) t) (sym q) (record {
-    coded = rw (a, z);
-    stays = λ _. (refl, refl);
-    keeps = λ _ d. absurd (omega arith);
-    made = λ d. absurd (d refl);
-  })
-
-pub tries-made : {e : Edit} {i free : ℕ} {s : State} {h : Head} {vertices edges t t′ : List ℕ} {r : Made} → idle e ≡ false → free ≢ 0 → Written e (costing 1) i s t (state h vertices edges) t′ →
-    r ≡ record { head = h; code = 0; cost = 1 } → Tries e i free s t (r .code) (r .cost) (state (r .head) vertices edges) t′
-tries-made {e = e} {i = i} {free = free} {s = s} {h = h} {vertices = vertices} {edges = edges} {t = t} {t′ = t′} a n w q =
-    subst (λ (y : Made). Tries e i free s t (y .code) (y .cost) (state (y .head) vertices edges) t′) (sym q) (record {
-      coded = rw (a, ne-eqb free 0 n);
-      stays = λ d. absurd (omega arith);
-      keeps = λ d. absurd (omega arith);
-      made = λ _. record { coded = refl; costs = refl; alters = a; written = w };
-    })
-
 pub tries-by : {e e′ : Edit} {i free : ℕ} {s s′ : State} {t t′ : List ℕ} {k n : ℕ} → e ≡ e′ → Tries e i free s t k n s′ t′ → Tries e′ i free s t k n s′ t′
 tries-by {i = i} {free = free} {s = s} {s′ = s′} {t = t} {t′ = t′} {k = k} {n = n} p w = subst (λ (x : Edit). Tries x i free s t k n s′ t′) p w
-
--- the words of an edge as the edit compares them
-pub edge-idle : (n s s2 k d k2 d2 : ℕ) → IsWords k d → IsWords k2 d2 →
-    idle (SetEdge n s (readingOf k d) s2 (readingOf k2 d2)) ≡ ((s == s2) && ((k == k2) && (d == d2)))
-edge-idle n s s2 k d k2 d2 u v = rw (u .0, u .1, v .0, v .1)
 
 pub words-by : {k k′ d d′ : ℕ} → k ≡ k′ → d ≡ d′ → IsWords k′ d′ → IsWords k d
 words-by p q w = rw (p, q) w

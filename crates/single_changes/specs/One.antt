@@ -2,10 +2,9 @@
 use Prim.Native.Nat.{ℕ}
 use mathlib.Core.Path.{_≡_}
 use mathlib.Core.Logic.{_≢_}
-use mathlib.Core.Bool.{Bool, true, false}
+use mathlib.Core.Bool.{Bool, true}
 use mathlib.Core.List.{List}
 use Rattle.lists.specs.Choice.{_==_, _⇒_else_}
-use Rattle.graph.specs.declared.Edit.{Edit}
 use Rattle.graph.specs.declared.Change.{Change}
 use Rattle.graph.specs.declared.Change.the-variants.{
   CreateVertex,
@@ -30,12 +29,11 @@ use Rattle.graph.specs.Same.{idle}
 use Rattle.graph_tables.specs.Tables.{State, ekind, edecimetres}
 use Rattle.graph_tables.specs.Holds.{Holds}
 use Rattle.graph_tables.specs.Capacities.{Sized, boundsOf}
-use Rattle.journal.specs.Rows.{costing}
-use Rattle.journal.specs.Written.{Written}
 use Rattle.queries.specs.Plans.{planS}
 use Rattle.machine.specs.Codes.{changeCode}
 use Rattle.change_codes.specs.Held.{HoldsVE}
 use Rattle.commands.specs.Fits.{ChangeFits}
+use Rattle.tried_edits.specs.Tried.{Makes, tried}
 
 -- the head and the tables hold a graph, within the limits
 pub record HoldsGraph (s : State) : Type 0 where
@@ -61,25 +59,6 @@ ReadingWords (EdgeBefore a b) s = Unit {0}
 ReadingWords (EdgeAfter a b) s = Unit {0}
 ReadingWords (WordBefore a b) s = Unit {0}
 ReadingWords (WordAfter a b) s = Unit {0}
-
--- the edit alters something, is row i, a step of cost 1, and is carried out
-pub record Makes (e : Edit) (i : ℕ) (s : State) (t : List ℕ) (code cost : ℕ) (s′ : State) (t′ : List ℕ) : Type 0 where
-  pub coded : code ≡ 0
-  pub costs : cost ≡ 1
-  pub alters : idle e ≡ false
-  pub written : Written e (costing 1) i s t s′ t′
-
--- the code of an edit of cost 1: room is asked only of one that alters something
-abbrev pub tried : Bool → ℕ → ℕ
-tried keeps free = keeps ⇒ 0 else ((free == 0) ⇒ 10 else 0)
-
--- an edit tried; cost 0 says that nothing was written
-pub record Tries (e : Edit) (i free : ℕ) (s : State) (t : List ℕ) (code cost : ℕ) (s′ : State)
-    (t′ : List ℕ) : Type 0 where
-  pub coded : code ≡ tried (idle e) free
-  pub stays : cost ≡ 0 → (s′ ≡ s) × (t′ ≡ t)
-  pub keeps : cost ≡ 0 → code ≡ 0 → idle e ≡ true
-  pub made : cost ≢ 0 → Makes e i s t code cost s′ t′
 
 -- the lowest code of a change of cost 1: one of 2 to 9, then that of its edit
 abbrev pub withRoom : Bool → ℕ → ℕ → ℕ

@@ -1,9 +1,6 @@
 // Kinds 1 and 3 to 8, one function each: its codes, the words that its edit names, read off the tables, and the edit
 // tried. A caller has tables that hold a graph, and room for the row where `free` is not 0; the words of the call may
 // be any.
-use crate::Made;
-use crate::adding;
-use crate::unchanged;
 use graph::Change;
 use graph_tables::Head;
 use graph_tables::choice::choose;
@@ -14,6 +11,8 @@ use graph_tables::rows::reading_kind;
 use graph_tables::rows::vertex_type;
 use graph_tables::rows::vertex_value;
 use journal::removal::edge_words;
+use tried_edits::Made;
+use tried_edits::unchanged;
 ghost use mathlib.Core.Path.{_≡_};
 ghost use Prim.Native.Nat.{_+_, _*_, _≤_};
 ghost use lib.ListN.{length};
@@ -44,7 +43,7 @@ pub fn create_vertex(
         return unchanged(head, c);
     }
     let p = head.vlast;
-    adding::insert_vertex(head, vertices, edges, journal, row, free, n, sort, value, p)
+    tried_edits::insert_vertex(head, vertices, edges, journal, row, free, n, sort, value, p)
 }
 
 // Kind 3.
@@ -74,7 +73,7 @@ pub fn create_edge(
     let out = last_word(vertices, a);
     let l = last_word(vertices, z);
     let into = choose(a, z, 2 * n, l);
-    adding::insert_edge(
+    tried_edits::insert_edge(
         head,
         vertices,
         edges,
@@ -111,7 +110,7 @@ pub fn delete_edge(
         return unchanged(head, c);
     }
     let w = edge_words(edges, n);
-    adding::remove_edge(head, vertices, edges, journal, row, free, n, w)
+    tried_edits::remove_edge(head, vertices, edges, journal, row, free, n, w)
 }
 
 // Kind 5.
@@ -138,7 +137,7 @@ pub fn retype_vertex(
     }
     let s = vertex_type(vertices, a);
     let x = vertex_value(vertices, a);
-    adding::set_vertex(head, vertices, edges, journal, row, free, a, s, x, sort2, x)
+    tried_edits::set_vertex(head, vertices, edges, journal, row, free, a, s, x, sort2, x)
 }
 
 // Kind 6.
@@ -166,7 +165,7 @@ pub fn retype_edge(
     let s = edge_type(edges, a);
     let k = reading_kind(edges, a);
     let d = reading_decimetres(edges, a);
-    adding::set_edge(
+    tried_edits::set_edge(
         head,
         vertices,
         edges,
@@ -206,7 +205,7 @@ pub fn set_value(
     }
     let s = vertex_type(vertices, a);
     let x = vertex_value(vertices, a);
-    adding::set_vertex(
+    tried_edits::set_vertex(
         head,
         vertices,
         edges,
@@ -246,7 +245,7 @@ pub fn set_reading(
     let s = edge_type(edges, a);
     let k = reading_kind(edges, a);
     let d = reading_decimetres(edges, a);
-    adding::set_edge(
+    tried_edits::set_edge(
         head,
         vertices,
         edges,

@@ -2,6 +2,8 @@
 // kind.
 use graph::Change;
 use graph_tables::Head;
+use tried_edits::Made;
+use tried_edits::unchanged;
 ghost use mathlib.Core.Path.{_≡_};
 ghost use Prim.Native.Nat.{_+_, _*_, _≤_};
 ghost use lib.ListN.{length};
@@ -9,40 +11,8 @@ ghost use Rattle.graph_tables.specs.Tables.{state, entryState, exitState};
 ghost use Rattle.queries.specs.Plans.{OneEdit};
 ghost use Rattle.single_changes.specs.One.{HoldsGraph, One};
 
-mod adding; // an edit written down and carried out
 mod kinds; // kinds 1 and 3 to 8, one function each
 mod moves; // kinds 9 to 16
-
-// What a change came to: the head after it, its code (0 where it is accepted) and its cost; 0 where it wrote nothing,
-// since it is refused or alters nothing.
-pub struct Made {
-    pub head: Head,
-    pub code: u32,
-    pub cost: u32,
-}
-
-// A change that wrote nothing: refused, or one that alters nothing.
-pub fn unchanged(head: Head, code: u32) -> Made
-    ensures { λ r. ⌜ r ≡ record { head = head; code = code; cost = 0 } ⌝ }
-{
-    let head = graph_tables::same(head);
-    Made {
-        head,
-        code,
-        cost: 0,
-    }
-}
-
-// A change that was made.
-fn altered(head: Head) -> Made
-    ensures { λ r. ⌜ r ≡ record { head = head; code = 0; cost = 1 } ⌝ }
-{
-    Made {
-        head,
-        code: 0,
-        cost: 1,
-    }
-}
 
 // Any change but the deletion of a vertex: `row` is its row, `free` the room in the journal.
 pub fn make(

@@ -1,9 +1,6 @@
 // Kinds 9 to 16, one function each, as in kinds.rt: a word that goes to another vertex, and what moves in its order.
 // Pairs that differ in a side stay apart: a function of this size with two callers is not compiled into them, and the
 // head then goes through memory for every kind; `word_last` is small enough.
-use crate::Made;
-use crate::adding;
-use crate::unchanged;
 use graph::Change;
 use graph_tables::Head;
 use graph_tables::choice::choose;
@@ -12,6 +9,8 @@ use graph_tables::rows::last_word;
 use graph_tables::rows::this;
 use graph_tables::rows::vertex_prev;
 use graph_tables::rows::word_prev;
+use tried_edits::Made;
+use tried_edits::unchanged;
 ghost use mathlib.Core.Path.{_≡_};
 ghost use Prim.Native.Nat.{_+_, _*_, _≤_};
 ghost use lib.ListN.{length};
@@ -27,7 +26,8 @@ ghost use Rattle.graph_tables.specs.Tables.{
   exitState,
 };
 ghost use Rattle.queries.specs.Plans.{planWordLast, unless};
-ghost use Rattle.single_changes.specs.One.{HoldsGraph, Tries, Untyped};
+ghost use Rattle.single_changes.specs.One.{HoldsGraph, Untyped};
+ghost use Rattle.tried_edits.specs.Tried.{Tries};
 
 // Kinds 9 and 10: word w last in the list of u.
 fn word_last(
@@ -51,7 +51,7 @@ fn word_last(
     let p = word_prev(edges, w);
     let l = last_word(vertices, u);
     let q = choose(l, w, p, l);
-    adding::move_word(head, vertices, edges, journal, row, free, w, v, p, u, q)
+    tried_edits::move_word(head, vertices, edges, journal, row, free, w, v, p, u, q)
 }
 
 // Kind 9.
@@ -123,7 +123,7 @@ pub fn vertex_before(
     let p = vertex_prev(vertices, a);
     let x = vertex_prev(vertices, b);
     let q = choose(x, a, p, x);
-    adding::move_vertex(head, vertices, edges, journal, row, free, a, p, q)
+    tried_edits::move_vertex(head, vertices, edges, journal, row, free, a, p, q)
 }
 
 // Kind 12.
@@ -147,7 +147,7 @@ pub fn vertex_after(
         return unchanged(head, c);
     }
     let p = vertex_prev(vertices, a);
-    adding::move_vertex(head, vertices, edges, journal, row, free, a, p, b)
+    tried_edits::move_vertex(head, vertices, edges, journal, row, free, a, p, b)
 }
 
 // Kind 13.
@@ -173,7 +173,7 @@ pub fn edge_before(
     let p = edge_prev(edges, a);
     let x = edge_prev(edges, b);
     let q = choose(x, a, p, x);
-    adding::move_edge(head, vertices, edges, journal, row, free, a, p, q)
+    tried_edits::move_edge(head, vertices, edges, journal, row, free, a, p, q)
 }
 
 // Kind 14.
@@ -197,7 +197,7 @@ pub fn edge_after(
         return unchanged(head, c);
     }
     let p = edge_prev(edges, a);
-    adding::move_edge(head, vertices, edges, journal, row, free, a, p, b)
+    tried_edits::move_edge(head, vertices, edges, journal, row, free, a, p, b)
 }
 
 // Kind 15.
@@ -224,7 +224,7 @@ pub fn word_before(
     let p = word_prev(edges, a);
     let x = word_prev(edges, b);
     let q = choose(x, a, p, x);
-    adding::move_word(head, vertices, edges, journal, row, free, a, v, p, v, q)
+    tried_edits::move_word(head, vertices, edges, journal, row, free, a, v, p, v, q)
 }
 
 // Kind 16.
@@ -249,5 +249,5 @@ pub fn word_after(
     }
     let v = this(edges, a);
     let p = word_prev(edges, a);
-    adding::move_word(head, vertices, edges, journal, row, free, a, v, p, v, b)
+    tried_edits::move_word(head, vertices, edges, journal, row, free, a, v, p, v, b)
 }

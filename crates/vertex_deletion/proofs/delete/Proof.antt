@@ -3,7 +3,7 @@ use mathlib.Core.Path.{_≡_, sym, subst}
 use native.Mathlib.Omega.{arith}
 use Prim.Native.Nat.{ℕ}
 use Rattle.graph_tables.specs.Tables.{State, state}
-use Rattle.single_changes.specs.declared.Made.{Made}
+use Rattle.tried_edits.specs.declared.Made.{Made}
 use Rattle.timeline.proofs.Steps.{holds-current}
 use Rattle.vertex_deletion.specs.Deleting.{Deletes}
 use Rattle.vertex_deletion.proofs.Deleting.{lacking, allowed, costs, too-dear, deleted}
