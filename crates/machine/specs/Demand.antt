@@ -8,6 +8,7 @@ use Rattle.lists.specs.Lists.{overwritten}
 use Rattle.image.specs.Image.{save, load}
 use Rattle.history.specs.Machine.{Machine, graphAt, fresh, present}
 use Rattle.commands.specs.Calls.{Call, callsOf}
+use Rattle.commands.specs.declared.Answer.{Answer}
 use Rattle.machine.specs.Machine.{answer, answers, step, last}
 use Rattle.machine.specs.Marks.{Event, events, MarkSentence}
 use Rattle.machine.specs.Run.{Lent, AfterRun, parametersOf, answerWords}
@@ -20,21 +21,26 @@ begins l = fresh (load (l .start))
 abbrev pub after : Lent → List Call → Machine
 after l xs = last (parametersOf l) (begins l) xs
 
+-- the plain machine as the list ends, and its answers
+abbrev pub ends : Lent → Machine
+ends l = after l (callsOf (l .calls))
+
+abbrev pub allAnswers : Lent → List Answer
+allAnswers l = answers (parametersOf l) (begins l) (callsOf (l .calls))
+
 -- what the result r of the list l has to be
 pub record Demand3 (l : Lent) (r : AfterRun) : Type 0 where
   -- REFERENCE 9.5
   pub code : r .code ≡ 0
   pub done : r .done ≡ length (callsOf (l .calls))
   -- the answers are the plain machine's, and the words behind them stay
-  pub answered : r .answers ≡ overwritten (answerWords (answers (parametersOf l) (begins l) (callsOf (l .calls))))
-      (l .answers)
+  pub answered : r .answers ≡ overwritten (answerWords (allAnswers l)) (l .answers)
   -- the end image is that of the last graph, and its length is told
-  pub saved : r .end ≡ overwritten (save (present (after l (callsOf (l .calls))))) (l .end)
-  pub words : r .words ≡ length (save (present (after l (callsOf (l .calls)))))
+  pub saved : r .end ≡ overwritten (save (present (ends l))) (l .end)
+  pub words : r .words ≡ length (save (present (ends l)))
   -- REFERENCE 2.3
   pub each-call : (xs ys : List Call) (x : Call) → xs ++ (x ∷ ys) ≡ callsOf (l .calls) →
-      answers (parametersOf l) (begins l) (callsOf (l .calls)) ≡
-      answers (parametersOf l) (begins l) xs
+      allAnswers l ≡ answers (parametersOf l) (begins l) xs
       ++ (answer (parametersOf l) (after l xs) x ∷ answers (parametersOf l)
       (step (parametersOf l) (after l xs) x) ys)
   -- at each point, also after the last call: the events are the calls with their answers

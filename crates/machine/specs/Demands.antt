@@ -22,7 +22,7 @@ use Rattle.machine.specs.Codes.{codeTable}
 use Rattle.commands.specs.declared.Answer.{Answer}
 use Rattle.machine.specs.Machine.{questionNumber, priceNumber, step}
 use Rattle.machine.specs.Run.{Lent, AfterRun, parametersOf, listTable, listNumber, refused, answerWords}
-use Rattle.machine.specs.Demand.{begins, after}
+use Rattle.machine.specs.Demand.{begins, ends}
 
 -- one claim a call and its answer, each on the machine that the calls before it left; as many answers as calls
 abbrev pub Each : (Machine → Call → Answer → Type 0) → Parameters → Machine → List Call → List Answer → Type 0
@@ -72,6 +72,6 @@ pub record Demand2 (l : Lent) (r : AfterRun) : Type 0 where
   pub same : (g : Graph) → wellFormed (boundsIn (parametersOf l)) g ≡ true → (ws : List ℕ) → SavesAs g ws → load ws ≡ g
   -- and so is the end image of this list
   pub ends : NoneApplies (listTable l) →
-      (r .end ≡ overwritten (save (present (after l (callsOf (l .calls))))) (l .end))
-      × (loadable (boundsIn (parametersOf l)) (save (present (after l (callsOf (l .calls))))) ≡ true)
-      × (load (save (present (after l (callsOf (l .calls))))) ≡ present (after l (callsOf (l .calls))))
+      (r .end ≡ overwritten (save (present (ends l))) (l .end))
+      × (loadable (boundsIn (parametersOf l)) (save (present (ends l))) ≡ true)
+      × (load (save (present (ends l))) ≡ present (ends l))

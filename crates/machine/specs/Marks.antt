@@ -60,14 +60,20 @@ pub data Kept (k q : ℕ) (g : Graph) : List Event → Type 0 where
 abbrev pub goTo : ℕ → ℕ → ℕ → ℕ → Call
 goTo k b c d = five 21 k b c d
 
+-- from the graph g on, the machine after the calls xs, and what happened until then
+abbrev pub machineAfter : Parameters → Graph → List Call → Machine
+machineAfter w g xs = last w (fresh g) xs
+
+abbrev pub eventsOf : Parameters → Graph → List Call → List Event
+eventsOf w g xs = events w (fresh g) xs
+
 -- at the point after the calls xs
 pub record MarkSentence (w : Parameters) (g : Graph) (xs : List Call) : Type 0 where
   -- a mark stands, with place q, exactly when a call set it there and it was kept since
-  pub stands-iff : (k q : ℕ)
-      → (last w (fresh g) xs .marks k ≡ at q) ↔ ((h : Graph) × Kept k q h (events w (fresh g) xs))
+  pub stands-iff : (k q : ℕ) → (machineAfter w g xs .marks k ≡ at q) ↔ ((h : Graph) × Kept k q h (eventsOf w g xs))
   -- going to it is accepted, gives the graph held when it was last set, and moves as many steps as lie between the
   -- places
-  pub going : (k q : ℕ) (h : Graph) (b c d : ℕ) → Kept k q h (events w (fresh g) xs) →
-      (answer w (last w (fresh g) xs) (goTo k b c d) .code ≡ 0)
-      × (present (step w (last w (fresh g) xs) (goTo k b c d)) ≡ h)
-      × (answer w (last w (fresh g) xs) (goTo k b c d) .number ≡ distance (last w (fresh g) xs .line .place) q)
+  pub going : (k q : ℕ) (h : Graph) (b c d : ℕ) → Kept k q h (eventsOf w g xs) →
+      (answer w (machineAfter w g xs) (goTo k b c d) .code ≡ 0)
+      × (present (step w (machineAfter w g xs) (goTo k b c d)) ≡ h)
+      × (answer w (machineAfter w g xs) (goTo k b c d) .number ≡ distance (machineAfter w g xs .line .place) q)
