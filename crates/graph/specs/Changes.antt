@@ -177,24 +177,28 @@ changed (EdgeAfter a b) g = edgeAfter a b g
 changed (WordBefore a b) g = wordBefore a b g
 changed (WordAfter a b) g = wordAfter a b g
 
--- REFERENCE 3.10
+-- of the deletion of vertex a, f a; of every other change, x
+abbrev pub onDeletion {ℓ} : {A : Type ℓ} → (ℕ → A) → A → Change → A
+onDeletion f x (CreateVertex n t v) = x
+onDeletion f x (DeleteVertex a) = f a
+onDeletion f x (CreateEdge n a o t) = x
+onDeletion f x (DeleteEdge a) = x
+onDeletion f x (RetypeVertex a t) = x
+onDeletion f x (RetypeEdge a t) = x
+onDeletion f x (SetValue a v) = x
+onDeletion f x (SetReading a k d) = x
+onDeletion f x (SetAlpha e v) = x
+onDeletion f x (SetOmega e v) = x
+onDeletion f x (VertexBefore a b) = x
+onDeletion f x (VertexAfter a b) = x
+onDeletion f x (EdgeBefore a b) = x
+onDeletion f x (EdgeAfter a b) = x
+onDeletion f x (WordBefore a b) = x
+onDeletion f x (WordAfter a b) = x
+
+-- REFERENCE 3.10: 1, and 1 more for each distinct edge that goes with a vertex
 abbrev pub cost : Change → Graph → ℕ
-cost (CreateVertex n t x) g = 1
-cost (DeleteVertex a) g = 1 + length (edgesAt g a)
-cost (CreateEdge n a o t) g = 1
-cost (DeleteEdge a) g = 1
-cost (RetypeVertex a t) g = 1
-cost (RetypeEdge a t) g = 1
-cost (SetValue a x) g = 1
-cost (SetReading a k d) g = 1
-cost (SetAlpha e v) g = 1
-cost (SetOmega e v) g = 1
-cost (VertexBefore a b) g = 1
-cost (VertexAfter a b) g = 1
-cost (EdgeBefore a b) g = 1
-cost (EdgeAfter a b) g = 1
-cost (WordBefore a b) g = 1
-cost (WordAfter a b) g = 1
+cost c g = onDeletion (λ a. 1 + length (edgesAt g a)) 1 c
 
 -- ---- what a change asks of the graph: codes 2 to 9 do not apply, and a value is a word
 

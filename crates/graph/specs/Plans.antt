@@ -36,7 +36,7 @@ use Rattle.graph.specs.declared.Change.the-variants.{
 }
 use Rattle.graph.specs.Graph.{Graph, vertexNumber, edgeNumber, itself, vertex, edge, listIn, listOf, this}
 use Rattle.graph.specs.Graph.{outWord, inWord, readingOf}
-use Rattle.graph.specs.Changes.{append, detach, edgesAt}
+use Rattle.graph.specs.Changes.{append, detach, edgesAt, onDeletion}
 use Rattle.graph.specs.Edits.{apply, Applies}
 
 -- the edit that takes edge n out: the in word leaves first
@@ -103,22 +103,7 @@ removals (n ∷ ns) g = removal n g ∷ removals ns (apply (removal n g) g)
 
 -- kind 2 first takes out the edges at the vertex
 abbrev pub firstEdits : Change → Graph → List Edit
-firstEdits (CreateVertex n t x) g = []
-firstEdits (DeleteVertex a) g = removals (edgesAt g a) g
-firstEdits (CreateEdge n a o t) g = []
-firstEdits (DeleteEdge a) g = []
-firstEdits (RetypeVertex a t) g = []
-firstEdits (RetypeEdge a t) g = []
-firstEdits (SetValue a x) g = []
-firstEdits (SetReading a k d) g = []
-firstEdits (SetAlpha e v) g = []
-firstEdits (SetOmega e v) g = []
-firstEdits (VertexBefore a b) g = []
-firstEdits (VertexAfter a b) g = []
-firstEdits (EdgeBefore a b) g = []
-firstEdits (EdgeAfter a b) g = []
-firstEdits (WordBefore a b) g = []
-firstEdits (WordAfter a b) g = []
+firstEdits c g = onDeletion (λ a. removals (edgesAt g a) g) [] c
 
 -- the edits of a change, in their order
 unfoldable pub editsOf : Change → Graph → List Edit

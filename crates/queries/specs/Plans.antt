@@ -35,6 +35,7 @@ use Rattle.graph.specs.declared.Change.the-variants.{
   WordAfter,
 }
 use Rattle.graph.specs.Graph.{readingOf}
+use Rattle.graph.specs.Changes.{onDeletion}
 use Rattle.graph_tables.specs.declared.Head.{Head}
 use Rattle.graph_tables.specs.Tables.{
   State,
@@ -156,19 +157,4 @@ CanPlan (WordAfter a b) s = HalfRowIn (s .edges) a
 
 -- a change that is one edit: all but the deletion of a vertex
 abbrev pub OneEdit : Change → Type 0
-OneEdit (CreateVertex n t x) = Unit {0}
-OneEdit (DeleteVertex a) = ⊥
-OneEdit (CreateEdge n a o t) = Unit {0}
-OneEdit (DeleteEdge a) = Unit {0}
-OneEdit (RetypeVertex a t) = Unit {0}
-OneEdit (RetypeEdge a t) = Unit {0}
-OneEdit (SetValue a x) = Unit {0}
-OneEdit (SetReading a k d) = Unit {0}
-OneEdit (SetAlpha e v) = Unit {0}
-OneEdit (SetOmega e v) = Unit {0}
-OneEdit (VertexBefore a b) = Unit {0}
-OneEdit (VertexAfter a b) = Unit {0}
-OneEdit (EdgeBefore a b) = Unit {0}
-OneEdit (EdgeAfter a b) = Unit {0}
-OneEdit (WordBefore a b) = Unit {0}
-OneEdit (WordAfter a b) = Unit {0}
+OneEdit c = onDeletion (λ a. ⊥) (Unit {0}) c
