@@ -1,5 +1,5 @@
 -- What the two crates below say of a change, as code of its rule and as step.
-use Prim.Native.Nat.{ℕ, zero, suc, _-_}
+use Prim.Native.Nat.{ℕ, zero, suc, _+_, _*_, _≤_}
 use mathlib.Core.Path.{_≡_, refl, sym, ap, _∙_}
 use mathlib.Core.Logic.{_≢_}
 use mathlib.Core.Bool.{Bool, true, false, not, _&&_}
@@ -7,6 +7,7 @@ use mathlib.Core.List.{List}
 use native.Mathlib.Omega.{arith}
 use borrow.Author.Tests.{ne-eqb, eqb-true, eqb-false, lt-ltb, le-ltb}
 use lib.Dec.{ltb}
+use lib.ListN.{length}
 use Rattle.lists.specs.Choice.{_⇒_else_, _==_}
 use Rattle.graph.specs.declared.Change.{Change}
 use Rattle.graph.specs.declared.Change.the-variants.{DeleteVertex}
@@ -32,9 +33,8 @@ use Rattle.single_changes.proofs.OneLaws.{no-code, some-room}
 use Rattle.timeline.specs.declared.Position.{Position}
 use Rattle.timeline.specs.Current.{afterStep}
 use Rattle.timeline.specs.Steps.{Journal}
-use Rattle.timeline.proofs.Steps.{holds-current, sound-current, journal-free}
+use Rattle.timeline.proofs.Steps.{holds-current, sound-current}
 use Rattle.vertex_deletion.specs.Deleting.{Deletes}
-use Rattle.history_calls.specs.Memory.{capacityOf}
 use Rattle.change_calls.proofs.SingleStep.{single-step}
 
 -- ---- what a change comes to, on tables and journal
@@ -47,18 +47,18 @@ pub record StepMade (c : Change) (b : Bounds) (m : Machine) (j : Position) (n : 
   pub steps : Journal b (afterStep j (s′ .head) n .position) s′ t′ (extended (stepOf c (present m)) (m .line))
 
 -- of one machine: the code of the change's rule; cost 0 says that it is refused or alters nothing
-pub record Comes (c : Change) (b : Bounds) (m : Machine) (j : Position) (t : List ℕ) (code n : ℕ) (s′ : State)
+pub record Comes (c : Change) (b : Bounds) (m : Machine) (j : Position) (free code n : ℕ) (s′ : State)
     (t′ : List ℕ) : Type 0 where
-  pub coded : code ≡ changeRule b (capacityOf t) c .code m
+  pub coded : (capacity : ℕ) → free ≡ freeOf capacity (m .line) → code ≡ changeRule b capacity c .code m
   pub idle : n ≡ 0 → code ≡ 0 → alters c (present m) ≡ false
   pub made : n ≢ 0 → StepMade c b m j n s′ t′
 
 -- whatever machine was there; cost 0 says that nothing was written
-pub record Attempts (c : Change) (types : ℕ) (j : Position) (s : State) (t : List ℕ) (code n : ℕ) (s′ : State)
+pub record Attempts (c : Change) (types free : ℕ) (j : Position) (s : State) (t : List ℕ) (code n : ℕ) (s′ : State)
     (t′ : List ℕ) : Type 0 where
   pub stays : n ≡ 0 → (s′ ≡ s) × (t′ ≡ t)
   pub accepts : n ≢ 0 → code ≡ 0
-  pub comes : (b : Bounds) (m : Machine) → b .types ≡ types → Journal b j s t (m .line) → Comes c b m j t code n s′ t′
+  pub comes : (b : Bounds) (m : Machine) → b .types ≡ types → Journal b j s t (m .line) → Comes c b m j free code n s′ t′
 
 -- ---- codes
 
@@ -111,7 +111,7 @@ module _ (types : ℕ) (j : Position) (s : State) (t : List ℕ) where
   module _ (code n : ℕ) (s′ : State) (t′ : List ℕ) where
     -- ---- a change of one edit
 
-    module _ (free : ℕ) (q : free ≡ capacityOf t - j .used) (c : Change) (o : OneEdit c) (r : One c types (j .used) free s t code n s′ t′) where
+    module _ (free : ℕ) (q : 12 * (j .used + free) ≤ length t) (c : Change) (o : OneEdit c) (r : One c types (j .used) free s t code n s′ t′) where
       abbrev plan-now : Edit
       plan-now = planS c s
 
@@ -126,19 +126,19 @@ module _ (types : ℕ) (j : Position) (s : State) (t : List ℕ) where
         allowed : code ≡ 0 → Allowed b (present m) c
         allowed z = allows b (present m) (sound b m e k) c (r .fits) (no-code (idle plan-now) free (changeCode b (present m) c) (sym answers ∙ z))
 
-        single-code : code ≡ changeRule b (capacityOf t) c .code m
-        single-code = answers ∙ go (changeCode b (present m) c) refl
+        single-code : (capacity : ℕ) → free ≡ freeOf capacity (m .line) → code ≡ changeRule b capacity c .code m
+        single-code capacity f = answers ∙ go (changeCode b (present m) c) refl
           where
-            dear : (free == 0) ≡ ltb (freeOf (capacityOf t) (m .line)) (cost c (present m))
-            dear = room-test free _ (cost c (present m)) (sym (journal-free b j s t (m .line) (capacityOf t) k) ∙ sym q) (one-edit c o (present m) .1)
+            dear : (free == 0) ≡ ltb (freeOf capacity (m .line)) (cost c (present m))
+            dear = room-test free _ (cost c (present m)) (sym f) (one-edit c o (present m) .1)
 
-            go : (i : ℕ) → changeCode b (present m) c ≡ i → withRoom (idle plan-now) free i ≡ firstCode i (tooDear (capacityOf t) m c ⇒ 10 else 0)
+            go : (i : ℕ) → changeCode b (present m) c ≡ i → withRoom (idle plan-now) free i ≡ firstCode i (tooDear capacity m c ⇒ 10 else 0)
             go zero z =
                 tried-code (idle plan-now) free _ dear
-                ∙ ap (λ (p : Bool). (ltb (freeOf (capacityOf t) (m .line)) (cost c (present m)) && p) ⇒ 10 else 0) (sym (alters-now (allows b (present m) (sound b m e k) c (r .fits) z)))
+                ∙ ap (λ (p : Bool). (ltb (freeOf capacity (m .line)) (cost c (present m)) && p) ⇒ 10 else 0) (sym (alters-now (allows b (present m) (sound b m e k) c (r .fits) z)))
             go (suc i) z = let f : (suc i == 0) ≡ false = ne-eqb (suc i) 0 (omega arith) in rw f
 
-        single-comes : Comes c b m j t code n s′ t′
+        single-comes : Comes c b m j free code n s′ t′
         single-comes = record {
           coded = single-code;
           idle = λ y z. alters-now (allowed z) ∙ ap not (r .keeps y z);
@@ -154,22 +154,22 @@ module _ (types : ℕ) (j : Position) (s : State) (t : List ℕ) where
               };
         }
 
-      pub single-attempts : Attempts c types j s t code n s′ t′
+      pub single-attempts : Attempts c types free j s t code n s′ t′
       single-attempts = record { stays = r .stays; accepts = λ y. r .made y .coded; comes = single-comes }
 
     -- ---- the deletion of a vertex
 
-    module _ (a : ℕ) (r : Deletes a j s t code n s′ t′) where
-      deletion-code : (b : Bounds) (m : Machine) → Journal b j s t (m .line) → code ≡ changeRule b (capacityOf t) (DeleteVertex a) .code m
-      deletion-code b m k =
+    module _ (a free : ℕ) (r : Deletes a free j s t code n s′ t′) where
+      deletion-code : (b : Bounds) (m : Machine) → Journal b j s t (m .line) → (capacity : ℕ) → free ≡ freeOf capacity (m .line) → code ≡ changeRule b capacity (DeleteVertex a) .code m
+      deletion-code b m k capacity f =
           let lacks = not (hasVertex (present m) a) in
           let price = cost (DeleteVertex a) (present m) in
           r .coded b (m .line) k
-          ∙ ap (λ (i : ℕ). lacks ⇒ 4 else ltb i price ⇒ 10 else 0) (journal-free b j s t (m .line) (capacityOf t) k)
-          ∙ deletion-codes lacks (ltb (freeOf (capacityOf t) (m .line)) price)
-          ∙ ap (λ (p : Bool). firstCode (lacks ⇒ 4 else 0) ((ltb (freeOf (capacityOf t) (m .line)) price && p) ⇒ 10 else 0)) (sym (deletion-alters a (present m)))
+          ∙ ap (λ (i : ℕ). lacks ⇒ 4 else ltb i price ⇒ 10 else 0) f
+          ∙ deletion-codes lacks (ltb (freeOf capacity (m .line)) price)
+          ∙ ap (λ (p : Bool). firstCode (lacks ⇒ 4 else 0) ((ltb (freeOf capacity (m .line)) price && p) ⇒ 10 else 0)) (sym (deletion-alters a (present m)))
 
-      pub deletion-attempts : Attempts (DeleteVertex a) types j s t code n s′ t′
+      pub deletion-attempts : Attempts (DeleteVertex a) types free j s t code n s′ t′
       deletion-attempts = record {
         stays = λ y. (r .stays y .1, r .stays y .2);
         accepts = λ y. r .made y .0;

@@ -12,7 +12,7 @@ use Rattle.lists.proofs.Picks.{same, differ, same?}
 use Rattle.graph.specs.declared.Change.{Change}
 use Rattle.graph.specs.WellFormed.{Bounds}
 use Rattle.graph.specs.Changes.{cost}
-use Rattle.history.specs.Machine.{MarkPlace, gone, at, Machine, cut, cutMarks, present, stepOf}
+use Rattle.history.specs.Machine.{MarkPlace, gone, at, Machine, freeOf, cut, cutMarks, present, stepOf}
 use Rattle.history.proofs.Timelines.{length-cut}
 use Rattle.machine.specs.Rules.{steps, nothing, effected, Deed, deed, changeDeed, changeRule}
 use Rattle.marks.specs.Marked.{Marked}
@@ -21,7 +21,7 @@ use Rattle.timeline.specs.Current.{afterStep}
 use Rattle.timeline.proofs.Steps.{place-short, at-record}
 use Rattle.history_calls.specs.declared.Store.{Store}
 use Rattle.history_calls.specs.declared.Called.{Called}
-use Rattle.history_calls.specs.Memory.{Memory, memory, capacityOf, tablesOf}
+use Rattle.history_calls.specs.Memory.{Memory, memory, tablesOf}
 use Rattle.history_calls.specs.Represents.{Represents, Follows}
 use Rattle.history_calls.specs.Outcomes.{done}
 use Rattle.history_calls.proofs.Calls.{mark-steps}
@@ -55,11 +55,11 @@ cut-nothing p n set places ms e h f =
 -- ---- the ways out
 
 -- what is returned equals what was shown
-pub altered-by : (c : Change) (types : ℕ) (x : Store) (mem mem′ : Memory) {d d′ : Called} → d ≡ d′ → DoesChange c types x mem d′ mem′ → DoesChange c types x mem d mem′
-altered-by c types x mem mem′ e a = subst (λ (z : Called). DoesChange c types x mem z mem′) (sym e) a
+pub altered-by : (c : Change) (types free : ℕ) (x : Store) (mem mem′ : Memory) {d d′ : Called} → d ≡ d′ → DoesChange c types free x mem d′ mem′ → DoesChange c types free x mem d mem′
+altered-by c types free x mem mem′ e a = subst (λ (z : Called). DoesChange c types free x mem z mem′) (sym e) a
 
-module _ (c : Change) (types : ℕ) (x : Store) (mem : Memory) (code n : ℕ) (s′ : State) (t′ : List ℕ)
-    (r : Attempts c types (x .current .position) (tablesOf x mem) (mem .journal) code n s′ t′) where
+module _ (c : Change) (types free : ℕ) (x : Store) (mem : Memory) (code n : ℕ) (s′ : State) (t′ : List ℕ)
+    (r : Attempts c types free (x .current .position) (tablesOf x mem) (mem .journal) code n s′ t′) where
   abbrev after : Memory
   after = memory (s′ .vertices) (s′ .edges) t′ (mem .marks)
 
@@ -67,23 +67,23 @@ module _ (c : Change) (types : ℕ) (x : Store) (mem : Memory) (code n : ℕ) (s
   words-stay y = let p = r .stays y in λ i. memory (p .0 i .vertices) (p .0 i .edges) (p .1 i) (mem .marks)
 
   module _ (b : Bounds) (m : Machine) (e : b .types ≡ types) (h : Represents b x mem m) where
-    abbrev ByRule : Store → ℕ → ℕ → Memory → Type 0
-    ByRule x′ code′ number mem′ = Follows (changeRule b (capacityOf (mem .journal)) c) m b (done x′ code′ number) mem′
+    abbrev ByRule : ℕ → Store → ℕ → ℕ → Memory → Type 0
+    ByRule capacity x′ code′ number mem′ = Follows (changeRule b capacity c) m b (done x′ code′ number) mem′
 
     -- what the change does, by whether it alters the graph
     abbrev deedBy : Bool → Deed
     deedBy p = p ⇒ deed (cost c (present m)) (steps (stepOf c (present m))) else deed 0 nothing
 
-    kept-follows : n ≡ 0 → ByRule x code 0 after
-    kept-follows y =
+    kept-follows : (capacity : ℕ) → free ≡ freeOf capacity (m .line) → n ≡ 0 → ByRule capacity x code 0 after
+    kept-follows capacity q y =
         let d = r .comes b m e (h .journal) in
-        subst (ByRule x code 0) (sym (words-stay y)) (elim (same? code 0) [
+        subst (ByRule capacity x code 0) (sym (words-stay y)) (elim (same? code 0) [
           | same z w ↦
               let u : deed 0 nothing ≡ changeDeed c m = sym (ap deedBy (d .idle y z)) in
-              subst (λ (k : ℕ). ByRule x k 0 mem) w
-              (accepted (changeRule b (capacityOf (mem .journal)) c) m b x mem 0 (sym (d .coded) ∙ z) (ap (λ (k : Deed). k .number) u)
+              subst (λ (k : ℕ). ByRule capacity x k 0 mem) w
+              (accepted (changeRule b capacity c) m b x mem 0 (sym (d .coded capacity q) ∙ z) (ap (λ (k : Deed). k .number) u)
               (subst (λ (k : Deed). Represents b x mem (effected (k .effect) m)) u h))
-          | differ z w ↦ refused (changeRule b (capacityOf (mem .journal)) c) m b x mem code (d .coded) z h
+          | differ z w ↦ refused (changeRule b capacity c) m b x mem code (d .coded capacity q) z h
         ])
 
     module _ (y : n ≢ 0) where
@@ -97,11 +97,11 @@ module _ (c : Change) (types : ℕ) (x : Store) (mem : Memory) (code n : ℕ) (s
         omega (arith, step .steps .rows .within, step .steps .rows .upto, step .steps .rows .short),
       )
 
-      step-follows : (x′ : Store) → x′ .current ≡ afterStep (x .current .position) (s′ .head) n
-          → Marked (cutMarks (x .current .position .place) (m .marks)) (x′ .set) (mem .marks) → ByRule x′ 0 n after
-      step-follows x′ f k =
+      step-follows : (capacity : ℕ) → free ≡ freeOf capacity (m .line) → (x′ : Store) → x′ .current ≡ afterStep (x .current .position) (s′ .head) n
+          → Marked (cutMarks (x .current .position .place) (m .marks)) (x′ .set) (mem .marks) → ByRule capacity x′ 0 n after
+      step-follows capacity q x′ f k =
           let u : deed (cost c (present m)) (steps (stepOf c (present m))) ≡ changeDeed c m = sym (ap deedBy (step .alters-graph)) in
-          accepted (changeRule b (capacityOf (mem .journal)) c) m b x′ after n (sym (r .comes b m e (h .journal) .coded) ∙ r .accepts y) (step .costs ∙ ap (λ (d : Deed). d .number) u)
+          accepted (changeRule b capacity c) m b x′ after n (sym (r .comes b m e (h .journal) .coded capacity q) ∙ r .accepts y) (step .costs ∙ ap (λ (d : Deed). d .number) u)
           (subst (λ (d : Deed). Represents b x′ after (effected (d .effect) m)) u (record {
             journal = at-record b (x′ .current) _ (s′ .vertices) (s′ .edges) t′ _ f (step .steps);
             marks = subst (λ (p : ℕ). Marked (cutMarks p (m .marks)) (x′ .set) (mem .marks)) (h .journal .place) k;
@@ -109,15 +109,15 @@ module _ (c : Change) (types : ℕ) (x : Store) (mem : Memory) (code n : ℕ) (s
           }))
 
   -- nothing was written
-  pub change-kept : n ≡ 0 → DoesChange c types x mem (done x code 0) after
-  change-kept y = record { follows = λ b m e h. kept-follows b m e h y; leaves = λ z. (refl, words-stay y); idle = λ z. (refl, words-stay y) }
+  pub change-kept : n ≡ 0 → DoesChange c types free x mem (done x code 0) after
+  change-kept y = record { follows = λ b m n e h q. kept-follows b m e h n q y; leaves = λ z. (refl, words-stay y); idle = λ z. (refl, words-stay y) }
 
   -- the change is a step, and the marks are cut
   pub change-made : n ≢ 0 → (x′ : Store) → x′ .current ≡ afterStep (x .current .position) (s′ .head) n
       → ((ms : ℕ → MarkPlace) → Marked ms (x .set) (mem .marks) → ((k q : ℕ) → ms k ≡ at q → q ≤ x .current .position .steps) → Marked (cutMarks (x .current .position .place) ms) (x′ .set) (mem .marks))
-      → DoesChange c types x mem (done x′ 0 n) after
+      → DoesChange c types free x mem (done x′ 0 n) after
   change-made y x′ f cuts = record {
-    follows = λ b m e h. step-follows b m e h y x′ f (cuts (m .marks) (h .marks) (mark-steps b x mem m h));
+    follows = λ b m n e h q. step-follows b m e h y n q x′ f (cuts (m .marks) (h .marks) (mark-steps b x mem m h));
     leaves = λ z. absurd (z refl);
     idle = λ z. absurd (y z);
   }

@@ -10,13 +10,15 @@ ghost use mathlib.Core.Path.{_≡_};
 ghost use Prim.Native.Nat.{ℕ, _≤_};
 ghost use Rattle.history.specs.Machine.{MarkPlace, at, cutMarks};
 ghost use Rattle.queries.specs.Plans.{OneEdit};
-ghost use Rattle.marks.specs.Marked.{Marked};
+ghost use Rattle.marks.specs.Marked.{Marked, markWords};
+ghost use lib.ListN.{length};
 ghost use Rattle.history_calls.specs.Memory.{memory, entry};
-ghost use Rattle.history_calls.specs.Represents.{Stands};
+ghost use Rattle.history_calls.specs.Represents.{Stands, Spare};
 ghost use Rattle.change_calls.specs.Altering.{StandsTyped, DoesChange};
 
 // A change at the present place: the marks above it go. Where no step is cut, none is above it.
-fn cut(set: u64, position: Position, marks: &[u32; marks::WORDS]) -> u64
+fn cut(set: u64, position: Position, marks: &[u32]) -> u64
+    requires { ⌜ length (now marks) ≡ markWords ⌝ }
     ensures { λ r. ⌜ ((ms : ℕ → MarkPlace) → Marked ms set (now (marks .entry))
         → ((k q : ℕ) → ms k ≡ at q → q ≤ position .steps)
         → Marked (cutMarks (position .place) ms) r (now (marks .entry))) ⌝ }
@@ -33,17 +35,17 @@ fn single(
     vertices: &mut [u32],
     edges: &mut [u32],
     journal: &mut [u32],
-    marks: &[u32; marks::WORDS],
+    marks: &[u32],
     types: u32,
+    free: u32,
     change: Change,
 ) -> Called
-    requires { ⌜ OneEdit change × StandsTyped types store
+    requires { ⌜ OneEdit change × StandsTyped types free store
         (memory (now vertices) (now edges) (now journal) (now marks)) ⌝ }
-    ensures { λ r. ⌜ DoesChange change types store (entry vertices edges journal marks) r
+    ensures { λ r. ⌜ DoesChange change types free store (entry vertices edges journal marks) r
         (memory (now (vertices .exit)) (now (edges .exit)) (now (journal .exit)) (now (marks .entry))) ⌝ }
 {
     let old = store.current;
-    let capacity = (journal.len() / 12) as u32;
     let used = old.position.used;
     let made = single_changes::make(
         old.head,
@@ -52,7 +54,7 @@ fn single(
         journal,
         types,
         used,
-        capacity - used,
+        free,
         change,
     );
     if made.cost == 0 {
@@ -76,16 +78,18 @@ fn delete_vertex(
     vertices: &mut [u32],
     edges: &mut [u32],
     journal: &mut [u32],
-    marks: &[u32; marks::WORDS],
+    marks: &[u32],
+    free: u32,
     vertex: u32,
 ) -> Called
-    requires { ⌜ Stands store (memory (now vertices) (now edges) (now journal) (now marks)) ⌝ }
-    ensures { λ r. ⌜ ((types : ℕ) → DoesChange (Change.DeleteVertex vertex) types store
+    requires { ⌜ Stands store (memory (now vertices) (now edges) (now journal) (now marks))
+        × Spare free store (memory (now vertices) (now edges) (now journal) (now marks)) ⌝ }
+    ensures { λ r. ⌜ ((types : ℕ) → DoesChange (Change.DeleteVertex vertex) types free store
         (entry vertices edges journal marks) r
         (memory (now (vertices .exit)) (now (edges .exit)) (now (journal .exit)) (now (marks .entry)))) ⌝ }
 {
     let old = store.current;
-    let removed = vertex_deletion::delete(old, vertices, edges, journal, vertex);
+    let removed = vertex_deletion::delete(old, vertices, edges, journal, free, vertex);
     if removed.cost == 0 {
         return stay(store, removed.code, 0);
     }
@@ -100,23 +104,24 @@ fn delete_vertex(
     }
 }
 
-// Any change: refused, made, or one that alters nothing. A refused one and one that alters nothing leave every word;
-// else those of tables and journal are left open, but for the machine that they stand for.
+// Any change, where so many are free: refused, made, or one that alters nothing. A refused one and one that alters
+// nothing leave every word; else those of tables and journal are left open, but for the machine that they stand for.
 pub fn alter(
     store: Store,
     vertices: &mut [u32],
     edges: &mut [u32],
     journal: &mut [u32],
-    marks: &[u32; marks::WORDS],
+    marks: &[u32],
     types: u32,
+    free: u32,
     change: Change,
 ) -> Called
-    requires { ⌜ StandsTyped types store (memory (now vertices) (now edges) (now journal) (now marks)) ⌝ }
-    ensures { λ r. ⌜ DoesChange change types store (entry vertices edges journal marks) r
+    requires { ⌜ StandsTyped types free store (memory (now vertices) (now edges) (now journal) (now marks)) ⌝ }
+    ensures { λ r. ⌜ DoesChange change types free store (entry vertices edges journal marks) r
         (memory (now (vertices .exit)) (now (edges .exit)) (now (journal .exit)) (now (marks .entry))) ⌝ }
 {
     match change {
-        Change::DeleteVertex(a) => delete_vertex(store, vertices, edges, journal, marks, a),
-        _ => single(store, vertices, edges, journal, marks, types, change),
+        Change::DeleteVertex(a) => delete_vertex(store, vertices, edges, journal, marks, free, a),
+        _ => single(store, vertices, edges, journal, marks, types, free, change),
     }
 }

@@ -24,6 +24,19 @@ use Rattle.machine.specs.Machine.{answerTo, stepTo}
 use Rattle.engine.specs.Running.{Running, Answered}
 use Rattle.engine.specs.Calls.{AfterCalls}
 
+-- ---- the room of a store alone: all rows of its journal that are not used
+
+module _ (w : Parameters) (m : Machine) (x : Store) (mem : Memory) (closed : List ℕ) (types : ℕ) (h : Running w x mem closed types m) (n : ℕ) (e : n ≡ length (mem .journal)) where
+  pub used-fits : x .current .position .used ≤ n / 12
+  used-fits = let k = h .represents .journal .rows in omega (arith, k .within, k .upto, e)
+
+  pub capacity-is : n / 12 ≡ w .changes
+  capacity-is = ap (λ (i : ℕ). i / 12) e ∙ sym (h .setting .changes)
+
+pub at-capacity : {w : Parameters} {m : Machine} {c : Command} {d : Called} {mem : Memory} {closed : List ℕ} {types : ℕ} (n k : ℕ) → n ≡ k →
+    Answered w n m c d mem closed types → Answered w k m c d mem closed types
+at-capacity {w} {m} {c} {d} {mem} {closed} {types} n k e a = subst (λ (i : ℕ). Answered w i m c d mem closed types) e a
+
 -- ---- the words of the calls
 
 -- call k is the one of the five words at 5k
@@ -83,7 +96,7 @@ module _ (w : Parameters) (m : Machine) (x : Store) (mem : Memory) (closed : Lis
   after-calls-one : (xs : List Call) (call : Call) (c : Command) (d : Called) (mem′ : Memory) →
       AfterCalls w m xs x mem closed types slice slice′ → c ≡ commandOf call →
       ((w : Parameters) → (m : Machine) → Running w x mem closed types m →
-      Answered w m c d mem′ closed types) →
+      Answered w (w .changes) m c d mem′ closed types) →
       2 * length xs + 1 < length slice →
       AfterCalls w m (xs ++ (call ∷ [])) (d .store) mem′ closed types slice
       (set (set slice′ (2 * length xs) (d .answer .code)) (2 * length xs + 1) (d .answer .number))
@@ -109,7 +122,7 @@ module _ (w : Parameters) (m : Machine) (x : Store) (mem : Memory) (closed : Lis
       AfterCalls w m (take k (callsOf calls)) x mem closed types slice slice′ →
       c ≡ commandOf (callAt (take (5 * k + 5 - 5 * k) (drop (5 * k) calls))) →
       ((w : Parameters) → (m : Machine) → Running w x mem closed types m →
-      Answered w m c d mem′ closed types) →
+      Answered w (w .changes) m c d mem′ closed types) →
       5 * k + 5 ≤ length calls → 2 * k + 1 < length slice →
       AfterCalls w m (take (k + 1) (callsOf calls)) (d .store) mem′ closed types slice
       (set (set slice′ (2 * k) (d .answer .code)) (2 * k + 1) (d .answer .number))

@@ -1,5 +1,5 @@
 -- The machine's answer to a command, from what the crates below say of its rule, code, reply or price.
-use Prim.Native.Nat.{ℕ, _/_}
+use Prim.Native.Nat.{ℕ, _-_, _/_}
 use mathlib.Core.Path.{_≡_, refl, sym, ap, _∙_, subst}
 use mathlib.Core.Bool.{Bool, true, false}
 use mathlib.Core.List.{List}
@@ -16,7 +16,8 @@ use Rattle.history_calls.specs.Memory.{Memory, tablesOf}
 use Rattle.history_calls.specs.Represents.{Represents, Follows}
 use Rattle.history_calls.specs.Outcomes.{done}
 use Rattle.history_calls.proofs.Present.{holds-present, sized-present}
-use Rattle.history.specs.Machine.{Machine, present}
+use Rattle.history.specs.Machine.{Machine, freeOf, present}
+use Rattle.timeline.proofs.Steps.{journal-free}
 use Rattle.machine.specs.Rules.{nothing, effected, deed, Rule, answered, followed, changeRule, historyRule}
 use Rattle.machine.specs.Calls.{Parameters, boundsIn}
 use Rattle.commands.specs.declared.HistoryCall.{HistoryCall}
@@ -28,7 +29,7 @@ use Rattle.machine.specs.Codes.{refusal, questionCode, priceCode}
 use Rattle.machine.specs.Machine.{deedOf, questionNumber, priceNumber, ruleOf, answerTo, stepTo}
 use Rattle.commands.specs.declared.Answer.{Answer}
 use Rattle.commands.specs.Answers.{answerOf}
-use Rattle.engine.specs.Running.{Setting, Running, Answered}
+use Rattle.engine.specs.Running.{Setting, Running, allowing, Answered}
 use Rattle.machine.proofs.Families.{change-refusal, history-refusal, question-refusal, price-refusal}
 
 -- the capacities stand with the tables
@@ -47,73 +48,81 @@ setting-of w x mem mem′ closed types m s l h =
     }
 
 -- what is returned equals what was shown to answer
-pub answered-by : (w : Parameters) (m : Machine) (c : Command) (mem : Memory) (closed : List ℕ) (types : ℕ) {d d′ : Called} → d ≡ d′ → Answered w m c d′ mem closed types → Answered w m c d mem closed types
-answered-by w m c mem closed types e a = subst (λ (z : Called). Answered w m c z mem closed types) (sym e) a
+pub answered-by : (w : Parameters) (n : ℕ) (m : Machine) (c : Command) (mem : Memory) (closed : List ℕ) (types : ℕ) {d d′ : Called} → d ≡ d′ → Answered w n m c d′ mem closed types → Answered w n m c d mem closed types
+answered-by w n m c mem closed types e a = subst (λ (z : Called). Answered w n m c z mem closed types) (sym e) a
 
 module _ (w : Parameters) (m : Machine) (x : Store) (mem : Memory) (closed : List ℕ) (types : ℕ) (h : Running w x mem closed types m) where
   pub holds : Holds (tablesOf x mem) (present m)
   holds = holds-present (boundsIn w) x mem m (h .represents)
 
+  -- what a capacity leaves free
+  pub free-is : (capacity : ℕ) → capacity - x .current .position .used ≡ freeOf capacity (m .line)
+  free-is capacity = journal-free (boundsIn w) (x .current .position) (tablesOf x mem) (mem .journal) (m .line) capacity (h .represents .journal)
+
   pub sized : Sized (boundsIn w) (tablesOf x mem)
   sized = sized-present (boundsIn w) x mem m (h .represents)
 
-  -- ---- any command
+  -- ---- any command, at any capacity of changes
 
-  -- a function that follows the command's rule answers it
-  pub follows-answers : (c : Command) (r : Rule) → refusal w m c ≡ r .code m → deedOf w c m ≡ r .deed m → (d′ : Called) (mem′ : Memory) → length (mem′ .journal) ≡ length (mem .journal) →
-      Follows r m (boundsIn w) d′ mem′ → Answered w m c d′ mem′ closed types
-  unfolding answerTo stepTo
-  follows-answers c r e d d′ mem′ l f = record {
-    answered = f .obeys ∙ sym (λ i. answerOf (e i) (d i .number));
-    after = subst (λ (n : Machine). Running w (d′ .store) mem′ closed types n) (sym (λ i. (e i == 0) ⇒ effected (d i .effect) m else m)) (record {
-      setting = setting-of w (d′ .store) mem mem′ closed types (followed r m) (h .setting) l (f .after);
-      represents = f .after;
-    });
-  }
+  module _ (n : ℕ) where
+    abbrev v : Parameters
+    v = allowing n w
 
-  -- a history call
-  pub recall-answers : (c : HistoryCall) (d : Called) (mem′ : Memory) → length (mem′ .journal) ≡ length (mem .journal) →
-      Follows (historyRule (length (mem .journal) / 12) c) m (boundsIn w) d mem′ → Answered w m (History c) d mem′ closed types
-  recall-answers c d mem′ l f =
-      follows-answers (History c) (historyRule (w .changes) c) (history-refusal w m c) refl d mem′ l (rw (h .setting .changes) f)
+    -- a function that follows the command's rule answers it
+    pub follows-answers : (c : Command) (r : Rule) → refusal v m c ≡ r .code m → deedOf v c m ≡ r .deed m → (d′ : Called) (mem′ : Memory) → length (mem′ .journal) ≡ length (mem .journal) →
+        Follows r m (boundsIn w) d′ mem′ → Answered w n m c d′ mem′ closed types
+    unfolding answerTo stepTo
+    follows-answers c r e d d′ mem′ l f = record {
+      answered = f .obeys ∙ sym (λ i. answerOf (e i) (d i .number));
+      after = subst (λ (k : Machine). Running w (d′ .store) mem′ closed types k) (sym (λ i. (e i == 0) ⇒ effected (d i .effect) m else m)) (record {
+        setting = setting-of w (d′ .store) mem mem′ closed types (followed r m) (h .setting) l (f .after);
+        represents = f .after;
+      });
+    }
 
-  -- a function that only answers, by a rule whose machine stays
-  pub obeys-answers : (c : Command) (a : Answer) → deedOf w c m .effect ≡ nothing → a ≡ answered (ruleOf w c) m → Answered w m c (record { store = x; answer = a }) mem closed types
-  unfolding answerTo stepTo
-  obeys-answers c a i o = record {
-    answered = o;
-    after = subst (λ (n : Machine). Running w x mem closed types n) (sym (pick (refusal w m c == 0))) h;
-  }
-    where
-      pick : (t : Bool) → (t ⇒ effected (deedOf w c m .effect) m else m) ≡ m
-      pick true = λ j. effected (i j) m
-      pick false = refl
+    -- a history call
+    pub recall-answers : (c : HistoryCall) (d : Called) (mem′ : Memory) → length (mem′ .journal) ≡ length (mem .journal) →
+        Follows (historyRule n c) m (boundsIn w) d mem′ → Answered w n m (History c) d mem′ closed types
+    recall-answers c d mem′ l f =
+        follows-answers (History c) (historyRule n c) (history-refusal v m c) refl d mem′ l f
 
-  -- a command that is refused by a code, whatever it is
-  refused-answers : (c : Command) (code : ℕ) → code ≡ refusal w m c → (code ≡ 0 → ⊥) → Answered w m c (done x code 0) mem closed types
-  unfolding answerTo stepTo
-  refused-answers c code e d = let z = ne-eqb code 0 d in record { answered = rw (← e, z); after = rw (← e, z) h }
+    -- a function that only answers, by a rule whose machine stays
+    pub obeys-answers : (c : Command) (a : Answer) → deedOf v c m .effect ≡ nothing → a ≡ answered (ruleOf v c) m → Answered w n m c (record { store = x; answer = a }) mem closed types
+    unfolding answerTo stepTo
+    obeys-answers c a i o = record {
+      answered = o;
+      after = subst (λ (k : Machine). Running w x mem closed types k) (sym (pick (refusal v m c == 0))) h;
+    }
+      where
+        pick : (t : Bool) → (t ⇒ effected (deedOf v c m .effect) m else m) ≡ m
+        pick true = λ j. effected (i j) m
+        pick false = refl
 
-  -- a change
-  pub alter-answers : (c : Change) (d : Called) (mem′ : Memory) → length (mem′ .journal) ≡ length (mem .journal) →
-      Follows (changeRule (boundsIn w) (length (mem .journal) / 12) c) m (boundsIn w) d mem′ → Answered w m (Alter c) d mem′ closed types
-  alter-answers c d mem′ l f =
-      follows-answers (Alter c) (changeRule (boundsIn w) (w .changes) c) (change-refusal w m c) refl d mem′ l (rw (h .setting .changes) f)
+    -- a command that is refused by a code, whatever it is
+    refused-answers : (c : Command) (code : ℕ) → code ≡ refusal v m c → (code ≡ 0 → ⊥) → Answered w n m c (done x code 0) mem closed types
+    unfolding answerTo stepTo
+    refused-answers c code e d = let z = ne-eqb code 0 d in record { answered = rw (← e, z); after = rw (← e, z) h }
 
-  -- ---- questions and prices
+    -- a change
+    pub alter-answers : (c : Change) (d : Called) (mem′ : Memory) → length (mem′ .journal) ≡ length (mem .journal) →
+        Follows (changeRule (boundsIn w) n c) m (boundsIn w) d mem′ → Answered w n m (Alter c) d mem′ closed types
+    alter-answers c d mem′ l f =
+        follows-answers (Alter c) (changeRule (boundsIn w) n c) (change-refusal v m c) refl d mem′ l f
 
-  pub ask-answers : (q : Question) (r : Answer) → r ≡ answerOf (questionCode types (present m) q) (questionNumber (w .rows) (present m) q) →
-      Answered w m (Ask q) (record { store = x; answer = r }) mem closed types
-  ask-answers q r d =
-      let e = rw (h .setting .types-in) at d in
-      obeys-answers (Ask q) r refl (e ∙ sym (λ i. answerOf (question-refusal w m q i) (questionNumber (w .rows) (present m) q)))
+    -- ---- questions and prices
 
-  pub quote-answers : (p : PriceCall) (r : Answer) → r ≡ answerOf (priceCode (present m) p) (priceNumber (present m) p) →
-      Answered w m (Quote p) (record { store = x; answer = r }) mem closed types
-  quote-answers p r e = obeys-answers (Quote p) r refl (e ∙ sym (λ i. answerOf (price-refusal w m p i) (priceNumber (present m) p)))
+    pub ask-answers : (q : Question) (r : Answer) → r ≡ answerOf (questionCode types (present m) q) (questionNumber (w .rows) (present m) q) →
+        Answered w n m (Ask q) (record { store = x; answer = r }) mem closed types
+    ask-answers q r d =
+        let e = rw (h .setting .types-in) at d in
+        obeys-answers (Ask q) r refl (e ∙ sym (λ i. answerOf (question-refusal v m q i) (questionNumber (w .rows) (present m) q)))
 
-  -- ---- a kind that is not named
+    pub quote-answers : (p : PriceCall) (r : Answer) → r ≡ answerOf (priceCode (present m) p) (priceNumber (present m) p) →
+        Answered w n m (Quote p) (record { store = x; answer = r }) mem closed types
+    quote-answers p r e = obeys-answers (Quote p) r refl (e ∙ sym (λ i. answerOf (price-refusal v m p i) (priceNumber (present m) p)))
 
-  pub unknown-answers : Answered w m Unknown (done x 1 0) mem closed types
-  unfolding refusal
-  unknown-answers = refused-answers Unknown 1 refl (λ z. omega arith)
+    -- ---- a kind that is not named
+
+    pub unknown-answers : Answered w n m Unknown (done x 1 0) mem closed types
+    unfolding refusal
+    unknown-answers = refused-answers Unknown 1 refl (λ z. omega arith)

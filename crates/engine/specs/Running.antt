@@ -1,5 +1,5 @@
 -- What the state of a run, the lent words and the closed type rows have to do with the plain machine.
-use Prim.Native.Nat.{ℕ, _/_}
+use Prim.Native.Nat.{ℕ, _*_, _/_, _≤_}
 use mathlib.Core.Path.{_≡_}
 use mathlib.Core.Bool.{true}
 use mathlib.Core.List.{List}
@@ -34,11 +34,15 @@ pub record Running (w : Parameters) (x : Store) (mem : Memory) (closed : List �
   pub setting : Setting w mem closed types
   pub represents : Represents (boundsIn w) x mem m
 
--- the answer is the machine's to the command, and so is what is represented afterwards
-pub record Answered (w : Parameters) (m : Machine) (c : Command) (d : Called) (mem : Memory)
+-- the same with another capacity of changes
+abbrev pub allowing : ℕ → Parameters → Parameters
+allowing n w = record { rows = w .rows; vertices = w .vertices; edges = w .edges; changes = n }
+
+-- the answer is the machine's to the command at this capacity of changes, and so is what is represented afterwards
+pub record Answered (w : Parameters) (capacity : ℕ) (m : Machine) (c : Command) (d : Called) (mem : Memory)
     (closed : List ℕ) (types : ℕ) : Type 0 where
-  pub answered : d .answer ≡ answerTo w m c
-  pub after : Running w (d .store) mem closed types (stepTo w m c)
+  pub answered : d .answer ≡ answerTo (allowing capacity w) m c
+  pub after : Running w (d .store) mem closed types (stepTo (allowing capacity w) m c)
 
 -- ---- for contracts: the lent slices by their names
 
@@ -48,9 +52,14 @@ Runs x vertices edges journal marks closed types =
     (w : Parameters) × (m : Machine)
     × Running w x (memory (now vertices) (now edges) (now journal) (now marks)) (now closed) types m
 
--- whatever run stood there, the answer is its machine's to the command, and so is what stands afterwards
-abbrev pub Answers : Command → Store → Called → Slice → Slice → Slice → Slice → Slice → ℕ → Type 0
-Answers c x d vertices edges journal marks closed types =
+-- so many changes may be remembered up to the place: no fewer than are, and no more than the journal has rows
+abbrev pub Granted : ℕ → Store → RefT (List ℕ) → Type 0
+Granted capacity x journal = (x .current .position .used ≤ capacity) × (12 * capacity ≤ length (now journal))
+
+-- whatever run stood there, the answer is its machine's to the command at this capacity of changes, and so is what
+-- stands afterwards
+abbrev pub Answers : Command → ℕ → Store → Called → Slice → Slice → Slice → Slice → Slice → ℕ → Type 0
+Answers c capacity x d vertices edges journal marks closed types =
     (w : Parameters) → (m : Machine)
     → Running w x (entry vertices edges journal marks) (now (closed .entry)) types m
-    → Answered w m c d (exit vertices edges journal marks) (now (closed .entry)) types
+    → Answered w capacity m c d (exit vertices edges journal marks) (now (closed .entry)) types

@@ -18,7 +18,7 @@ pub fn each(
     vertices: &mut [u32],
     edges: &mut [u32],
     journal: &mut [u32],
-    marks: &mut [u32; marks::WORDS],
+    marks: &mut [u32],
     closed: &[u64; 64],
     types: u32,
     calls: &[u32],
@@ -32,11 +32,22 @@ pub fn each(
         types (now (answers .entry)) (now (answers .exit))) ⌝ }
 {
     let n = calls.len() / 5;
+    let capacity = (journal.len() / 12) as u32;
     let mut y = store;
     let mut k = 0;
     while k < n {
         let command = decode(&calls[5 * k..5 * k + 5]);
-        let done = step(y, vertices, edges, journal, marks, closed, types, command);
+        let done = step(
+            y,
+            vertices,
+            edges,
+            journal,
+            marks,
+            closed,
+            types,
+            capacity,
+            command,
+        );
         y = history_calls::same(done.store);
         answers[2 * k] = done.answer.code;
         answers[2 * k + 1] = done.answer.number;

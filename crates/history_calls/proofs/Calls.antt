@@ -11,7 +11,7 @@ use Rattle.lists.specs.Choice.{_⇒_else_}
 use Rattle.lists.proofs.Picks.{same, differ, same?}
 use Rattle.graph.specs.Graph.{Graph}
 use Rattle.graph.specs.WellFormed.{Bounds}
-use Rattle.history.specs.Machine.{MarkPlace, gone, at, Machine, begun, placed, distance, noMarks, stands, placeOr, marked, present, movedTo}
+use Rattle.history.specs.Machine.{MarkPlace, gone, at, Machine, begun, placed, freeOf, distance, noMarks, stands, placeOr, marked, present, movedTo}
 use Rattle.machine.specs.Rules.{effected, historyRule}
 use Rattle.commands.specs.declared.HistoryCall.{HistoryCall}
 use Rattle.commands.specs.declared.HistoryCall.the-variants.{SetMark, DropMark, Commit, Between, Standing as StandingMarks, Free}
@@ -19,13 +19,14 @@ use Rattle.marks.specs.Marked.{placeIn, withMark, withoutMark, Marked}
 use Rattle.marks.proofs.MarkLaws.{marked-same, marked-other, in-marks, in-set, place-is, with-is, without-is, mark-put, mark-gone, none-marked, count-is}
 use Rattle.graph_tables.specs.Tables.{state}
 use Rattle.timeline.specs.Steps.{Journal}
-use Rattle.timeline.proofs.Steps.{journal-free, journal-commit}
+use Rattle.timeline.proofs.Steps.{journal-commit}
 use Rattle.history_calls.specs.declared.Store.{Store}
 use Rattle.history_calls.specs.declared.Called.{Called}
-use Rattle.history_calls.specs.Memory.{Memory, memory, capacityOf, tablesOf}
+use Rattle.history_calls.specs.Memory.{Memory, memory, tablesOf}
 use Rattle.history_calls.specs.Represents.{Represents, Follows}
-use Rattle.history_calls.specs.Outcomes.{noMark, standingCode, newCode, pairCode, done, markSet, placesSet, markDropped, committed, betweenMarks, marksStanding, changesFree}
-use Rattle.history_calls.proofs.Codes.{Mark, standing-none, new-none, standing-is, new-is, both-is, both-none}
+use Rattle.marks.specs.Codes.{noMark, standingCode, newCode}
+use Rattle.history_calls.specs.Outcomes.{pairCode, done, markSet, placesSet, markDropped, committed, betweenMarks, marksStanding, changesFree}
+use Rattle.marks.proofs.CodeLaws.{Mark, standing-none, new-none, standing-is, new-is, both-is, both-none}
 use Rattle.history_calls.proofs.Following.{refused, accepted, follows-by}
 use Rattle.history_calls.proofs.OutcomeLaws.{with-kept, without-kept}
 
@@ -64,15 +65,15 @@ module _ (b : Bounds) (x : Store) (mem : Memory) (m : Machine) (h : Represents b
 
   -- ---- history calls
 
-  abbrev ByRule : HistoryCall → Called → Memory → Type 0
-  ByRule c d mem′ = Follows (historyRule (capacityOf (mem .journal)) c) m b d mem′
+  abbrev ByRule : ℕ → HistoryCall → Called → Memory → Type 0
+  ByRule capacity c d mem′ = Follows (historyRule capacity c) m b d mem′
 
-  kept : (c : HistoryCall) (code : ℕ) → code ≡ historyRule (capacityOf (mem .journal)) c .code m → code ≢ 0 → ByRule c (done x code 0) mem
-  kept c code e n = refused (historyRule (capacityOf (mem .journal)) c) m b x mem code e n h
+  kept : (capacity : ℕ) (c : HistoryCall) (code : ℕ) → code ≡ historyRule capacity c .code m → code ≢ 0 → ByRule capacity c (done x code 0) mem
+  kept capacity c code e n = refused (historyRule capacity c) m b x mem code e n h
 
-  told : (c : HistoryCall) (number : ℕ) → historyRule (capacityOf (mem .journal)) c .code m ≡ 0 → number ≡ historyRule (capacityOf (mem .journal)) c .deed m .number
-      → effected (historyRule (capacityOf (mem .journal)) c .deed m .effect) m ≡ m → ByRule c (done x 0 number) mem
-  told c number e f i = accepted (historyRule (capacityOf (mem .journal)) c) m b x mem number e f (rw i h)
+  told : (capacity : ℕ) (c : HistoryCall) (number : ℕ) → historyRule capacity c .code m ≡ 0 → number ≡ historyRule capacity c .deed m .number
+      → effected (historyRule capacity c .deed m .effect) m ≡ m → ByRule capacity c (done x 0 number) mem
+  told capacity c number e f i = accepted (historyRule capacity c) m b x mem number e f (rw i h)
 
   pub moved-to : (x′ : Store) (vertices′ edges′ : List ℕ) (p : ℕ) → x′ .set ≡ x .set → Journal b (x′ .current .position) (state (x′ .current .head) vertices′ edges′) (mem .journal) (placed p (m .line))
       → Represents b x′ (memory vertices′ edges′ (mem .journal) (mem .marks)) (movedTo p m)
@@ -105,20 +106,20 @@ module _ (b : Bounds) (x : Store) (mem : Memory) (m : Machine) (h : Represents b
           go gone f t = absurd (let z : _≡_ {A = ℕ} 0 1 = cc in omega arith)
           go (at q) f t = omega (arith, mark-place 0 ∙ ap (placeOr 0) f, mark-steps a q f)
 
-    pub drop-follows : ByRule (DropMark a) (markDropped x a) mem
-    drop-follows = elim (same? (standingCode (x .set) a) 0) [
+    pub drop-follows : (capacity : ℕ) → ByRule capacity (DropMark a) (markDropped x a) mem
+    drop-follows capacity = elim (same? (standingCode (x .set) a) 0) [
       | same z y ↦
           let k = mark z in
           let s = without-is (x .set) a _ (k .stands) refl in
           follows-by _ m b mem (λ i. done (record { current = x .current; set = withoutMark a (x .set) }) (z i) 0)
-          (accepted (historyRule (capacityOf (mem .journal)) (DropMark a)) m b _ mem 0 (sym code-is ∙ z) refl (record {
+          (accepted (historyRule capacity (DropMark a)) m b _ mem 0 (sym code-is ∙ z) refl (record {
             journal = h .journal;
             marks = subst (λ (n : ℕ). Marked (marked a gone (m .marks)) n (mem .marks)) s (mark-gone (m .marks) (x .set) (mem .marks) (h .marks) a (k .low) (k .high) _ (mark-stands z) refl);
             inside = drop-inside (m .marks) a (length (m .line .steps)) (h .inside);
           }))
       | differ n y ↦
           follows-by _ m b mem (λ i. done (record { current = x .current; set = without-kept (x .set) a n i }) (standingCode (x .set) a) 0)
-          (kept (DropMark a) _ code-is n)
+          (kept capacity (DropMark a) _ code-is n)
     ]
 
     -- 17: a mark that must not stand
@@ -129,8 +130,8 @@ module _ (b : Bounds) (x : Store) (mem : Memory) (m : Machine) (h : Represents b
     abbrev marksAfter : Memory
     marksAfter = memory (mem .vertices) (mem .edges) (mem .journal) (placesSet x a (mem .marks))
 
-    pub set-follows : ByRule (SetMark a) (markSet x a) marksAfter
-    set-follows = elim (same? (newCode (x .set) a) 0) [
+    pub set-follows : (capacity : ℕ) → ByRule capacity (SetMark a) (markSet x a) marksAfter
+    set-follows capacity = elim (same? (newCode (x .set) a) 0) [
       | same z y ↦
           let k = new-none (x .set) a _ refl z in
           let w = in-marks a (k .low) (k .high) in
@@ -141,7 +142,7 @@ module _ (b : Bounds) (x : Store) (mem : Memory) (m : Machine) (h : Represents b
           let d = subst (λ (n : ℕ). Marked (marked a (at p) (m .marks)) n (set (mem .marks) (a - 1) p)) s (mark-put (m .marks) (x .set) (mem .marks) (h .marks) a (k .low) (k .high) p _ stood refl) in
           let e = subst (λ (l : List ℕ). Marked (marked a (at p) (m .marks)) (withMark a (x .set)) l) put d in
           follows-by _ m b marksAfter (λ i. done (record { current = x .current; set = withMark a (x .set) }) (z i) 0)
-          (accepted (historyRule (capacityOf (mem .journal)) (SetMark a)) m b _ marksAfter 0 (sym set-code ∙ z) refl (record {
+          (accepted (historyRule capacity (SetMark a)) m b _ marksAfter 0 (sym set-code ∙ z) refl (record {
             journal = h .journal;
             marks = subst (λ (i : ℕ). Marked (marked a (at i) (m .marks)) (withMark a (x .set)) (placesSet x a (mem .marks))) (h .journal .place) e;
             inside = set-inside (m .marks) a (m .line .place) (length (m .line .steps)) (h .journal .inside) (h .inside);
@@ -149,34 +150,34 @@ module _ (b : Bounds) (x : Store) (mem : Memory) (m : Machine) (h : Represents b
       | differ n y ↦
           let stay : mem .marks ≡ placesSet x a (mem .marks) = rw (ne-eqb (newCode (x .set) a) 0 n) in
           follows-by _ m b marksAfter (λ i. done (record { current = x .current; set = with-kept (x .set) a n i }) (newCode (x .set) a) 0)
-          (subst (λ (l : List ℕ). ByRule (SetMark a) (done x (newCode (x .set) a) 0) (memory (mem .vertices) (mem .edges) (mem .journal) l)) stay (kept (SetMark a) _ set-code n))
+          (subst (λ (l : List ℕ). ByRule capacity (SetMark a) (done x (newCode (x .set) a) 0) (memory (mem .vertices) (mem .edges) (mem .journal) l)) stay (kept capacity (SetMark a) _ set-code n))
     ]
 
   -- 22
 
-  pub commit-follows : ByRule Commit (committed x) mem
-  commit-follows = accepted (historyRule (capacityOf (mem .journal)) Commit) m b _ mem _ refl (h .journal .place)
+  pub commit-follows : (capacity : ℕ) → ByRule capacity Commit (committed x) mem
+  commit-follows capacity = accepted (historyRule capacity Commit) m b _ mem _ refl (h .journal .place)
       (begun-represents b (committed x .store) mem (present m) (journal-commit b (x .current .position) _ (tablesOf x mem) (mem .journal) (m .line) (h .journal) refl refl refl) refl (h .marks .room))
 
   -- 49, 50 and 51
 
-  pub between-follows : (a c : ℕ) → ByRule (Between a c) (betweenMarks x (mem .marks) a c) mem
-  between-follows a c = elim (same? (pairCode x a c) 0) [
+  pub between-follows : (capacity a c : ℕ) → ByRule capacity (Between a c) (betweenMarks x (mem .marks) a c) mem
+  between-follows capacity a c = elim (same? (pairCode x a c) 0) [
     | same z y ↦
         let s = both-none (x .set) a c z in
         follows-by _ m b mem (λ i. record { store = x; answer = record { code = z i; number = ap (λ (t : Bool). t ⇒ distance (placeIn (mem .marks) a) (placeIn (mem .marks) c) else 0) (eq-eqb (pairCode x a c) 0 z) i } })
-        (told (Between a c) _ (sym code ∙ z)
+        (told capacity (Between a c) _ (sym code ∙ z)
         (ap (λ (k : ℕ). distance k (placeIn (mem .marks) c)) (mark-place a (s .0) 0) ∙ ap (distance (placeOr 0 (m .marks a))) (mark-place c (s .1) 0)) refl)
     | differ n y ↦
         follows-by _ m b mem (λ i. record { store = x; answer = record { code = pairCode x a c; number = ap (λ (t : Bool). t ⇒ distance (placeIn (mem .marks) a) (placeIn (mem .marks) c) else 0) (ne-eqb (pairCode x a c) 0 n) i } })
-        (kept (Between a c) _ code n)
+        (kept capacity (Between a c) _ code n)
   ]
     where
-      code : pairCode x a c ≡ historyRule (capacityOf (mem .journal)) (Between a c) .code m
+      code : pairCode x a c ≡ historyRule capacity (Between a c) .code m
       code = both-is m (x .set) (mem .marks) (h .marks) a c
 
-  pub count-follows : ByRule StandingMarks (marksStanding x) mem
-  count-follows = told StandingMarks _ refl (count-is (m .marks) (x .set) (mem .marks) (h .marks)) refl
+  pub count-follows : (capacity : ℕ) → ByRule capacity StandingMarks (marksStanding x) mem
+  count-follows capacity = told capacity StandingMarks _ refl (count-is (m .marks) (x .set) (mem .marks) (h .marks)) refl
 
-  pub free-follows : ByRule Free (changesFree x (mem .journal)) mem
-  free-follows = told Free _ refl (journal-free b (x .current .position) (tablesOf x mem) (mem .journal) (m .line) (capacityOf (mem .journal)) (h .journal)) refl
+  pub free-follows : (capacity free : ℕ) → free ≡ freeOf capacity (m .line) → ByRule capacity Free (changesFree x free) mem
+  free-follows capacity free e = told capacity Free _ refl e refl

@@ -1,4 +1,3 @@
-pub mod Codes
 pub mod Following
 pub mod Calls
 pub mod Present

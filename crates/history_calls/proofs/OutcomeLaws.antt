@@ -12,7 +12,8 @@ use Rattle.marks.specs.Marked.{placeIn, withMark, withoutMark}
 use Rattle.history_calls.specs.declared.Store.{Store}
 use Rattle.history_calls.specs.declared.Called.{Called}
 use Rattle.history_calls.specs.Memory.{memory}
-use Rattle.history_calls.specs.Outcomes.{standingCode, newCode, pairCode, done, markSet, placesSet, markDropped, betweenMarks, Leaves}
+use Rattle.marks.specs.Codes.{standingCode, newCode}
+use Rattle.history_calls.specs.Outcomes.{pairCode, done, markSet, placesSet, markDropped, betweenMarks, Leaves}
 
 -- ---- a mark that is refused
 

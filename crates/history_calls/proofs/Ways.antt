@@ -22,7 +22,7 @@ use Rattle.timeline.specs.JournalRows.{shifted, Reach}
 use Rattle.timeline.specs.Steps.{Journal}
 use Rattle.history_calls.specs.declared.Store.{Store}
 use Rattle.history_calls.specs.declared.Way.{Way}
-use Rattle.history_calls.specs.Memory.{Memory, memory, capacityOf}
+use Rattle.history_calls.specs.Memory.{Memory, memory}
 use Rattle.history_calls.specs.Represents.{Represents, Follows}
 use Rattle.history_calls.specs.Outcomes.{done, Leads, nowhere, wayOf}
 use Rattle.history_calls.proofs.Calls.{code-is, mark-place, mark-inside, moved-to}
@@ -82,11 +82,11 @@ module _ (p q : ℕ) where
 
 -- ---- the way
 
-module _ (b : Bounds) (x : Store) (mem : Memory) (m : Machine) (h : Represents b x mem m) where
+module _ (b : Bounds) (x : Store) (mem : Memory) (m : Machine) (h : Represents b x mem m) (capacity : ℕ) where
   record Led (c : HistoryCall) (w : Way) : Type 0 where
-    coded : w .code ≡ historyRule (capacityOf (mem .journal)) c .code m
+    coded : w .code ≡ historyRule capacity c .code m
     reach : w .code ≡ 0 → Reach (w .back) (w .steps) (x .current .position .place) (x .current .position .steps)
-    deeds : w .code ≡ 0 → historyDeed (capacityOf (mem .journal)) c m ≡ deed (w .steps) (goes (shifted (w .back) (w .steps) (m .line .place)))
+    deeds : w .code ≡ 0 → historyDeed capacity c m ≡ deed (w .steps) (goes (shifted (w .back) (w .steps) (m .line .place)))
 
   inside : x .current .position .place ≤ x .current .position .steps
   inside = omega (arith, h .journal .place, h .journal .steps, h .journal .inside)
@@ -129,17 +129,17 @@ module _ (b : Bounds) (x : Store) (mem : Memory) (m : Machine) (h : Represents b
     this : Led c w
     this = subst (Led c) (sym e) (led c l)
 
-    pub way-refused : w .code ≢ 0 → Follows (historyRule (capacityOf (mem .journal)) c) m b (done x (w .code) 0) mem
-    way-refused n = refused (historyRule (capacityOf (mem .journal)) c) m b x mem (w .code) (this .coded) n h
+    pub way-refused : w .code ≢ 0 → Follows (historyRule capacity c) m b (done x (w .code) 0) mem
+    way-refused n = refused (historyRule capacity c) m b x mem (w .code) (this .coded) n h
 
     pub way-reach : w .code ≡ 0 → Reach (w .back) (w .steps) (x .current .position .place) (x .current .position .steps)
     way-reach z = this .reach z
 
     pub way-done : w .code ≡ 0 → (x′ : Store) (vertices′ edges′ : List ℕ) → x′ .set ≡ x .set
         → Journal b (x′ .current .position) (state (x′ .current .head) vertices′ edges′) (mem .journal) (placed (shifted (w .back) (w .steps) (m .line .place)) (m .line))
-        → Follows (historyRule (capacityOf (mem .journal)) c) m b (done x′ 0 (w .steps)) (memory vertices′ edges′ (mem .journal) (mem .marks))
+        → Follows (historyRule capacity c) m b (done x′ 0 (w .steps)) (memory vertices′ edges′ (mem .journal) (mem .marks))
     way-done z x′ vertices′ edges′ s j =
         let d = this .deeds z in
-        accepted (historyRule (capacityOf (mem .journal)) c) m b x′ (memory vertices′ edges′ (mem .journal) (mem .marks)) (w .steps) (sym (this .coded) ∙ z) (sym (ap (λ (y : Deed). y .number) d))
+        accepted (historyRule capacity c) m b x′ (memory vertices′ edges′ (mem .journal) (mem .marks)) (w .steps) (sym (this .coded) ∙ z) (sym (ap (λ (y : Deed). y .number) d))
         (subst (λ (y : Deed). Represents b x′ (memory vertices′ edges′ (mem .journal) (mem .marks)) (effected (y .effect) m)) (sym d)
         (moved-to b x mem m h x′ vertices′ edges′ _ s j))

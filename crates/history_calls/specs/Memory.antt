@@ -1,7 +1,6 @@
 -- The words that are lent to the calls of a list.
-use Prim.Native.Nat.{ℕ, _/_}
+use Prim.Native.Nat.{ℕ}
 use mathlib.Core.List.{List}
-use lib.ListN.{length}
 use denote.Ref.{now}
 use Rattle.lists.specs.Slices.{Slice}
 use Rattle.graph_tables.specs.Tables.{State, state}
@@ -25,10 +24,6 @@ entry vertices edges journal marks =
 abbrev pub exit : Slice → Slice → Slice → Slice → Memory
 exit vertices edges journal marks =
     memory (now (vertices .exit)) (now (edges .exit)) (now (journal .exit)) (now (marks .exit))
-
--- as many changes as the journal has rows
-abbrev pub capacityOf : List ℕ → ℕ
-capacityOf t = length t / 12
 
 -- the tables with the ends and counts of the store
 abbrev pub tablesOf : Store → Memory → State

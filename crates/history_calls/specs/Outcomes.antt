@@ -1,7 +1,7 @@
 -- What the history calls return, where nothing is left open, and what a refused one leaves.
 use Prim.Native.Nat.{ℕ, _-_}
 use mathlib.Core.Path.{_≡_}
-use mathlib.Core.Bool.{Bool, true, false, not}
+use mathlib.Core.Bool.{true, false}
 use mathlib.Core.Logic.{_≢_}
 use mathlib.Core.List.{List}
 use lib.Count.{ones}
@@ -21,33 +21,19 @@ use Rattle.commands.specs.declared.HistoryCall.the-variants.{
   Free,
 }
 use Rattle.commands.specs.Answers.{answerOf}
-use Rattle.history.specs.Machine.{distance, isMark}
-use Rattle.marks.specs.Marked.{inSet, placeIn, withMark, withoutMark}
+use Rattle.history.specs.Machine.{distance}
+use Rattle.marks.specs.Marked.{placeIn, withMark, withoutMark}
+use Rattle.marks.specs.Codes.{standingCode, newCode, bothCode}
 use Rattle.graph_tables.specs.declared.Head.{Head}
 use Rattle.timeline.specs.Current.{noSteps}
 use Rattle.history_calls.specs.declared.Store.{Store}
 use Rattle.history_calls.specs.declared.Called.{Called}
 use Rattle.history_calls.specs.declared.Way.{Way}
-use Rattle.history_calls.specs.Memory.{Memory, capacityOf}
+use Rattle.history_calls.specs.Memory.{Memory}
 
 -- ---- codes, read off the set
 
--- REFERENCE 7.11
-abbrev pub noMark : ℕ → Bool
-noMark a = not (isMark a)
-
--- for a mark that must stand: 11, 13
-abbrev pub standingCode : ℕ → ℕ → ℕ
-standingCode set a = noMark a ⇒ 11 else not (inSet set a) ⇒ 13 else 0
-
--- for a mark that is set: 11, 12
-abbrev pub newCode : ℕ → ℕ → ℕ
-newCode set a = noMark a ⇒ 11 else inSet set a ⇒ 12 else 0
-
--- the code of two marks that must stand, from the code of each: the lowest that applies
-abbrev pub bothCode : ℕ → ℕ → ℕ
-bothCode c d = (c == 11) ⇒ 11 else (d == 11) ⇒ 11 else (c == 13) ⇒ 13 else d
-
+-- of two marks that must stand
 abbrev pub pairCode : Store → ℕ → ℕ → ℕ
 pairCode x a c = bothCode (standingCode (x .set) a) (standingCode (x .set) c)
 
@@ -84,8 +70,8 @@ betweenMarks x marks a c = record {
 abbrev pub marksStanding : Store → Called
 marksStanding x = done x 0 (ones (x .set))
 
-abbrev pub changesFree : Store → List ℕ → Called
-changesFree x journal = done x 0 (capacityOf journal - x .current .position .used)
+abbrev pub changesFree : Store → ℕ → Called
+changesFree x free = done x 0 free
 
 -- ---- the calls that lead to another place
 

@@ -2,12 +2,14 @@
 // A caller has a store and lent words that stand for a machine; any call may be asked for.
 use commands::Answer;
 use commands::HistoryCall;
-use graph::MOST_MARKS;
 use graph_tables::Head;
+use marks::codes::both_code;
+use marks::codes::new_code;
+use marks::codes::standing_code;
 use timeline::Current;
 use timeline::Position;
 ghost use mathlib.Core.Path.{_≡_};
-ghost use Prim.Native.Nat.{_^_, _<_};
+ghost use Prim.Native.Nat.{ℕ, _^_, _<_};
 ghost use lib.ListN.{length};
 ghost use Rattle.graph.specs.Graph.{Graph};
 ghost use Rattle.graph.specs.WellFormed.{Bounds, Within};
@@ -19,9 +21,6 @@ ghost use Rattle.history_calls.specs.Memory.{Memory, memory, entry, tabl
 ghost use Rattle.history_calls.specs.Represents.{Represents, Stands, Performs};
 ghost use Rattle.lists.specs.Choice.{_⇒_else_, _==_};
 ghost use Rattle.history_calls.specs.Outcomes.{
-  standingCode,
-  newCode,
-  bothCode,
   done,
   begunAt,
   markSet,
@@ -92,54 +91,6 @@ pub fn start(head: Head) -> Store
     }
 }
 
-// Code 11, 13 or 0: mark a must stand.
-fn standing_code(set: u64, a: u32) -> u32
-    ensures { λ r. ⌜ r ≡ standingCode set a ⌝ }
-{
-    if a == 0 {
-        return 11;
-    }
-    if MOST_MARKS < a {
-        return 11;
-    }
-    if marks::stands(set, a) {
-        return 0;
-    }
-    13
-}
-
-// Code 11, 12 or 0: mark a must not stand.
-fn new_code(set: u64, a: u32) -> u32
-    ensures { λ r. ⌜ r ≡ newCode set a ⌝ }
-{
-    if a == 0 {
-        return 11;
-    }
-    if MOST_MARKS < a {
-        return 11;
-    }
-    if marks::stands(set, a) {
-        return 12;
-    }
-    0
-}
-
-// The code of two marks that must stand, from the code of each.
-fn both_code(c: u32, d: u32) -> u32
-    ensures { λ r. ⌜ r ≡ bothCode c d ⌝ }
-{
-    if c == 11 {
-        return 11;
-    }
-    if d == 11 {
-        return 11;
-    }
-    if c == 13 {
-        return 13;
-    }
-    d
-}
-
 // Where kinds 19, 20 and 21 lead: a code, or so many steps back or on.
 pub struct Way {
     pub code: u32,
@@ -158,7 +109,8 @@ fn end_code(place: u32, end: u32) -> u32
 }
 
 // Kind 19 is one step back, kind 20 one step on, kind 21 leads to the place of a mark. No other call leads anywhere.
-fn way_of(store: Store, marks: &[u32; marks::WORDS], call: HistoryCall) -> Way
+pub fn way_of(store: Store, marks: &[u32], call: HistoryCall) -> Way
+    requires { ⌜ length (now marks) ≡ markWords ⌝ }
     ensures { λ r. ⌜ r ≡ wayOf store (now (marks .entry)) call ⌝ }
 {
     let place = store.current.position.place;
@@ -204,14 +156,14 @@ fn go(
     vertices: &mut [u32],
     edges: &mut [u32],
     journal: &[u32],
-    marks: &[u32; marks::WORDS],
+    marks: &[u32],
     call: HistoryCall,
 ) -> Called
     requires { ⌜ Leads call × Stands store (memory (now vertices) (now edges) (now journal) (now marks)) ⌝ }
     ensures { λ r. ⌜ Leaves store (entry vertices edges journal marks) r
         (memory (now (vertices .exit)) (now (edges .exit)) (now (journal .entry)) (now (marks .entry))) ⌝ }
-    ensures { λ r. ⌜ Performs call store (entry vertices edges journal marks) r
-        (memory (now (vertices .exit)) (now (edges .exit)) (now (journal .entry)) (now (marks .entry))) ⌝ }
+    ensures { λ r. ⌜ ((free : ℕ) → Performs call free store (entry vertices edges journal marks) r
+        (memory (now (vertices .exit)) (now (edges .exit)) (now (journal .entry)) (now (marks .entry)))) ⌝ }
 {
     let w = way_of(store, marks, call);
     if w.code != 0 {
@@ -231,7 +183,8 @@ fn go(
 }
 
 // Kind 17: mark a at the present place.
-fn set_mark(store: Store, marks: &mut [u32; marks::WORDS], a: u32) -> Called
+pub fn set_mark(store: Store, marks: &mut [u32], a: u32) -> Called
+    requires { ⌜ length (now marks) ≡ markWords ⌝ }
     ensures { λ r. ⌜ r ≡ markSet store a ⌝ }
     ensures { λ r. ⌜ now (marks .exit) ≡ placesSet store a (now (marks .entry)) ⌝ }
 {
@@ -248,7 +201,7 @@ fn set_mark(store: Store, marks: &mut [u32; marks::WORDS], a: u32) -> Called
 }
 
 // Kind 18: mark a goes.
-fn drop_mark(store: Store, a: u32) -> Called
+pub fn drop_mark(store: Store, a: u32) -> Called
     ensures { λ r. ⌜ r ≡ markDropped store a ⌝ }
 {
     let current = store.current;
@@ -264,7 +217,7 @@ fn drop_mark(store: Store, a: u32) -> Called
 }
 
 // Kind 22: the present graph is the start, and no mark stands.
-fn commit(store: Store) -> Called
+pub fn commit(store: Store) -> Called
     ensures { λ r. ⌜ r ≡ committed store ⌝ }
 {
     let head = store.current.head;
@@ -283,7 +236,8 @@ fn commit(store: Store) -> Called
 }
 
 // Kind 49: the steps between marks a and b.
-fn between(store: Store, marks: &[u32; marks::WORDS], a: u32, b: u32) -> Called
+pub fn between(store: Store, marks: &[u32], a: u32, b: u32) -> Called
+    requires { ⌜ length (now marks) ≡ markWords ⌝ }
     ensures { λ r. ⌜ r ≡ betweenMarks store (now (marks .entry)) a b ⌝ }
 {
     let c = standing_code(store.set, a);
@@ -299,37 +253,35 @@ fn between(store: Store, marks: &[u32; marks::WORDS], a: u32, b: u32) -> Called
 }
 
 // Kind 50: how many marks stand.
-fn standing(store: Store) -> Called
+pub fn standing(store: Store) -> Called
     ensures { λ r. ⌜ r ≡ marksStanding store ⌝ }
 {
     let number = marks::count_marks(store.set);
     stay(store, 0, number)
 }
 
-// Kind 51: free changes. The journal has fewer than 2 ^ 32 words, as code 103 saw to.
-fn free_changes(store: Store, journal: &[u32]) -> Called
-    requires { ⌜ length (now journal) < 2 ^ 32 ⌝ }
-    ensures { λ r. ⌜ r ≡ changesFree store (now (journal .entry)) ⌝ }
+// Kind 51: free changes.
+fn free_changes(store: Store, free: u32) -> Called
+    ensures { λ r. ⌜ r ≡ changesFree store free ⌝ }
 {
-    let capacity = (journal.len() / 12) as u32;
-    let number = timeline::free_changes(store.current.position, capacity);
-    stay(store, 0, number)
+    stay(store, 0, free)
 }
 
-// Any history call. A refused one leaves every lent word; else those of the tables and marks are left open, but for
-// the machine that they stand for.
+// Any history call, where so many changes are free. A refused one leaves every lent word; else those of the tables and
+// marks are left open, but for the machine that they stand for.
 pub fn perform(
     store: Store,
     vertices: &mut [u32],
     edges: &mut [u32],
     journal: &[u32],
-    marks: &mut [u32; marks::WORDS],
+    marks: &mut [u32],
+    free: u32,
     call: HistoryCall,
 ) -> Called
     requires { ⌜ Stands store (memory (now vertices) (now edges) (now journal) (now marks)) ⌝ }
     ensures { λ r. ⌜ Leaves store (entry vertices edges journal marks) r
         (memory (now (vertices .exit)) (now (edges .exit)) (now (journal .entry)) (now (marks .exit))) ⌝ }
-    ensures { λ r. ⌜ Performs call store (entry vertices edges journal marks) r
+    ensures { λ r. ⌜ Performs call free store (entry vertices edges journal marks) r
         (memory (now (vertices .exit)) (now (edges .exit)) (now (journal .entry)) (now (marks .exit))) ⌝ }
 {
     match call {
@@ -338,7 +290,7 @@ pub fn perform(
         HistoryCall::Commit => commit(store),
         HistoryCall::Between(a, b) => between(store, marks, a, b),
         HistoryCall::Standing => standing(store),
-        HistoryCall::Free => free_changes(store, journal),
+        HistoryCall::Free => free_changes(store, free),
         _ => go(store, vertices, edges, journal, marks, call),
     }
 }

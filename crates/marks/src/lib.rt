@@ -1,4 +1,6 @@
 // The standing marks: one 64-bit set, and the place of each.
+pub mod codes;
+
 use graph::MOST_MARKS;
 ghost use mathlib.Core.Path.{_≡_};
 ghost use mathlib.Core.Bool.{true, false, _&&_};
@@ -37,7 +39,8 @@ pub fn stands(set: u64, a: u32) -> bool
 }
 
 // The place of mark a; 0 where a is no mark.
-pub fn place_of(places: &[u32; WORDS], a: u32) -> u32
+pub fn place_of(places: &[u32], a: u32) -> u32
+    requires { ⌜ length (now places) ≡ markWords ⌝ }
     ensures { λ r. ⌜ r ≡ placeIn (now (places .entry)) a ⌝ }
 {
     if !is_mark(a) {
@@ -48,7 +51,8 @@ pub fn place_of(places: &[u32; WORDS], a: u32) -> u32
 }
 
 // Kind 17: mark a at place p. Where a is no mark, nothing changes.
-pub fn set_mark(set: u64, places: &mut [u32; WORDS], a: u32, p: u32) -> u64
+pub fn set_mark(set: u64, places: &mut [u32], a: u32, p: u32) -> u64
+    requires { ⌜ length (now places) ≡ markWords ⌝ }
     ensures { λ r. ⌜ r ≡ withMark a set ⌝ }
     ensures { λ r. ⌜ now (places .exit)
         ≡ (isMark a ⇒ setAt (now (places .entry)) (a - 1) p else now (places .entry)) ⌝ }
@@ -77,7 +81,8 @@ pub fn drop_mark(set: u64, a: u32) -> u64
 }
 
 // Where the lowest digit of `left` says that mark a stands: it goes if its place is above p.
-fn cut_mark(set: u64, left: u64, places: &[u32; WORDS], a: u32, p: u32) -> u64
+fn cut_mark(set: u64, left: u64, places: &[u32], a: u32, p: u32) -> u64
+    requires { ⌜ length (now places) ≡ markWords ⌝ }
     ensures { λ r. ⌜ r ≡ (left % 2 == 1 && ltb p (placeIn (now (places .entry)) a) ⇒ withoutMark a set else set) ⌝ }
 {
     if left % 2 != 1 {
@@ -92,7 +97,8 @@ fn cut_mark(set: u64, left: u64, places: &[u32; WORDS], a: u32, p: u32) -> u64
 
 // A change at place p: the marks whose place is above p go. The marks above a, still to be looked at, are the digits of
 // `left`; only the places of standing marks are read.
-pub fn cut_marks(set: u64, places: &[u32; WORDS], p: u32) -> u64
+pub fn cut_marks(set: u64, places: &[u32], p: u32) -> u64
+    requires { ⌜ length (now places) ≡ markWords ⌝ }
     ensures { λ r. ⌜ r ≡ cutSet p (now (places .entry)) set ⌝ }
     ensures { λ r. ⌜ ((ms : ℕ → MarkPlace) → Marked ms set (now (places .entry))
         → Marked (cutMarks p ms) r (now (places .entry))) ⌝ }

@@ -7,11 +7,11 @@ pub mod lent; // the record that every change updates, lent to thin functions
 ghost use mathlib.Core.Path.{_≡_};
 ghost use mathlib.Core.Bool.{true, false};
 ghost use mathlib.Core.List.{List};
-ghost use Prim.Native.Nat.{ℕ, _-_, _^_, _<_};
+ghost use Prim.Native.Nat.{ℕ, _^_, _<_};
 ghost use lib.ListN.{length};
 ghost use Rattle.graph.specs.Graph.{Graph};
 ghost use Rattle.graph.specs.WellFormed.{Bounds, Within};
-ghost use Rattle.history.specs.Machine.{Step, Timeline, begun, placed, freeOf};
+ghost use Rattle.history.specs.Machine.{Step, Timeline, begun, placed};
 ghost use Rattle.graph_tables.specs.Tables.{State, state, entryState, exitState};
 ghost use Rattle.graph_tables.specs.Capacities.{Sized};
 ghost use Rattle.graph_tables.specs.Holds.{Holds};
@@ -147,18 +147,6 @@ pub fn go(
     }
     let place = shifted_by(current.position.place, steps, back);
     lent::moved(current, h, place, u)
-}
-
-// Kind 51: free changes, of a capacity; 0 where more rows are used than it has.
-pub fn free_changes(position: Position, capacity: u32) -> u32
-    ensures { λ r. ⌜ r ≡ capacity - position .used ⌝ }
-    ensures { λ r. ⌜ ((b : Bounds) → (s : State) → (t : List ℕ) → (l : Timeline) → Journal b position s t l
-        → r ≡ freeOf capacity l) ⌝ }
-{
-    if capacity < position.used {
-        return 0;
-    }
-    capacity - position.used
 }
 
 // No step yet: at the start, and after a commit.

@@ -1,12 +1,11 @@
 -- The ways out of `delete`: no such vertex, no room, done.
-use Prim.Native.Nat.{ℕ, _+_, _-_, _/_, _≤_, _<_}
+use Prim.Native.Nat.{ℕ, _+_, _≤_, _<_}
 use mathlib.Core.Path.{_≡_, refl, sym, ap, _∙_}
 use mathlib.Core.Bool.{Bool, true, false, not}
 use mathlib.Core.List.{List}
 use native.Mathlib.Omega.{arith}
 use borrow.Author.Tests.{lt-ltb, le-ltb}
 use lib.Dec.{ltb}
-use lib.ListN.{length}
 use Rattle.lists.specs.Choice.{_⇒_else_}
 use Rattle.graph.specs.declared.Change.the-variants.{DeleteVertex}
 use Rattle.graph.specs.Graph.{Graph, hasVertex}
@@ -27,11 +26,11 @@ use Rattle.vertex_deletion.specs.Making.{Making}
 use Rattle.vertex_deletion.specs.Deleting.{deletionCode, Deletes}
 use Rattle.vertex_deletion.proofs.Rows.{some-cost, making-end}
 
-module _ (a : ℕ) (j : Position) (s : State) (t : List ℕ) (f : Lookup) (e : f ≡ foundV (s .vertices) a) where
-  pub lacking : f ≡ Missing → Deletes a j s t 4 0 s t
+module _ (a free : ℕ) (j : Position) (s : State) (t : List ℕ) (f : Lookup) (e : f ≡ foundV (s .vertices) a) where
+  pub lacking : f ≡ Missing → Deletes a free j s t 4 0 s t
   lacking i = record {
     coded = λ b l k.
-        sym (ap (λ (p : Bool). not p ⇒ 4 else ltb (length t / 12 - j .used) (cost (DeleteVertex a) (presentIn l)) ⇒ 10 else 0)
+        sym (ap (λ (p : Bool). not p ⇒ 4 else ltb free (cost (DeleteVertex a) (presentIn l)) ⇒ 10 else 0)
         (vertex-lacking (s .vertices) (presentIn l) a (s .edges, (s .head, holds-current b j s t l k)) f e i));
     stays = λ y. ((λ z. omega arith), refl, refl);
     made = λ y. absurd (y refl);
@@ -49,22 +48,22 @@ module _ (a : ℕ) (j : Position) (s : State) (t : List ℕ) (f : Lookup) (e : f
       pub costs : (b : Bounds) (l : Timeline) → Journal b j s t l → n ≡ cost (DeleteVertex a) (presentIn l)
       costs b l k = told b (presentIn l) (holds-current b j s t l k) (allowed b l k)
 
-      by-room : (b : Bounds) (l : Timeline) → Journal b j s t l → (p : Bool) → ltb (length t / 12 - j .used) (cost (DeleteVertex a) (presentIn l)) ≡ p
-          → (p ⇒ 10 else 0) ≡ deletionCode a (length t / 12 - j .used) (presentIn l)
+      by-room : (b : Bounds) (l : Timeline) → Journal b j s t l → (p : Bool) → ltb free (cost (DeleteVertex a) (presentIn l)) ≡ p
+          → (p ⇒ 10 else 0) ≡ deletionCode a free (presentIn l)
       by-room b l k p z =
-          sym (ap (λ (u : Bool). not u ⇒ 4 else ltb (length t / 12 - j .used) (cost (DeleteVertex a) (presentIn l)) ⇒ 10 else 0) (there b l k) ∙ ap (λ (u : Bool). u ⇒ 10 else 0) z)
+          sym (ap (λ (u : Bool). not u ⇒ 4 else ltb free (cost (DeleteVertex a) (presentIn l)) ⇒ 10 else 0) (there b l k) ∙ ap (λ (u : Bool). u ⇒ 10 else 0) z)
 
-      pub too-dear : (free : ℕ) → free ≡ length t / 12 - j .used → free < n → Deletes a j s t 10 0 s t
-      too-dear free y h = record {
-        coded = λ b l k. by-room b l k true (lt-ltb (length t / 12 - j .used) (cost (DeleteVertex a) (presentIn l)) (omega (arith, y, h, costs b l k)));
+      pub too-dear : free < n → Deletes a free j s t 10 0 s t
+      too-dear h = record {
+        coded = λ b l k. by-room b l k true (lt-ltb free (cost (DeleteVertex a) (presentIn l)) (omega (arith, h, costs b l k)));
         stays = λ y. ((λ z. omega arith), refl, refl);
         made = λ y. absurd (y refl);
       }
 
-      pub deleted : (free : ℕ) → free ≡ length t / 12 - j .used → n ≤ free → (b : Bounds) (l : Timeline) → Journal b j s t l → (s′ : State) (t′ : List ℕ)
-          → ((b : Bounds) (l : Timeline) → Journal b j s t l → Making (DeleteVertex a) b j s t l n s′ t′ (j .used + n)) → Deletes a j s t 0 n s′ t′
-      deleted free y h b₀ l₀ k₀ s′ t′ w = record {
-        coded = λ b l k. by-room b l k false (le-ltb (length t / 12 - j .used) (cost (DeleteVertex a) (presentIn l)) (omega (arith, y, h, costs b l k)));
+      pub deleted : n ≤ free → (b : Bounds) (l : Timeline) → Journal b j s t l → (s′ : State) (t′ : List ℕ)
+          → ((b : Bounds) (l : Timeline) → Journal b j s t l → Making (DeleteVertex a) b j s t l n s′ t′ (j .used + n)) → Deletes a free j s t 0 n s′ t′
+      deleted h b₀ l₀ k₀ s′ t′ w = record {
+        coded = λ b l k. by-room b l k false (le-ltb free (cost (DeleteVertex a) (presentIn l)) (omega (arith, h, costs b l k)));
         stays = λ z. absurd (omega (arith, z, costs b₀ l₀ k₀, some-cost (DeleteVertex a) (presentIn l₀)));
         made = λ y. (
           refl,

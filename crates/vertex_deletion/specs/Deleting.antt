@@ -1,11 +1,10 @@
 -- The deletion of a vertex: its code, and what it leaves.
-use Prim.Native.Nat.{ℕ, _-_, _/_}
+use Prim.Native.Nat.{ℕ}
 use mathlib.Core.Path.{_≡_}
 use mathlib.Core.Logic.{_≢_}
 use mathlib.Core.Bool.{not}
 use mathlib.Core.List.{List}
 use lib.Dec.{ltb}
-use lib.ListN.{length}
 use Rattle.lists.specs.Choice.{_⇒_else_}
 use Rattle.graph.specs.declared.Change.the-variants.{DeleteVertex}
 use Rattle.graph.specs.Graph.{Graph, hasVertex}
@@ -29,9 +28,9 @@ pub record DeletionMade (a : ℕ) (j : Position) (s : State) (t : List ℕ) (n :
         → Journal b (afterStep j (s′ .head) n .position) s′ t′ (extended (stepOf (DeleteVertex a) (presentIn l)) l)
 
 -- cost 0 says that it is refused and nothing was written
-pub record Deletes (a : ℕ) (j : Position) (s : State) (t : List ℕ) (code n : ℕ) (s′ : State) (t′ : List ℕ) : Type 0
+pub record Deletes (a free : ℕ) (j : Position) (s : State) (t : List ℕ) (code n : ℕ) (s′ : State) (t′ : List ℕ) : Type 0
   where
     pub coded : (b : Bounds) (l : Timeline) → Journal b j s t l
-        → code ≡ deletionCode a (length t / 12 - j .used) (presentIn l)
+        → code ≡ deletionCode a free (presentIn l)
     pub stays : n ≡ 0 → (code ≢ 0) × (s′ ≡ s) × (t′ ≡ t)
     pub made : n ≢ 0 → (code ≡ 0) × DeletionMade a j s t n s′ t′

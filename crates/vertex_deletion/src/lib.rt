@@ -152,19 +152,21 @@ fn make_rows(
 }
 
 // Kind 2 as one step: a row for each edge at the vertex, then one for the vertex. Code 4 where it is not there, then 10
-// where it costs more than the journal has free; cost 0 says so, and that nothing was written. Else the words of tables
-// and journal are left open, but for the timeline that they stand for.
+// where it costs more than is free; cost 0 says so, and that nothing was written. Else the words of tables and journal
+// are left open, but for the timeline that they stand for.
 // The call's word may be any; that tables and journal stand for a timeline, the run sees to.
 pub fn delete(
     current: Current,
     vertices: &mut [u32],
     edges: &mut [u32],
     journal: &mut [u32],
+    free: u32,
     vertex: u32,
 ) -> Made
     requires { ⌜ ((b : Bounds) × (l : Timeline)
-        × Journal b (current .position) (state (current .head) (now vertices) (now edges)) (now journal) l) ⌝ }
-    ensures { λ r. ⌜ Deletes vertex (current .position) (entryState (current .head) vertices edges)
+        × Journal b (current .position) (state (current .head) (now vertices) (now edges)) (now journal) l
+        × (12 * (current .position .used + free) ≤ length (now journal))) ⌝ }
+    ensures { λ r. ⌜ Deletes vertex free (current .position) (entryState (current .head) vertices edges)
         (now (journal .entry)) (r .code) (r .cost) (exitState (r .head) vertices edges) (now (journal .exit)) ⌝ }
 {
     let found = find_vertex(vertices, vertex);
@@ -172,8 +174,6 @@ pub fn delete(
         return unchanged(current.head, 4);
     };
     let cost = cost_of(current.head, vertices, edges, vertex);
-    let capacity = (journal.len() / 12) as u32;
-    let free = timeline::free_changes(current.position, capacity);
     if free < cost {
         return unchanged(current.head, 10);
     }

@@ -5,7 +5,7 @@ use Rattle.change_calls.proofs.alter.Statement.{statement}
 use Rattle.change_calls.proofs.alter.Tie as tie
 
 single-requires : tie.Need-single-requires
-single-requires c κs = let s = c .before .before .before .before .before .before .before in (one-edit-by (s .args .change) (c .before .before .before .match .keys2), s .pre)
+single-requires c κs = let s = c .before .before .before .before .before .before .before .before in (one-edit-by (s .args .change) (c .before .before .before .match .keys2), s .pre)
 
 returns : tie.Need-returns
 returns c = rw (c .before .before .before .before .before .before .before .before .before .before .before .change .given .1) (c .before .before .before .before .before .before .delete-vertex .ensures _)

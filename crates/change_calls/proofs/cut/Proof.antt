@@ -6,7 +6,7 @@ use Rattle.change_calls.proofs.cut.Tie as tie
 
 returns : tie.Need-returns
 returns c =
-    let a = c .before .before .args in
+    let a = c .before .before .before .args in
     λ ms h f. cut-nothing (a .position .place) (a .position .steps) (a .set) (a .marks .now) ms (c .if1 .taken) h f
 
 returns-2 : tie.Need-returns-2

@@ -15,29 +15,29 @@ given s = memory (s .args .vertices .now) (s .args .edges .now) (s .args .journa
 
 returns : tie.Need-returns
 returns c =
-    let s = c .before .before .before .before .before .before .before .before .before .before .before .before .before .before .before .before .before in
+    let s = c .before .before .before .before .before .before .before .before .before .before .before .before .before .before .before .before .before .before in
     let k = c .before .before .before .before .before .before .before .before .before .delete in
     let s′ = state (k .result .head) (k .last .1 .0) (k .last .1 .1 .0) in
     let t′ = k .last .1 .1 .1 .0 in
     let z = c .before .if1 .taken in
-    λ types. altered-by (DeleteVertex (s .args .vertex)) types (s .args .store) (given s) _ (c .stay .ensures) (change-kept (DeleteVertex (s .args .vertex)) types (s .args .store) (given s) _ _ s′ t′ (deletion-attempts types (s .args .store .current .position) (tablesOf (s .args .store) (given s)) (s .args .journal .now) _ _ s′ t′ (s .args .vertex) (k .ensures)) z)
+    λ types. altered-by (DeleteVertex (s .args .vertex)) types (s .args .free) (s .args .store) (given s) _ (c .stay .ensures) (change-kept (DeleteVertex (s .args .vertex)) types (s .args .free) (s .args .store) (given s) _ _ s′ t′ (deletion-attempts types (s .args .store .current .position) (tablesOf (s .args .store) (given s)) (s .args .journal .now) _ _ s′ t′ (s .args .vertex) (s .args .free) (k .ensures)) z)
 
 stepped-requires : tie.Need-stepped-requires
 stepped-requires c κs =
-    let s = c .before .before .before .before .before .before .before .before .before .before .before .before .before .before .before .before in
+    let s = c .before .before .before .before .before .before .before .before .before .before .before .before .before .before .before .before .before in
     let k = c .before .before .before .before .before .before .before .before .delete in
-    let p = s .pre in
+    let p = s .pre .0 in
     let s′ = state (k .result .head) (k .last .1 .0) (k .last .1 .1 .0) in
     let t′ = k .last .1 .1 .1 .0 in
-    step-fits (DeleteVertex (s .args .vertex)) (p .0 .types) (s .args .store) (given s) _ _ s′ t′ (deletion-attempts (p .0 .types) (s .args .store .current .position) (tablesOf (s .args .store) (given s)) (s .args .journal .now) _ _ s′ t′ (s .args .vertex) (k .ensures)) (p .0) (p .1) refl (p .2) (c .if1 .left)
+    step-fits (DeleteVertex (s .args .vertex)) (p .0 .types) (s .args .free) (s .args .store) (given s) _ _ s′ t′ (deletion-attempts (p .0 .types) (s .args .store .current .position) (tablesOf (s .args .store) (given s)) (s .args .journal .now) _ _ s′ t′ (s .args .vertex) (s .args .free) (k .ensures)) (p .0) (p .1) refl (p .2) (c .if1 .left)
 
 returns-2 : tie.Need-returns-2
 returns-2 c =
-    let s = c .before .before .before .before .before .before .before .before .before .before .before .before .before .before .before .before .before .before in
+    let s = c .before .before .before .before .before .before .before .before .before .before .before .before .before .before .before .before .before .before .before in
     let k = c .before .before .before .before .before .before .before .before .before .before .delete in
     let s′ = state (k .result .head) (k .last .1 .0) (k .last .1 .1 .0) in
     let t′ = k .last .1 .1 .1 .0 in
-    λ types. change-made (DeleteVertex (s .args .vertex)) types (s .args .store) (given s) _ _ s′ t′ (deletion-attempts types (s .args .store .current .position) (tablesOf (s .args .store) (given s)) (s .args .journal .now) _ _ s′ t′ (s .args .vertex) (k .ensures)) (c .before .before .if1 .left) _ (c .before .stepped .ensures) (c .cut .ensures)
+    λ types. change-made (DeleteVertex (s .args .vertex)) types (s .args .free) (s .args .store) (given s) _ _ s′ t′ (deletion-attempts types (s .args .store .current .position) (tablesOf (s .args .store) (given s)) (s .args .journal .now) _ _ s′ t′ (s .args .vertex) (s .args .free) (k .ensures)) (c .before .before .if1 .left) _ (c .before .stepped .ensures) (c .cut .ensures)
 
 pub delete-vertex-spec : {M : Type 1} → statement M
 delete-vertex-spec =
@@ -50,7 +50,7 @@ delete-vertex-spec =
     (λ c. search needs)
     returns
     stepped-requires
-    (λ c κs. search needs)
+    (λ c κs. c .before .before .before .before .before .before .before .before .before .before .before .before .before .before .before .before .before .before .pre .0 .2 .marks .room)
     (λ c. search needs)
     (λ c. search needs)
     (λ c. search needs)

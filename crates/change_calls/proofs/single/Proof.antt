@@ -15,44 +15,42 @@ given s = memory (s .args .vertices .now) (s .args .edges .now) (s .args .journa
 
 make-requires : tie.Need-make-requires
 make-requires c κs =
-    let s = c .before .before .before .before .before .before .before in
+    let s = c .before .before .before .before .before .before .before .before in
     let p = s .pre .1 in
     (s .pre .0, stands-now (s .args .types) (s .args .store .current .position) (tablesOf (s .args .store) (given s)) (s .args .journal .now) (p .0) (p .1) (p .2) (p .3 .journal), λ n. omega (arith, n))
 
 returns : tie.Need-returns
 returns c =
-    let s = c .before .before .before .before .before .before .before .before .before .before .before .before .before .before .before .before .before in
+    let s = c .before .before .before .before .before .before .before .before .before .before .before .before .before .before .before .before .before .before in
     let k = c .before .before .before .before .before .before .before .before .before .make in
     let s′ = state (k .result .head) (k .last .1 .0) (k .last .1 .1 .0) in
     let t′ = k .last .1 .1 .1 .0 in
-    let r = single-attempts (s .args .types) (s .args .store .current .position) (tablesOf (s .args .store) (given s)) (s .args .journal .now) _ _ s′ t′ _ refl (s .args .change) (s .pre .0) (k .ensures) in
-    altered-by (s .args .change) (s .args .types) (s .args .store) (given s) _ (c .stay .ensures) (change-kept (s .args .change) (s .args .types) (s .args .store) (given s) _ _ s′ t′ r (c .before .if1 .taken))
+    let r = single-attempts (s .args .types) (s .args .store .current .position) (tablesOf (s .args .store) (given s)) (s .args .journal .now) _ _ s′ t′ (s .args .free) (s .pre .1 .4) (s .args .change) (s .pre .0) (k .ensures) in
+    altered-by (s .args .change) (s .args .types) (s .args .free) (s .args .store) (given s) _ (c .stay .ensures) (change-kept (s .args .change) (s .args .types) (s .args .free) (s .args .store) (given s) _ _ s′ t′ r (c .before .if1 .taken))
 
 stepped-requires : tie.Need-stepped-requires
 stepped-requires c κs =
-    let s = c .before .before .before .before .before .before .before .before .before .before .before .before .before .before .before .before in
+    let s = c .before .before .before .before .before .before .before .before .before .before .before .before .before .before .before .before .before in
     let k = c .before .before .before .before .before .before .before .before .make in
     let p = s .pre .1 in
     let s′ = state (k .result .head) (k .last .1 .0) (k .last .1 .1 .0) in
     let t′ = k .last .1 .1 .1 .0 in
-    let r = single-attempts (s .args .types) (s .args .store .current .position) (tablesOf (s .args .store) (given s)) (s .args .journal .now) _ _ s′ t′ _ refl (s .args .change) (s .pre .0) (k .ensures) in
-    step-fits (s .args .change) (s .args .types) (s .args .store) (given s) _ _ s′ t′ r (p .0) (p .1) (p .2) (p .3) (c .if1 .left)
+    let r = single-attempts (s .args .types) (s .args .store .current .position) (tablesOf (s .args .store) (given s)) (s .args .journal .now) _ _ s′ t′ (s .args .free) (s .pre .1 .4) (s .args .change) (s .pre .0) (k .ensures) in
+    step-fits (s .args .change) (s .args .types) (s .args .free) (s .args .store) (given s) _ _ s′ t′ r (p .0) (p .1) (p .2) (p .3) (c .if1 .left)
 
 returns-2 : tie.Need-returns-2
 returns-2 c =
-    let s = c .before .before .before .before .before .before .before .before .before .before .before .before .before .before .before .before .before .before in
+    let s = c .before .before .before .before .before .before .before .before .before .before .before .before .before .before .before .before .before .before .before in
     let k = c .before .before .before .before .before .before .before .before .before .before .make in
     let s′ = state (k .result .head) (k .last .1 .0) (k .last .1 .1 .0) in
     let t′ = k .last .1 .1 .1 .0 in
-    let r = single-attempts (s .args .types) (s .args .store .current .position) (tablesOf (s .args .store) (given s)) (s .args .journal .now) _ _ s′ t′ _ refl (s .args .change) (s .pre .0) (k .ensures) in
-    change-made (s .args .change) (s .args .types) (s .args .store) (given s) _ _ s′ t′ r (c .before .before .if1 .left) _ (c .before .stepped .ensures) (c .cut .ensures)
+    let r = single-attempts (s .args .types) (s .args .store .current .position) (tablesOf (s .args .store) (given s)) (s .args .journal .now) _ _ s′ t′ (s .args .free) (s .pre .1 .4) (s .args .change) (s .pre .0) (k .ensures) in
+    change-made (s .args .change) (s .args .types) (s .args .free) (s .args .store) (given s) _ _ s′ t′ r (c .before .before .if1 .left) _ (c .before .stepped .ensures) (c .cut .ensures)
 
 pub single-spec : {M : Type 1} → statement M
 single-spec =
     tie.close
     (tie.spec
-    (λ c. search needs)
-    (λ c. search needs)
     make-requires
     (λ c κs. search needs)
     (λ c. search needs)
@@ -60,7 +58,7 @@ single-spec =
     (λ c. search needs)
     returns
     stepped-requires
-    (λ c κs. search needs)
+    (λ c κs. c .before .before .before .before .before .before .before .before .before .before .before .before .before .before .before .before .before .before .pre .1 .3 .marks .room)
     (λ c. search needs)
     (λ c. search needs)
     (λ c. search needs)

@@ -15,57 +15,57 @@ abbrev given : tie.Start → Memory
 given s = memory (s .args .vertices .now) (s .args .edges .now) (s .args .journal .now) (s .args .marks .now)
 
 go-requires : tie.Need-go-requires
-go-requires c κs = let s = c .before .before .before .before .before .before .before in (leads-by (s .args .call) (c .before .before .before .match .keys7), s .pre)
+go-requires c κs = let s = c .before .before .before .before .before .before .before .before in (leads-by (s .args .call) (c .before .before .before .match .keys7), s .pre)
 
 returns : tie.Need-returns
 returns c =
-    let s = c .before .before .before .before .before .before .before .before in
-    let k = c .before .before .before .call .given in
-    let e = c .set-mark .ensures in (
+    let s = c .before .before .before .before .before .before .before .before .before .before .before in
+    let k = c .before .before .before .before .before .call .given in
+    let e = c .before .before .set-mark .ensures in (
       leaves-set (s .args .store) (k .0 .0) _ _ _ _ (s .args .marks .now) _ (e .0) (e .1),
-      λ b m h. rw (k .1, e .1) (follows-by _ m b _ (e .0) (set-follows b (s .args .store) (given s) m h (k .0 .0))),
+      λ b m n h f. rw (k .1, e .1) (follows-by _ m b _ (e .0) (set-follows b (s .args .store) (given s) m h (k .0 .0) n)),
     )
 
 returns-2 : tie.Need-returns-2
 returns-2 c =
-    let s = c .before .before .before .before .before .before .before in
+    let s = c .before .before .before .before .before .before .before .before in
     let k = c .before .before .call2 .given in
     let e = c .drop-mark .ensures in (
       leaves-drop (s .args .store) (k .0 .0) _ _ _ _ _ e,
-      λ b m h. rw (k .1) (follows-by _ m b _ e (drop-follows b (s .args .store) (given s) m h (k .0 .0))),
+      λ b m n h f. rw (k .1) (follows-by _ m b _ e (drop-follows b (s .args .store) (given s) m h (k .0 .0) n)),
     )
 
 returns-3 : tie.Need-returns-3
 returns-3 c =
-    let s = c .before .before .before .before .before .before in
+    let s = c .before .before .before .before .before .before .before in
     let e = c .commit .ensures in (
       λ n. absurd (n (ap (λ (d : Called). d .answer .code) e)),
-      λ b m h. rw (c .before .enum-told .given .1) (follows-by _ m b _ e (commit-follows b (s .args .store) (given s) m h)),
+      λ b m n h f. rw (c .before .enum-told .given .1) (follows-by _ m b _ e (commit-follows b (s .args .store) (given s) m h n)),
     )
 
 returns-4 : tie.Need-returns-4
 returns-4 c =
-    let s = c .before .before .before .before .before .before .before .before in
+    let s = c .before .before .before .before .before .before .before .before .before in
     let k = c .before .before .before .call3 .given in
     let e = c .between .ensures in (
       λ n. (ap (λ (d : Called). d .store) e, refl),
-      λ b m h. rw (k .1) (follows-by _ m b _ e (between-follows b (s .args .store) (given s) m h (k .0 .0) (k .0 .1 .0))),
+      λ b m n h f. rw (k .1) (follows-by _ m b _ e (between-follows b (s .args .store) (given s) m h n (k .0 .0) (k .0 .1 .0))),
     )
 
 returns-5 : tie.Need-returns-5
 returns-5 c =
-    let s = c .before .before .before .before .before .before in
+    let s = c .before .before .before .before .before .before .before in
     let e = c .standing .ensures in (
       λ n. (ap (λ (d : Called). d .store) e, refl),
-      λ b m h. rw (c .before .enum-told2 .given .1) (follows-by _ m b _ e (count-follows b (s .args .store) (given s) m h)),
+      λ b m n h f. rw (c .before .enum-told2 .given .1) (follows-by _ m b _ e (count-follows b (s .args .store) (given s) m h n)),
     )
 
 returns-6 : tie.Need-returns-6
 returns-6 c =
-    let s = c .before .before .before .before .before .before in
+    let s = c .before .before .before .before .before .before .before in
     let e = c .free-changes .ensures in (
       λ n. (ap (λ (d : Called). d .store) e, refl),
-      λ b m h. rw (c .before .enum-told3 .given .1) (follows-by _ m b _ e (free-follows b (s .args .store) (given s) m h)),
+      λ b m n h f. rw (c .before .enum-told3 .given .1) (follows-by _ m b _ e (free-follows b (s .args .store) (given s) m h n (s .args .free) f)),
     )
 
 pub perform-spec : {M : Type 1} → statement M
@@ -73,24 +73,27 @@ perform-spec =
     tie.close
     (tie.spec
     (λ c. search needs)
-    (λ c κs. search needs)
+    (λ c κs. c .before .before .before .before .before .before .before .before .pre .2 .marks .room)
     (λ c. search needs)
     (λ c κs. search needs)
     (λ c. search needs)
     (λ c κs. search needs)
     (λ c. search needs)
-    (λ c κs. search needs)
+    (λ c κs. c .before .before .before .before .before .before .before .before .pre .2 .marks .room)
     (λ c. search needs)
     (λ c κs. search needs)
     (λ c. search needs)
     (λ c κs. search needs)
     go-requires
+    (λ c. search needs)
     returns
     returns-2
     returns-3
+    (λ c. search needs)
     returns-4
     returns-5
     returns-6
     (λ c. search needs)
     (λ c. search needs)
-    (λ c. c .before .before .before .before .go .ensures))
+    (λ c. search needs)
+    (λ c. let e = c .before .before .before .before .go .ensures in (e .0, e .1 (c .before .before .before .before .before .before .before .before .before .before .before .before .before .args .free))))

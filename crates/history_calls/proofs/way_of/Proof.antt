@@ -16,13 +16,13 @@ returns-2 c = rw (c .before .enum-told2 .given .1) (λ i. record { code = c .end
 
 returns-3 : tie.Need-returns-3
 returns-3 c =
-    let p = c .before .before .before .before .before .before .args .store .current .position .place in
+    let p = c .before .before .before .before .before .before .before .args .store .current .position .place in
     let q = c .before .place-of .ensures in
     let n = c .between .ensures ∙ ap (distance p) q in
     rw (c .before .before .before .before .call .given .1) (λ i. record { code = c .before .before .standing-code .ensures i; back = ltb (q i) p; steps = n i })
 
 returns-4 : tie.Need-returns-4
-returns-4 c = let a = c .before .args in no-way (a .store) (a .marks .now) (a .call) (c .match .keys4)
+returns-4 c = let a = c .before .before .args in no-way (a .store) (a .marks .now) (a .call) (c .match .keys4)
 
 pub way-of-spec : {M : Type 1} → statement M
 way-of-spec =

@@ -18,13 +18,13 @@ abbrev μ-loop : tie.MeasureT-loop
 
 loop-holds : tie.Need-loop-holds Inv-loop μ-loop
 loop-holds c =
-    let a = c .args in
-    (sym (ap (λ (x : ℕ). a .set / x) (pow-zero 2) ∙ div-one (a .set)), cut-start (a .set) (a .p) 0 (a .places .now) (c .fits .set .fits) refl)
+    let a = c .before .args in
+    (sym (ap (λ (x : ℕ). a .set / x) (pow-zero 2) ∙ div-one (a .set)), cut-start (a .set) (a .p) 0 (a .places .now) (c .before .fits .set .fits) refl)
 
 add-a : tie.Need-add-a Inv-loop μ-loop
 add-a c =
     let l = c .before .loop in
-    omega (arith, left-marks (c .before .before .args .set) (l .left) (l .a) (c .before .before .fits .set .fits) (l .inv .0) (c .loop-test .taken))
+    omega (arith, left-marks (c .before .before .before .args .set) (l .left) (l .a) (c .before .before .before .fits .set .fits) (l .inv .0) (c .loop-test .taken))
 
 loop-less : tie.Need-loop-less Inv-loop μ-loop
 loop-less c = omega (arith, c .before .loop-test .taken)
@@ -32,7 +32,7 @@ loop-less c = omega (arith, c .before .loop-test .taken)
 loop-again : tie.Need-loop-again Inv-loop μ-loop
 loop-again c =
     let l = c .before .before .loop in
-    let s = c .before .before .before in
+    let s = c .before .before .before .before in
     let a = s .args in
     let u = left-marks (a .set) (l .left) (l .a) (s .fits .set .fits) (l .inv .0) (c .before .loop-test .taken) in (
       left-half (a .set) (l .left) (l .a) (l .a + 1) (l .inv .0) refl,
@@ -42,7 +42,7 @@ loop-again c =
 returns : tie.Need-returns Inv-loop μ-loop
 returns c =
     let l = c .before .loop in
-    let a = c .before .before .args in
+    let a = c .before .before .before .args in
     let e = cut-end (a .set) (l .left) (l .a) (a .p) (l .s) (a .places .now) (l .inv .0) (c .loop-test .left) (l .inv .1) in
     (e, λ ms h. subst (λ (n : ℕ). Marked (cutMarks (a .p) ms) n (a .places .now)) (sym e) (cut-marked ms (a .set) (a .p) (a .places .now) h))
 

@@ -17,22 +17,17 @@ returns c =
 
 sub-k : tie.Need-sub-k
 sub-k c =
-    let w = within-range 1 64 (c .before .before .args .a) (sym (c .before .is-mark .ensures) ∙ not-false _ (c .if1 .left)) in
-    omega (arith, w .0, w .1)
-
-element-write-places : tie.Need-element-write-places
-element-write-places c =
-    let w = within-range 1 64 (c .before .before .args .a) (sym (c .before .is-mark .ensures) ∙ not-false _ (c .if1 .left)) in
+    let w = within-range 1 64 (c .before .before .before .args .a) (sym (c .before .is-mark .ensures) ∙ not-false _ (c .if1 .left)) in
     omega (arith, w .0, w .1)
 
 shl-result : tie.Need-shl-result
 shl-result c =
-    let w = within-range 1 64 (c .before .before .args .a) (sym (c .before .is-mark .ensures) ∙ not-false _ (c .if1 .left)) in
+    let w = within-range 1 64 (c .before .before .before .args .a) (sym (c .before .is-mark .ensures) ∙ not-false _ (c .if1 .left)) in
     omega (arith, w .0, w .1)
 
 returns-2 : tie.Need-returns-2
 returns-2 c =
-    let a = c .before .before .args in
+    let a = c .before .before .before .args in
     let yes = sym (c .before .is-mark .ensures) ∙ not-false _ (c .if1 .left) in
     let w = within-range 1 64 (a .a) yes in (
       with-is (a .set) (a .a) _ yes refl,
@@ -51,7 +46,8 @@ set-mark-spec =
     sub-k
     (λ c. search needs)
     (λ c. search needs)
-    element-write-places
+    (λ c. let w = within-range 1 64 (c .before .before .before .args .a) (sym (c .before .is-mark .ensures) ∙ not-false _ (c .if1 .left)) in omega (arith, w .0, w .1, c .before .before .before .pre))
     (λ c. search needs)
     shl-result
+    (λ c. search needs)
     returns-2)

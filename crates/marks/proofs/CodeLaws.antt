@@ -9,9 +9,9 @@ use borrow.Author.Tests.{le-leb, lt-leb}
 use Rattle.lists.specs.Choice.{_⇒_else_, within}
 use Rattle.lists.proofs.Bools.{tf, within-range}
 use Rattle.history.specs.Machine.{Machine, stands}
 use Rattle.marks.specs.Marked.{inSet, Marked}
 use Rattle.marks.proofs.MarkLaws.{in-set}
-use Rattle.history_calls.specs.Outcomes.{noMark, standingCode, newCode, bothCode}
+use Rattle.marks.specs.Codes.{noMark, standingCode, newCode, bothCode}
 
 -- ---- 1 to 64
 

@@ -1,11 +1,11 @@
--- `history_calls::new_code` meets its contract.
+-- `marks::codes::new_code` meets its contract.
 use mathlib.Core.Path.{refl, sym, _∙_}
 use mathlib.Core.Bool.{true, false}
 use native.Mathlib.Omega.{arith}
-use Rattle.history_calls.proofs.Codes.{below-range, above-range, new-no-mark, new-inside}
+use Rattle.marks.proofs.CodeLaws.{below-range, above-range, new-no-mark, new-inside}
 use borrow.Author.Needs.{needs}
-use Rattle.history_calls.proofs.new_code.Statement.{statement}
-use Rattle.history_calls.proofs.new_code.Tie as tie
+use Rattle.marks.proofs.codes.new_code.Statement.{statement}
+use Rattle.marks.proofs.codes.new_code.Tie as tie
 
 returns : tie.Need-returns
 returns c = let a = c .before .args in new-no-mark (a .set) (a .a) (below-range (a .a) (c .if1 .taken))

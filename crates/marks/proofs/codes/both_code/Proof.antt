@@ -1,7 +1,7 @@
--- `history_calls::both_code` meets its contract.
+-- `marks::codes::both_code` meets its contract.
 use borrow.Author.Tests.{eq-eqb, ne-eqb}
-use Rattle.history_calls.proofs.both_code.Statement.{statement}
-use Rattle.history_calls.proofs.both_code.Tie as tie
+use Rattle.marks.proofs.codes.both_code.Statement.{statement}
+use Rattle.marks.proofs.codes.both_code.Tie as tie
 
 returns : tie.Need-returns
 returns c = rw (eq-eqb _ 11 (c .if1 .taken))

@@ -1,11 +1,11 @@
--- `history_calls::standing_code` meets its contract.
+-- `marks::codes::standing_code` meets its contract.
 use mathlib.Core.Path.{refl, sym, _∙_}
 use mathlib.Core.Bool.{true, false}
 use native.Mathlib.Omega.{arith}
-use Rattle.history_calls.proofs.Codes.{below-range, above-range, standing-no-mark, standing-inside}
+use Rattle.marks.proofs.CodeLaws.{below-range, above-range, standing-no-mark, standing-inside}
 use borrow.Author.Needs.{needs}
-use Rattle.history_calls.proofs.standing_code.Statement.{statement}
-use Rattle.history_calls.proofs.standing_code.Tie as tie
+use Rattle.marks.proofs.codes.standing_code.Statement.{statement}
+use Rattle.marks.proofs.codes.standing_code.Tie as tie
 
 returns : tie.Need-returns
 returns c = let a = c .before .args in standing-no-mark (a .set) (a .a) (below-range (a .a) (c .if1 .taken))
