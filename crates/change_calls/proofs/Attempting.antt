@@ -1,6 +1,6 @@
 -- What the two crates below say of a change, as code of its rule and as step.
 use Prim.Native.Nat.{ℕ, zero, suc, _+_, _*_, _≤_}
-use mathlib.Core.Path.{_≡_, refl, sym, ap, _∙_}
+use mathlib.Core.Path.{_≡_, refl, sym, ap, subst, _∙_}
 use mathlib.Core.Logic.{_≢_}
 use mathlib.Core.Bool.{Bool, true, false, not, _&&_}
 use mathlib.Core.List.{List}
@@ -27,9 +27,8 @@ use Rattle.graph_tables.specs.Holds.{Holds}
 use Rattle.graph_tables.specs.Capacities.{boundsOf}
 use Rattle.queries.specs.Plans.{planS, OneEdit}
 use Rattle.queries.proofs.PlanLaws.{plan-is, one-edit}
-use Rattle.tried_edits.specs.Tried.{tried}
-use Rattle.single_changes.specs.One.{HoldsGraph, One, withRoom}
-use Rattle.single_changes.proofs.OneLaws.{no-code, some-room}
+use Rattle.single_changes.specs.One.{HoldsGraph, One}
+use Rattle.single_changes.proofs.OneLaws.{withRoom, Told, one-told}
 use Rattle.timeline.specs.declared.Position.{Position}
 use Rattle.timeline.specs.Current.{afterStep}
 use Rattle.timeline.specs.Steps.{Journal}
@@ -71,7 +70,7 @@ room-test free n k e i = go (free == 0) refl
     go false p = let d = eqb-false free 0 p in sym (le-ltb n k (omega arith))
 
 -- room is asked only of an edit that alters something
-tried-code : (keeps : Bool) (free : ℕ) (dear : Bool) → (free == 0) ≡ dear → tried keeps free ≡ ((dear && not keeps) ⇒ 10 else 0)
+tried-code : (keeps : Bool) (free : ℕ) (dear : Bool) → (free == 0) ≡ dear → withRoom keeps free 0 ≡ ((dear && not keeps) ⇒ 10 else 0)
 tried-code true free true e = refl
 tried-code true free false e = refl
 tried-code false free true e = ap (λ (p : Bool). p ⇒ 10 else 0) e
@@ -111,23 +110,24 @@ module _ (types : ℕ) (j : Position) (s : State) (t : List ℕ) where
   module _ (code n : ℕ) (s′ : State) (t′ : List ℕ) where
     -- ---- a change of one edit
 
-    module _ (free : ℕ) (q : 12 * (j .used + free) ≤ length t) (c : Change) (o : OneEdit c) (r : One c types (j .used) free s t code n s′ t′) where
+    module _ (free : ℕ) (q : 12 * (j .used + free) ≤ length t) (c : Change) (o : OneEdit c) (y : HoldsGraph s) (r : One c types (j .used) free s t code n s′ t′) where
       abbrev plan-now : Edit
       plan-now = planS c s
 
       module _ (b : Bounds) (m : Machine) (e : b .types ≡ types) (k : Journal b j s t (m .line)) where
+        tells : Told plan-now (changeCode b (present m) c) (j .used) free s t code n s′ t′
+        tells =
+            subst (λ (x : Bounds). Told plan-now (changeCode x (present m) c) (j .used) free s t code n s′ t′) (bounds-are b m e k)
+            (one-told o r (present m) (s .head, holds b m e k))
+
         -- what the tables say of the edit is what the graph says of the change
-        alters-now : Allowed b (present m) c → alters c (present m) ≡ not (idle plan-now)
-        alters-now a = alters-plan (present m) (sound b m e k) b c a (one-edit c o (present m) .0) ∙ ap (λ (y : Edit). not (idle y)) (sym (plan-is s (present m) (holds b m e k) b c a))
-
-        answers : code ≡ withRoom (idle plan-now) free (changeCode b (present m) c)
-        answers = r .answers (present m) (s .head, holds b m e k) ∙ ap (λ (y : Bounds). withRoom (idle plan-now) free (changeCode y (present m) c)) (bounds-are b m e k)
-
-        allowed : code ≡ 0 → Allowed b (present m) c
-        allowed z = allows b (present m) (sound b m e k) c (r .fits) (no-code (idle plan-now) free (changeCode b (present m) c) (sym answers ∙ z))
+        alters-now : changeCode b (present m) c ≡ 0 → alters c (present m) ≡ not (idle plan-now)
+        alters-now z =
+            let a = allows b (present m) (sound b m e k) c (r .fits) z in
+            alters-plan (present m) (sound b m e k) b c a (one-edit c o (present m) .0) ∙ ap (λ (y : Edit). not (idle y)) (sym (plan-is s (present m) (holds b m e k) b c a))
 
         single-code : (capacity : ℕ) → free ≡ freeOf capacity (m .line) → code ≡ changeRule b capacity c .code m
-        single-code capacity f = answers ∙ go (changeCode b (present m) c) refl
+        single-code capacity f = tells .coded ∙ go (changeCode b (present m) c) refl
           where
             dear : (free == 0) ≡ ltb (freeOf capacity (m .line)) (cost c (present m))
             dear = room-test free _ (cost c (present m)) (sym f) (one-edit c o (present m) .1)
@@ -135,27 +135,29 @@ module _ (types : ℕ) (j : Position) (s : State) (t : List ℕ) where
             go : (i : ℕ) → changeCode b (present m) c ≡ i → withRoom (idle plan-now) free i ≡ firstCode i (tooDear capacity m c ⇒ 10 else 0)
             go zero z =
                 tried-code (idle plan-now) free _ dear
-                ∙ ap (λ (p : Bool). (ltb (freeOf capacity (m .line)) (cost c (present m)) && p) ⇒ 10 else 0) (sym (alters-now (allows b (present m) (sound b m e k) c (r .fits) z)))
+                ∙ ap (λ (p : Bool). (ltb (freeOf capacity (m .line)) (cost c (present m)) && p) ⇒ 10 else 0) (sym (alters-now z))
             go (suc i) z = let f : (suc i == 0) ≡ false = ne-eqb (suc i) 0 (omega arith) in rw f
 
         single-comes : Comes c b m j free code n s′ t′
         single-comes = record {
           coded = single-code;
-          idle = λ y z. alters-now (allowed z) ∙ ap not (r .keeps y z);
-          made = λ y.
-              let d = r .made y in
-              let a = allowed (d .coded) in
-              let f = ap (λ (p : Bool). withRoom p free (changeCode b (present m) c)) (sym (d .alters)) in
-              let i = some-room free (changeCode b (present m) c) (f ∙ sym answers ∙ d .coded) in
+          idle = λ z d. let p = tells .keeps z d in alters-now (p .0) ∙ ap not (p .1);
+          made = λ z.
+              let d = tells .made z in
+              let a = allows b (present m) (sound b m e k) c (r .fits) (d .uncoded) in
               record {
-                alters-graph = alters-now a ∙ ap not (d .alters);
+                alters-graph = alters-now (d .uncoded) ∙ ap not (d .alters);
                 costs = d .costs ∙ sym (one-edit c o (present m) .1);
-                steps = single-step c b j s t (m .line) k a o (omega (arith, q, i)) s′ t′ (d .written) (afterStep j (s′ .head) n .position) refl refl (omega (arith, d .costs));
+                steps = single-step c b j s t (m .line) k a o (omega (arith, q, d .room)) s′ t′ (d .writes) (afterStep j (s′ .head) n .position) refl refl (omega (arith, d .costs));
               };
         }
 
+      -- of the graph that the tables hold
+      held : Told plan-now (changeCode (boundsOf (s .vertices) (s .edges) types) (y .graph) c) (j .used) free s t code n s′ t′
+      held = one-told o r (y .graph) (s .head, y .holds)
+
       pub single-attempts : Attempts c types free j s t code n s′ t′
-      single-attempts = record { stays = r .stays; accepts = λ y. r .made y .coded; comes = single-comes }
+      single-attempts = record { stays = held .stays; accepts = λ z. held .made z .coded; comes = single-comes }
 
     -- ---- the deletion of a vertex
 

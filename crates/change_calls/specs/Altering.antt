@@ -17,7 +17,8 @@ StandsTyped types free x mem =
     (b : Bounds) × (m : Machine) × (b .types ≡ types) × Represents b x mem m × Spare free x mem
 
 -- what a change does to the store and the lent words
-pub record DoesChange (c : Change) (types free : ℕ) (x : Store) (mem : Memory) (d : Called) (mem′ : Memory) : Type 0 where
+pub record DoesChange (c : Change) (types free : ℕ) (x : Store) (mem : Memory) (d : Called)
+    (mem′ : Memory) : Type 0 where
   -- whatever machine was represented, and by whatever capacity so many changes are free, it does by its rule: all its
   -- codes, its number, the machine after it
   pub follows : (b : Bounds) (m : Machine) (capacity : ℕ) → b .types ≡ types → Represents b x mem m

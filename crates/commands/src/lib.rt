@@ -4,7 +4,7 @@ use lists::get;
 ghost use mathlib.Core.Path.{_≡_};
 ghost use Rattle.commands.specs.Calls.{callAt, five};
 ghost use Rattle.commands.specs.Answers.{accepts, refuses};
-ghost use Rattle.commands.specs.Commands.{changeOf, historyOf, questionOf, commandOf};
+ghost use Rattle.commands.specs.Commands.{commandOf};
 
 // Kinds 17 to 22 and 49 to 51.
 pub enum HistoryCall {
@@ -65,109 +65,61 @@ pub struct Answer {
     pub number: u32,
 }
 
-fn change_of(k: u32, a: u32, b: u32, c: u32, d: u32) -> Change
-    ensures { λ r. ⌜ r ≡ changeOf (five k a b c d) ⌝ }
-{
-    match k {
-        1 => Change::CreateVertex(a, b, c),
-        2 => Change::DeleteVertex(a),
-        3 => Change::CreateEdge(a, b, c, d),
-        4 => Change::DeleteEdge(a),
-        5 => Change::RetypeVertex(a, b),
-        6 => Change::RetypeEdge(a, b),
-        7 => Change::SetValue(a, b),
-        8 => Change::SetReading(a, b, c),
-        9 => Change::SetAlpha(a, b),
-        10 => Change::SetOmega(a, b),
-        11 => Change::VertexBefore(a, b),
-        12 => Change::VertexAfter(a, b),
-        13 => Change::EdgeBefore(a, b),
-        14 => Change::EdgeAfter(a, b),
-        15 => Change::WordBefore(a, b),
-        _ => Change::WordAfter(a, b),
-    }
-}
-
-fn history_of(k: u32, a: u32, b: u32) -> HistoryCall
-    ensures { λ r. ⌜ r ≡ historyOf k a b ⌝ }
-{
-    match k {
-        17 => HistoryCall::SetMark(a),
-        18 => HistoryCall::DropMark(a),
-        19 => HistoryCall::Undo,
-        20 => HistoryCall::Redo,
-        21 => HistoryCall::GoTo(a),
-        22 => HistoryCall::Commit,
-        49 => HistoryCall::Between(a, b),
-        50 => HistoryCall::Standing,
-        _ => HistoryCall::Free,
-    }
-}
-
-fn question_of(k: u32, a: u32, b: u32, c: u32) -> Question
-    ensures { λ r. ⌜ r ≡ questionOf k a b c ⌝ }
-{
-    match k {
-        30 => Question::FirstVertex,
-        31 => Question::NextVertex(a),
-        32 => Question::FirstEdge,
-        33 => Question::NextEdge(a),
-        34 => Question::FirstWord(a),
-        35 => Question::NextWord(a),
-        36 => Question::Alpha(a),
-        37 => Question::Omega(a),
-        38 => Question::This(a),
-        39 => Question::That(a),
-        40 => Question::VertexType(a),
-        41 => Question::EdgeType(a),
-        42 => Question::Value(a),
-        43 => Question::ReadingKind(a),
-        44 => Question::Decimetres(a),
-        45 => Question::Degree(a, b, c),
-        46 => Question::VertexOrder(a, b),
-        47 => Question::EdgeOrder(a, b),
-        48 => Question::WordOrder(a, b),
-        _ => Question::Below(a, b),
-    }
-}
-
-// The command of the words k, a, b, c, d.
+// The command of the words k, a, b, c, d. One flat choice by kind, families and all: the compiler joins it with the
+// choices that answer the call into one jump.
 fn command_of(k: u32, a: u32, b: u32, c: u32, d: u32) -> Command
     ensures { λ r. ⌜ r ≡ commandOf (five k a b c d) ⌝ }
 {
-    if k == 0 {
-        return Command::Unknown;
+    match k {
+        1 => Command::Alter(Change::CreateVertex(a, b, c)),
+        2 => Command::Alter(Change::DeleteVertex(a)),
+        3 => Command::Alter(Change::CreateEdge(a, b, c, d)),
+        4 => Command::Alter(Change::DeleteEdge(a)),
+        5 => Command::Alter(Change::RetypeVertex(a, b)),
+        6 => Command::Alter(Change::RetypeEdge(a, b)),
+        7 => Command::Alter(Change::SetValue(a, b)),
+        8 => Command::Alter(Change::SetReading(a, b, c)),
+        9 => Command::Alter(Change::SetAlpha(a, b)),
+        10 => Command::Alter(Change::SetOmega(a, b)),
+        11 => Command::Alter(Change::VertexBefore(a, b)),
+        12 => Command::Alter(Change::VertexAfter(a, b)),
+        13 => Command::Alter(Change::EdgeBefore(a, b)),
+        14 => Command::Alter(Change::EdgeAfter(a, b)),
+        15 => Command::Alter(Change::WordBefore(a, b)),
+        16 => Command::Alter(Change::WordAfter(a, b)),
+        17 => Command::History(HistoryCall::SetMark(a)),
+        18 => Command::History(HistoryCall::DropMark(a)),
+        19 => Command::History(HistoryCall::Undo),
+        20 => Command::History(HistoryCall::Redo),
+        21 => Command::History(HistoryCall::GoTo(a)),
+        22 => Command::History(HistoryCall::Commit),
+        30 => Command::Ask(Question::FirstVertex),
+        31 => Command::Ask(Question::NextVertex(a)),
+        32 => Command::Ask(Question::FirstEdge),
+        33 => Command::Ask(Question::NextEdge(a)),
+        34 => Command::Ask(Question::FirstWord(a)),
+        35 => Command::Ask(Question::NextWord(a)),
+        36 => Command::Ask(Question::Alpha(a)),
+        37 => Command::Ask(Question::Omega(a)),
+        38 => Command::Ask(Question::This(a)),
+        39 => Command::Ask(Question::That(a)),
+        40 => Command::Ask(Question::VertexType(a)),
+        41 => Command::Ask(Question::EdgeType(a)),
+        42 => Command::Ask(Question::Value(a)),
+        43 => Command::Ask(Question::ReadingKind(a)),
+        44 => Command::Ask(Question::Decimetres(a)),
+        45 => Command::Ask(Question::Degree(a, b, c)),
+        46 => Command::Ask(Question::VertexOrder(a, b)),
+        47 => Command::Ask(Question::EdgeOrder(a, b)),
+        48 => Command::Ask(Question::WordOrder(a, b)),
+        49 => Command::History(HistoryCall::Between(a, b)),
+        50 => Command::History(HistoryCall::Standing),
+        51 => Command::History(HistoryCall::Free),
+        52 => Command::Ask(Question::Below(a, b)),
+        53 => Command::Quote(PriceCall::Range(a, b)),
+        54 => Command::Quote(PriceCall::Grade(a, b, c)),
+        _ => Command::Unknown,
     }
-    if k <= 16 {
-        let x = change_of(k, a, b, c, d);
-        return Command::Alter(x);
-    }
-    if k <= 22 {
-        let x = history_of(k, a, b);
-        return Command::History(x);
-    }
-    if k <= 29 {
-        return Command::Unknown;
-    }
-    if k <= 48 {
-        let x = question_of(k, a, b, c);
-        return Command::Ask(x);
-    }
-    if k <= 51 {
-        let x = history_of(k, a, b);
-        return Command::History(x);
-    }
-    if k == 52 {
-        let x = question_of(k, a, b, c);
-        return Command::Ask(x);
-    }
-    if k == 53 {
-        return Command::Quote(PriceCall::Range(a, b));
-    }
-    if k == 54 {
-        return Command::Quote(PriceCall::Grade(a, b, c));
-    }
-    Command::Unknown
 }
 
 // The command of one call's five words, which are a part of the list of calls. Words that are not there are 0.

@@ -78,7 +78,7 @@ over-more A slice n x y e h =
 
 -- ---- one call more
 
-last-more : (w : Parameters) (m : Machine) (xs : List Call) (x : Call) → last w m (xs ++ (x ∷ [])) ≡ step w (last w m xs) x
+pub last-more : (w : Parameters) (m : Machine) (xs : List Call) (x : Call) → last w m (xs ++ (x ∷ [])) ≡ step w (last w m xs) x
 unfolding last
 last-more w m [] x = refl
 last-more w m (y ∷ xs) x = last-more w (step w m y) xs x
@@ -95,14 +95,12 @@ module _ (w : Parameters) (m : Machine) (x : Store) (mem : Memory) (closed : Lis
 
   after-calls-one : (xs : List Call) (call : Call) (c : Command) (d : Called) (mem′ : Memory) →
       AfterCalls w m xs x mem closed types slice slice′ → c ≡ commandOf call →
-      ((w : Parameters) → (m : Machine) → Running w x mem closed types m →
-      Answered w (w .changes) m c d mem′ closed types) →
+      Answered w (w .changes) (last w m xs) c d mem′ closed types →
       2 * length xs + 1 < length slice →
       AfterCalls w m (xs ++ (call ∷ [])) (d .store) mem′ closed types slice
       (set (set slice′ (2 * length xs) (d .answer .code)) (2 * length xs + 1) (d .answer .number))
-  after-calls-one xs call c d mem′ h e f long =
+  after-calls-one xs call c d mem′ h e g long =
       let now = last w m xs in
-      let g = f w now (h .after) in
       let a : answerTo w now c ≡ answer w now call = ap (answerTo w now) e in
       let s : stepTo w now c ≡ last w m (xs ++ (call ∷ [])) =
       ap (stepTo w now) e ∙ sym (last-more w m xs call) in
@@ -121,8 +119,7 @@ module _ (w : Parameters) (m : Machine) (x : Store) (mem : Memory) (closed : Lis
   pub after-calls-more : (calls : List ℕ) (k : ℕ) (c : Command) (d : Called) (mem′ : Memory) →
       AfterCalls w m (take k (callsOf calls)) x mem closed types slice slice′ →
       c ≡ commandOf (callAt (take (5 * k + 5 - 5 * k) (drop (5 * k) calls))) →
-      ((w : Parameters) → (m : Machine) → Running w x mem closed types m →
-      Answered w (w .changes) m c d mem′ closed types) →
+      Answered w (w .changes) (last w m (take k (callsOf calls))) c d mem′ closed types →
       5 * k + 5 ≤ length calls → 2 * k + 1 < length slice →
       AfterCalls w m (take (k + 1) (callsOf calls)) (d .store) mem′ closed types slice
       (set (set slice′ (2 * k) (d .answer .code)) (2 * k + 1) (d .answer .number))
@@ -151,3 +148,28 @@ module _ (w : Parameters) (m : Machine) (x : Store) (mem : Memory) (closed : Lis
       let q = length calls / 5 in
       let many : length (callsOf calls) ≡ q = calls-length q calls (omega arith) (omega arith) in
       subst (λ (xs : List Call). AfterCalls w m xs x mem closed types slice slice′) (take-all k (callsOf calls) (omega arith)) h
+
+-- ---- one call
+
+-- the call of five words
+pub call-of-five : (ws : List ℕ) → length ws ≡ 5 → callsOf ws ≡ callAt ws ∷ []
+call-of-five (k ∷ a ∷ b ∷ c ∷ d ∷ []) h = refl
+call-of-five [] h = absurd (omega arith)
+call-of-five (k ∷ []) h = absurd (omega arith)
+call-of-five (k ∷ a ∷ []) h = absurd (omega arith)
+call-of-five (k ∷ a ∷ b ∷ []) h = absurd (omega arith)
+call-of-five (k ∷ a ∷ b ∷ c ∷ []) h = absurd (omega arith)
+call-of-five (k ∷ a ∷ b ∷ c ∷ d ∷ e ∷ ws) h = absurd (omega arith)
+
+module _ (w : Parameters) (m : Machine) (mem : Memory) (closed : List ℕ) (types : ℕ) where
+  -- the two words of its answer, and what stands after it
+  pub answered-one : (ws : List ℕ) (y : Store) (pair : List ℕ) → length ws ≡ 5
+      → AfterCalls w m (callsOf ws) y mem closed types (0 ∷ 0 ∷ []) pair
+      → Answered w (w .changes) m (commandOf (callAt ws)) (record { store = y; answer = record { code = getD pair 0 0; number = getD pair 1 0 } }) mem closed types
+  unfolding last answers
+  answered-one ws y pair five h =
+      let g = subst (λ (xs : List Call). AfterCalls w m xs y mem closed types (0 ∷ 0 ∷ []) pair) (call-of-five ws five) h in
+      record {
+        answered = λ i. record { code = ap (λ (l : List ℕ). getD l 0 0) (g .answered) i; number = ap (λ (l : List ℕ). getD l 1 0) (g .answered) i };
+        after = g .after;
+      }

@@ -50,6 +50,6 @@ Untouched l vertices edges journal = (listRefusal l ≡ 0 → ⊥) → Same vert
 abbrev pub MeetsDemand1 : Lent → AfterRun → Slice → Slice → Slice → Type 0
 MeetsDemand1 l r vertices edges journal = Demand1 l r (Same vertices × Same edges × Same journal)
 
--- REFERENCE 14.3, for a list that is not refused
+-- REFERENCE 14.3, for a list that is not refused, as its caller sees by the code
 abbrev pub MeetsDemand3 : Lent → AfterRun → Type 0
-MeetsDemand3 l r = listRefusal l ≡ 0 → Demand3 l r
+MeetsDemand3 l r = r .code ≡ 0 → Demand3 l r

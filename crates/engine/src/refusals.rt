@@ -4,7 +4,6 @@ use graph::MOST_EDGES;
 use graph::MOST_VERTICES;
 use image::check;
 use image::code_of;
-use image::layout::VERTEX;
 use image::layout::length;
 use image::offset_of;
 use type_rows::RowsVerdict;
@@ -82,9 +81,9 @@ pub fn refusal(
             number: 0,
         };
     };
-    let v = vertices / 8;
-    let e = edges / 12;
-    let found = check(start, v as u32, e as u32, rows.len() as u32);
+    let v = (vertices / 8) as u32;
+    let e = (edges / 12) as u32;
+    let found = check(start, v, e, rows.len() as u32);
     let bad = code_of(found);
     if bad != 0 {
         return Refused {
@@ -92,7 +91,7 @@ pub fn refusal(
             number: offset_of(found),
         };
     }
-    if image < length(VERTEX, v, e) {
+    if image < length(v, e) {
         return Refused {
             code: 106,
             number: 0,

@@ -59,8 +59,8 @@ fn accepted(
 }
 
 // The result, the answers and the end image are those of the specification's run of the lent words, whatever they are.
-// A refused list writes nowhere. After an accepted one, what the tables and the journal hold is left open, and the way
-// back holds.
+// A refused list writes nowhere. After an accepted one, what the tables and the journal hold is left open. The demands
+// hold of the result: 1 and 2 of every one, 3 (the way back) of an accepted one.
 pub fn run(
     start: &[u32],
     rows: &[u64],

@@ -7,8 +7,8 @@ ghost use Rattle.history_calls.specs.Memory.{entry, exit};
 ghost use Rattle.history_calls.specs.Outcomes.{Leaves};
 ghost use Rattle.engine.specs.Running.{Runs, Granted, Answers};
 
-// Any command, where so many changes may be remembered up to the place. A refused one leaves every lent word; else those
-// of tables, journal and marks are left open, but for the machine that they stand for.
+// Any command, where so many changes may be remembered up to the place. A refused one leaves every lent word; else
+// those of tables, journal and marks are left open, but for the machine that they stand for.
 pub fn step(
     store: Store,
     vertices: &mut [u32],

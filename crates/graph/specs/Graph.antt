@@ -1,4 +1,4 @@
--- The graph: vertices and edges, each in an order. REFERENCE 1.2 to 1.8.
+-- The graph (the papers' chart): vertices and edges, each in an order. REFERENCE 1.2 to 1.8.
 use Prim.Native.Nat.{ℕ, _+_, _*_, _/_, _%_}
 use mathlib.Core.Path.{_≡_}
 use mathlib.Core.Bool.{Bool, _&&_, _||_}
@@ -10,14 +10,14 @@ use Rattle.lists.specs.Keyed.{findBy}
 use Rattle.graph.specs.declared.Reading.{Reading}
 use Rattle.graph.specs.declared.Reading.the-variants.{Untested, Silent, Heard}
 
--- REFERENCE 1.2, with its list (1.7)
+-- the papers' unit: REFERENCE 1.2, with its list (1.7)
 pub record Vertex : Type 0 where
   pub number : ℕ
   pub type : ℕ
   pub value : ℕ
   pub incidences : List ℕ
 
--- REFERENCE 1.3
+-- the papers' reading as a row: REFERENCE 1.3; what was heard is its field `reading`
 pub record Edge : Type 0 where
   pub number : ℕ
   pub alpha : ℕ
@@ -25,7 +25,7 @@ pub record Edge : Type 0 where
   pub type : ℕ
   pub reading : Reading
 
--- REFERENCE 1.6
+-- the papers' chart: REFERENCE 1.6
 pub record Graph : Type 0 where
   pub vseq : List Vertex
   pub eseq : List Edge

@@ -1,4 +1,5 @@
--- The keys of a list, as a list of numbers: what `rem`, `ins`, `upd`, `prev` and `lastBy` are on it.
+-- The keys of a list, as a list of numbers: what
+-- `removeBy`, `insertAfterBy`, `updateBy`, `prevBy` and `lastBy` are on it.
 use Prim.Native.Nat.{ℕ, _+_, _≤_}
 use mathlib.Core.Path.{_≡_, refl, ap}
 use mathlib.Core.List.{List, [], _∷_, map}

@@ -6,6 +6,7 @@ use crate::Places;
 use crate::incidence::attach;
 use crate::incidence::detach;
 use crate::rows::put_edge;
+use crate::rows::put_fields;
 use crate::rows::put_this;
 use crate::vertices::relink;
 use graph::Reading;
@@ -13,6 +14,7 @@ use linked_lists::Ends;
 use linked_lists::LinkLayout;
 ghost use mathlib.Core.Path.{_≡_};
 ghost use Prim.Native.Nat.{_^_, _<_};
+ghost use Rattle.graph.specs.Graph.{readingOf, IsWords};
 ghost use Rattle.graph_tables.specs.Tables.{
   state,
   edgeListEnds,
@@ -41,6 +43,23 @@ pub fn set_edge(
         (entryState head vertices edges) ⌝ }
 {
     put_edge(edges, e, 1, sort, reading);
+}
+
+// The same, by the two words of the reading.
+pub fn set_edge_words(
+    head: Head,
+    vertices: &[u32],
+    edges: &mut [u32],
+    e: u32,
+    sort: u32,
+    kind: u32,
+    heard: u32,
+)
+    requires { ⌜ EdgeRowIn (now edges) e × IsWords kind heard ⌝ }
+    ensures { λ _. ⌜ state head (now (vertices .entry)) (now (edges .exit))
+        ≡ setEdgeS e sort (readingOf kind heard) (entryState head vertices edges) ⌝ }
+{
+    put_fields(edges, e, sort, kind, heard);
 }
 
 // Puts edge n after p in Eseq.

@@ -3,7 +3,7 @@
 use graph::Reading;
 use linked_lists::Ends;
 ghost use mathlib.Core.Path.{_≡_};
-ghost use Rattle.graph.specs.Graph.{readingKind, decimetres, readingOf};
+ghost use Rattle.graph.specs.Graph.{readingKind, decimetres, readingOf, IsWords};
 ghost use Rattle.graph_tables.specs.Tables.{VertexRowIn, EdgeRowIn, HalfRowIn, vtype, vvalue, vfirst, vlast};
 ghost use Rattle.graph_tables.specs.Tables.{vprev, etype, ekind};
 ghost use Rattle.graph_tables.specs.Tables.{edecimetres, eprev, wprev, wnext, wthis, readingAt, endsAt};
@@ -192,6 +192,19 @@ pub fn put_edge(edges: &mut [u32], e: u32, live: u32, sort: u32, reading: Readin
     edges[at + 4] = sort;
     edges[at + 5] = k;
     edges[at + 9] = d;
+}
+
+// Writes type and reading of e, which is there. The two words of a reading are written as they stand, so that no branch
+// asks for its kind.
+pub fn put_fields(edges: &mut [u32], e: u32, sort: u32, kind: u32, heard: u32)
+    requires { ⌜ EdgeRowIn (now edges) e × IsWords kind heard ⌝ }
+    ensures { λ _. ⌜ now (edges .exit) ≡ rowET e 1 sort (readingOf kind heard) (now (edges .entry)) ⌝ }
+{
+    let at = 12 * (e as usize) - 12;
+    edges[at + 3] = 1;
+    edges[at + 4] = sort;
+    edges[at + 5] = kind;
+    edges[at + 9] = heard;
 }
 
 // Writes e's two ends.

@@ -169,7 +169,20 @@ fn go(
     if w.code != 0 {
         return stay(store, w.code, 0);
     }
-    let current = timeline::go(store.current, vertices, edges, journal, w.back, w.steps);
+    if w.back {
+        let current = timeline::back(store.current, vertices, edges, journal, w.steps);
+        return Called {
+            store: Store {
+                current,
+                set: store.set,
+            },
+            answer: Answer {
+                code: 0,
+                number: w.steps,
+            },
+        };
+    }
+    let current = timeline::on(store.current, vertices, edges, journal, w.steps);
     Called {
         store: Store {
             current,

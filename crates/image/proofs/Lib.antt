@@ -30,3 +30,4 @@ pub mod Fill
 pub mod Follows
 pub mod LoadCodes
 pub mod HeaderCode
+pub mod EdgePart

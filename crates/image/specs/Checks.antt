@@ -8,7 +8,7 @@ use Rattle.lists.specs.Choice.{_⇒_else_, _==_, within}
 use Rattle.lists.specs.Lists.{member}
 use Rattle.lists.specs.Keyed.{removeBy}
 use Rattle.graph.specs.Graph.{Edge, itself, isReading}
-use Rattle.graph.specs.Limits.{mostVertices, mostEdges}
+use Rattle.graph.specs.Limits.{mostVertices, mostEdges, mostTypes}
 use Rattle.graph.specs.WellFormed.{Bounds, wordsAt}
 use Rattle.image.specs.Image.{
   vertexSize,
@@ -52,6 +52,10 @@ smaller limit n = ltb limit n ⇒ limit else n
 
 abbrev pub checked : ℕ → ℕ → ℕ → Bounds
 checked vertices edges types = bounds (smaller mostVertices vertices) (smaller mostEdges edges) types
+
+-- what a saved image is held against by itself, whatever a run elsewhere is lent: the limits of a run
+abbrev pub savedBounds : Bounds
+savedBounds = bounds mostVertices mostEdges mostTypes
 
 -- ---- one record
 

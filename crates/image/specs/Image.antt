@@ -1,4 +1,5 @@
--- The image of a graph (REFERENCE 10.1 to 10.7): the words that it saves as, and the graph that words say.
+-- The image of a graph, the papers' saved chart (REFERENCE 10.1 to 10.7): the words that it saves as, and the graph
+-- that words say.
 use Prim.Native.Nat.{ℕ, zero, suc, _+_, _*_, _-_}
 use mathlib.Core.Path.{_≡_}
 use mathlib.Core.Logic.{_⊎_}

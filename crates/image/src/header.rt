@@ -4,10 +4,10 @@ ghost use Prim.Native.Nat.{_≤_};
 ghost use Rattle.image.specs.Image.{soundHeader};
 ghost use Rattle.image.specs.Parts.{hasPart};
 ghost use Rattle.image.specs.Checks.{smaller, soundCounts};
+use crate::by_size::edge_offset;
+use crate::by_size::incidence_offset;
+use crate::by_size::length;
 use crate::layout::HEADER;
-use crate::layout::edge_offset;
-use crate::layout::incidence_offset;
-use crate::layout::length;
 use crate::layout::record_size;
 use crate::words::word;
 

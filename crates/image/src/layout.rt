@@ -1,9 +1,10 @@
 // The layout of an image, in words: header, records, where the parts begin (REFERENCE 10.1 to 10.4). Counts may be any
 // words, so the sums are those of 64 bits.
-// A caller has counts that are words, and a size that `record_size` gave.
 ghost use mathlib.Core.Path.{_≡_};
-ghost use Prim.Native.Nat.{_+_, _*_, _≤_, _<_, _^_};
-ghost use Rattle.image.specs.Image.{edgeOffset, incidenceOffset, lengthAs, recordSize};
+ghost use Prim.Native.Nat.{_≤_};
+ghost use Rattle.image.specs.Image.{vertexSize, edgeOffset, incidenceOffset, imageLength, recordSize};
+use crate::by_size;
+use crate::words::wide;
 use crate::words::word;
 
 pub const HEADER: usize = 6;
@@ -14,28 +15,25 @@ pub const OLD_VERTEX: usize = 3;
 
 pub const EDGE: usize = 6;
 
-// Where the edge part begins behind v vertex records of size words.
-pub fn edge_offset(size: usize, v: usize) -> usize
-    requires { ⌜ (size ≤ 4) × (v < 2 ^ 32) ⌝ }
-    ensures { λ r. ⌜ (r ≡ edgeOffset size v) × (r ≤ 6 + 4 * v) ⌝ }
+// Where the edge part of what is saved begins, behind v vertices.
+pub fn edge_offset(v: u32) -> usize
+    ensures { λ r. ⌜ r ≡ edgeOffset vertexSize v ⌝ }
 {
-    HEADER + size * v
+    by_size::edge_offset(VERTEX, wide(v))
 }
 
-// Where the lists begin, behind e edges.
-pub fn incidence_offset(size: usize, v: usize, e: usize) -> usize
-    requires { ⌜ (size ≤ 4) × (v < 2 ^ 32) × (e < 2 ^ 32) ⌝ }
-    ensures { λ r. ⌜ (r ≡ incidenceOffset size v e) × (r ≤ 6 + 4 * v + 6 * e) ⌝ }
+// Where its lists begin, behind e edges.
+pub fn incidence_offset(v: u32, e: u32) -> usize
+    ensures { λ r. ⌜ r ≡ incidenceOffset vertexSize v e ⌝ }
 {
-    edge_offset(size, v) + EDGE * e
+    by_size::incidence_offset(VERTEX, wide(v), wide(e))
 }
 
-// The words of the whole: an edge is in two lists.
-pub fn length(size: usize, v: usize, e: usize) -> usize
-    requires { ⌜ (size ≤ 4) × (v < 2 ^ 32) × (e < 2 ^ 32) ⌝ }
-    ensures { λ r. ⌜ (r ≡ lengthAs size v e) × (r ≤ 6 + 4 * v + 8 * e) ⌝ }
+// The words of the whole.
+pub fn length(v: u32, e: u32) -> usize
+    ensures { λ r. ⌜ r ≡ imageLength v e ⌝ }
 {
-    edge_offset(size, v) + (EDGE + 2) * e
+    by_size::length(VERTEX, wide(v), wide(e))
 }
 
 // The words of a vertex record, by the offset of the edge part.
@@ -44,10 +42,10 @@ pub fn record_size(words: &[u32]) -> usize
 {
     let v = word(words, 0);
     let offset = word(words, 3);
-    if offset == edge_offset(VERTEX, v) {
+    if offset == by_size::edge_offset(VERTEX, v) {
         return VERTEX;
     }
-    if offset == edge_offset(OLD_VERTEX, v) {
+    if offset == by_size::edge_offset(OLD_VERTEX, v) {
         return OLD_VERTEX;
     }
     VERTEX

@@ -1,17 +1,19 @@
 // The image of a graph: whether words can be loaded, and their parts. REFERENCE 10.5 to 10.7.
 pub mod layout; // layout.rt: the words of header and records, where the parts begin, and which records words have
+mod by_size; // by_size.rt: the same places by the words of a vertex record
 mod words; // words.rt: words of slices, at any place or at one known to be there
 mod header; // header.rt: the header and the counts in it
 mod records; // records.rt: one vertex record, one edge record
 mod passes; // passes.rt: each part in turn, over scratch
 
 use graph::MOST_EDGES;
+use graph::MOST_TYPES;
 use graph::MOST_VERTICES;
 ghost use mathlib.Core.Path.{_≡_};
 ghost use Prim.Native.Nat.{_<_, _^_};
 ghost use Rattle.image.specs.Image.{part as partOf};
 ghost use Rattle.image.specs.Parts.{partBound, partStart, LiesAt};
-ghost use Rattle.image.specs.Checks.{checked, verdict, codeOf, offsetOf};
+ghost use Rattle.image.specs.Checks.{checked, savedBounds, verdict, codeOf, offsetOf};
 
 // What words are: those that some graph saves as, or the offset of the first word that cannot follow those read before.
 // Where the header or a count is bad there is no offset.
@@ -105,4 +107,11 @@ pub fn check(words: &[u32], vertices: u32, edges: u32, types: u32) -> Verdict
         ecap,
         types,
     )
+}
+
+// The same for words by themselves, whatever a run elsewhere is lent.
+pub fn check_saved(words: &[u32]) -> Verdict
+    ensures { λ r. ⌜ r ≡ verdict savedBounds (now (words .entry)) ⌝ }
+{
+    check(words, MOST_VERTICES, MOST_EDGES, MOST_TYPES)
 }

@@ -9,10 +9,10 @@ ghost use Rattle.image.specs.Scratch.{NoneAbove, withEnds, owned, edgeGo
 ghost use Rattle.image.specs.Scratch.{vertexRun, vertexMarks, edgeRun, edgeDegrees, edgeOwners};
 ghost use Rattle.image.specs.Scratch.{degreeRun, listRun, listOwners, incidenceRun, scratchRun, Ran, smallMost};
 use crate::Verdict;
+use crate::by_size::edge_offset;
+use crate::by_size::incidence_offset;
 use crate::layout::EDGE;
 use crate::layout::VERTEX;
-use crate::layout::edge_offset;
-use crate::layout::incidence_offset;
 use crate::records::good_fields;
 use crate::records::good_vertex;
 use crate::records::numbered;

@@ -195,7 +195,6 @@ module _ (g : Graph) (wf : WellFormed g) where
     can-last : CanAppend incidenceLinks (s .edges) (endsAt (s .vertices) v) w
     can-last = record {
       back = can .back;
-      node = λ z. omega (arith, here .0, z);
       end = held-end incidenceLinks (s .edges) (endsAt (s .vertices) v) (listIn vs v) (c .lists v real);
     }
 

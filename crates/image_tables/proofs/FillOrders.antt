@@ -169,7 +169,6 @@ module _ (b : Bounds) (g : Graph) (wf : WellFormed g) (wi : Within b g) (few : l
   can-last : CanAppend edgeLinks (s .edges) (edgeListEnds (s .head)) (y .number)
   can-last = record {
     back = can-e .back;
-    node = λ z. omega (arith, fits-e .real, z);
     end = held-end edgeLinks (s .edges) (edgeListEnds (s .head)) (map edgeNumber w) (t .core .eseq);
   }
 

@@ -2,6 +2,7 @@
 use graph_tables::Head;
 use graph_tables::rows::ends_of;
 use graph_tables::rows::put_ends;
+use graph_tables::rows::put_fields;
 use graph_tables::rows::put_this;
 use graph_tables::rows::this;
 use graph_tables::vertices::insert_vertex;
@@ -38,19 +39,6 @@ fn vertex(head: Head, part: &[u32], at: usize, vertices: &mut [u32], edges: &[u3
     )
 }
 
-// Writes type and reading of e, which is there. The two words of a reading are those of its record, so that no branch
-// asks for its kind.
-fn fields(edges: &mut [u32], e: u32, sort: u32, kind: u32, heard: u32)
-    requires { ⌜ EdgeRowIn (now edges) e × IsWords kind heard ⌝ }
-    ensures { λ _. ⌜ now (edges .exit) ≡ rowET e 1 sort (readingOf kind heard) (now (edges .entry)) ⌝ }
-{
-    let at = 12 * (e as usize) - 12;
-    edges[at + 3] = 1;
-    edges[at + 4] = sort;
-    edges[at + 5] = kind;
-    edges[at + 9] = heard;
-}
-
 // Puts the edge whose record stands at `at` last in Eseq, without its words in the lists.
 fn edge(head: Head, part: &[u32], at: usize, vertices: &[u32], edges: &mut [u32]) -> Head
     requires { ⌜ (at + 6 ≤ length (now part)) × CanEdge (now part) at (state head (now vertices) (now edges)) ⌝ }
@@ -70,7 +58,7 @@ fn edge(head: Head, part: &[u32], at: usize, vertices: &[u32], edges: &mut [u32]
         },
         n,
     );
-    fields(edges, n, part[at + 3], part[at + 4], part[at + 5]);
+    put_fields(edges, n, part[at + 3], part[at + 4], part[at + 5]);
     put_this(edges, n, part[at + 1], part[at + 2]);
     Head {
         vfirst: head.vfirst,

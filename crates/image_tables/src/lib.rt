@@ -5,7 +5,6 @@ mod write; // write.rt: the parts of an image, from the tables
 use graph_tables::Head;
 use graph_tables::clear::clear;
 use image::layout::HEADER;
-use image::layout::VERTEX;
 use image::layout::edge_offset;
 use image::layout::incidence_offset;
 ghost use mathlib.Core.Path.{_≡_};
@@ -25,18 +24,11 @@ pub fn save(head: Head, vertices: &[u32], edges: &[u32], out: &mut [u32]) -> usi
     ensures { λ r. ⌜ ((g : Graph) → Holds (entryState head vertices edges) g
         → (now (out .exit) ≡ overwritten (saveOf g) (now (out .entry))) × (r ≡ length (saveOf g))) ⌝ }
 {
-    let v = head.vertices as usize;
-    let e = head.edges as usize;
-    write::header(out, head.vertices, head.edges);
-    write::edges(head, edges, out, edge_offset(VERTEX, v));
-    write::vertices(
-        head,
-        vertices,
-        edges,
-        out,
-        HEADER,
-        incidence_offset(VERTEX, v, e),
-    )
+    let v = head.vertices;
+    let e = head.edges;
+    write::header(out, v, e);
+    write::edges(head, edges, out, edge_offset(v));
+    write::vertices(head, vertices, edges, out, HEADER, incidence_offset(v, e))
 }
 
 // Fills the tables, whatever they held, from words that `image::check` has found sound. Which words hold the graph

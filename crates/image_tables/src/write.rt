@@ -42,9 +42,9 @@ pub fn header(out: &mut [u32], v: u32, e: u32)
     requires { ⌜ (v ≤ mostVertices) × (e ≤ mostEdges) × (6 ≤ length (now out)) ⌝ }
     ensures { λ _. ⌜ now (out .exit) ≡ sets (now (out .entry)) 0 (headerOf vertexSize v e) ⌝ }
 {
-    let edges = edge_offset(VERTEX, v as usize);
-    let lists = incidence_offset(VERTEX, v as usize, e as usize);
-    let total = image::layout::length(VERTEX, v as usize, e as usize);
+    let edges = edge_offset(v);
+    let lists = incidence_offset(v, e);
+    let total = image::layout::length(v, e);
     three(out, 0, v, e, HEADER as u32);
     three(out, 3, edges as u32, lists as u32, total as u32);
 }

@@ -1,4 +1,4 @@
--- A word that no edit and no cost is: word 11 of a row may be written at any time.
+-- Word 11 of a row is no part of its edit or cost: rows and costs stay where it is written.
 use Prim.Native.Nat.{ℕ, _+_, _*_, _<_}
 use mathlib.Core.Path.{_≡_}
 use mathlib.Core.List.{List}

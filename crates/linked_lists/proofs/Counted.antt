@@ -1,4 +1,5 @@
--- The laws of held lists with membership as a count, in the words of keyed lists: `countBy`, `rem`, `ins`, `prev`.
+-- The laws of held lists with membership as a count, in the words of keyed lists:
+-- `countBy`, `removeBy`, `insertAfterBy`, `prevBy`.
 use Prim.Native.Nat.{ℕ, _+_, _≤_}
 use mathlib.Core.Path.{_≡_, refl, sym}
 use mathlib.Core.List.{List, [], _∷_}
@@ -83,7 +84,7 @@ module _ (layout : LinkLayout) (t : List ℕ) (e : Ends) (l : List ℕ) (valid :
     pub held-ins : Held layout (insertT layout t e p x) (insertE layout t e p x) (insertAfterBy (λ k. k) 0 p x l)
     held-ins = held-insert layout t e l p x valid h (new x r l f) i (split-after-is p l a)
 
-  -- another list of the same lane
+  -- another list of the same layout
   module _ (e′ : Ends) (l′ : List ℕ) (h′ : Held layout t e′ l′) (apart : (k : ℕ) → times k l + times k l′ ≤ 1) where
     other : All (λ k. Fresh k l′) l
     other = apart-is l l′ (λ k i. omega (arith, apart k))

@@ -1,4 +1,4 @@
--- What a join leaves alone: the words of other lanes and of other nodes, and the lists that they hold.
+-- What a join leaves alone: the words of other layouts and of other nodes, and the lists that they hold.
 use Prim.Native.Nat.{ℕ, _*_}
 use mathlib.Core.Path.{_≡_, refl, sym, _∙_}
 use mathlib.Core.List.{List, [], _∷_, _++_}
@@ -18,7 +18,7 @@ use Rattle.linked_lists.proofs.HeldLaws.{before-x, after-x, after-last}
 use Rattle.linked_lists.proofs.ListLaws.{Split, split, SplitAfter, split-after, all-left, all-right, all-last, all-head}
 use Rattle.linked_lists.proofs.Puts.{length-join}
 
--- no word of node k of one lane is a word of node a of another
+-- no word of node k of one layout is a word of node a of another
 abbrev pub Off : LinkLayout → LinkLayout → ℕ → ℕ → Type 0
 Off layout′ layout a k = HasAddress layout a → (r s : Side) → linkAddress r layout′ k ≡ linkAddress s layout a → ⊥
 
@@ -78,7 +78,7 @@ module _ (layout′ layout : LinkLayout) (a b : ℕ) (t : List ℕ) (e : Ends) w
         inside = rw length-join (h .inside);
       }
 
--- ---- the same lane, other nodes
+-- ---- the same layout, other nodes
 
 module _ (layout : LinkLayout) (valid : ValidLayout layout) where
   off-nodes : (a n : ℕ) (l : List ℕ) → Fresh 0 l → All (Inside layout n) l → Fresh a l → All (Off layout layout a) l
@@ -90,7 +90,7 @@ module _ (layout : LinkLayout) (valid : ValidLayout layout) where
   frame-nodes a b t e l fa fb h =
       frame-join layout layout a b t e l (off-nodes a (length t) l (h .distinct .0) (h .inside) fa) (off-nodes b (length t) l (h .distinct .0) (h .inside) fb) h
 
--- ---- a list of other nodes in the same lane, after a whole step
+-- ---- a list of other nodes in the same layout, after a whole step
 
 module _ (layout : LinkLayout) (valid : ValidLayout layout) (t : List ℕ) (e : Ends) (l : List ℕ) (e′ : Ends) (l′ : List ℕ)
     (h : Held layout t e l) (h′ : Held layout t e′ l′) (apart : All (λ k. Fresh k l′) l) where
@@ -122,9 +122,9 @@ module _ (layout : LinkLayout) (valid : ValidLayout layout) (t : List ℕ) (e : 
           rw (s .last, after-last layout t e u v g) (all-head (λ k. Fresh k l′) 0 v (h′ .distinct .0) (all-right (λ k. Fresh k l′) u v d)) in
           frame-nodes layout valid x (linkOf forward layout t e p) (joinT layout p x t) e′ l′ fx fn (frame-nodes layout valid p x t e′ l′ fp fx h′)
 
--- ---- for callers: a list of another lane, where `unlink` and `insert_after` return
+-- ---- for callers: a list of another layout, where `unlink` and `insert_after` return
 
--- ---- a word that is no link word of the lane
+-- ---- a word that is no link word of the layout
 
 pub unlink-word : (layout : LinkLayout) (t : List ℕ) (e : Ends) (x i : ℕ) → ((s : Side) (k : ℕ) → HasAddress layout k → i ≡ linkAddress s layout k → ⊥) → getD (unlinkT layout t e x) i 0 ≡ getD t i 0
 unlink-word layout t e x i h =
@@ -135,7 +135,7 @@ insert-word layout t e p x i h =
     join-other layout x (linkOf forward layout t e p) (joinT layout p x t) i (h forward x) (h backward (linkOf forward layout t e p)) ∙
     join-other layout p x t i (h forward p) (h backward x)
 
--- ---- a table that agrees at the words of the lane
+-- ---- a table that agrees at the words of the layout
 
 module _ (layout : LinkLayout) (t t′ : List ℕ) (e : Ends) (same : (s : Side) (k : ℕ) → HasAddress layout k → getD t′ (linkAddress s layout k) 0 ≡ getD t (linkAddress s layout k) 0) where
   all-agree : (n : ℕ) (l : List ℕ) → Fresh 0 l → All (Inside layout n) l →

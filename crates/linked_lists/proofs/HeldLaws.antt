@@ -45,6 +45,7 @@ module _ (layout : LinkLayout) (t : List ℕ) (e : Ends) (u v : List ℕ) (x : �
   can-out valid =
       record {
         valid = valid;
+        node = fresh-mid (0 ∷ u) x v (h .distinct) .0;
         here = all-mid (Inside layout (length t)) u x v (h .inside);
         prev = rw before-x inside-u;
         next = rw after-x inside-v;
@@ -107,7 +108,7 @@ module _ (layout : LinkLayout) (t : List ℕ) (e : Ends) (u v : List ℕ) (x : �
   inside-n = inside-head layout (length t) v (all-right (Inside layout (length t)) u v (h .inside))
 
   can-in : CanInsert layout t e (lastOr 0 u) x
-  can-in = record { valid = valid; here = ix; prev = inside-p; next = rw after-p inside-n }
+  can-in = record { valid = valid; node = fx .0; here = ix; prev = inside-p; next = rw after-p inside-n }
 
   not-p : x ≡ lastOr 0 u → ⊥
   not-p = fresh-last x 0 u (fresh-left x (0 ∷ u) v fx)

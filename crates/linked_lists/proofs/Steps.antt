@@ -5,13 +5,13 @@ use mathlib.Core.Bool.{Bool, true, false}
 use mathlib.Core.List.{List}
 use native.Mathlib.Omega.{arith}
 use lib.Dec.{eqb, ltb}
-use lib.ListN.{length, set}
+use lib.ListN.{length, getD, set}
 use lib.Seq.{set-set, set-comm}
 use borrow.Author.Tests.{eqb-false, ne-eqb, le-ltb}
 use Rattle.lists.specs.Choice.{_⇒_else_, _==_}
 use Rattle.linked_lists.specs.declared.LinkLayout.{LinkLayout}
 use Rattle.linked_lists.specs.declared.Ends.{Ends}
-use Rattle.linked_lists.specs.Links.{backward, forward, nodeAddress, Inside, linkOf, CanAppend, putT, putE, joinT, joinE, unlinkT, unlinkE, insertT, insertE}
+use Rattle.linked_lists.specs.Links.{Side, backward, forward, nodeAddress, linkAddress, HasAddress, Inside, linkOf, CanAppend, putT, putE, joinT, joinE, unlinkT, unlinkE, insertT, insertE}
 
 pub inside-by : (layout : LinkLayout) {m m′ n n′ : ℕ} → m ≡ m′ → n ≡ n′ → Inside layout n′ m′ → Inside layout n m
 inside-by layout p q h = rw (p, q) h
@@ -29,10 +29,46 @@ module _ (layout : LinkLayout) (t : List ℕ) (e : Ends) where
     unfolding joinT joinE
     join-steps a b p q = (q .0 ∙ ap (putT backward layout b a) (p .0), q .1 ∙ ap (putE backward b a) (p .1))
 
-    -- the two joins of `insert_after`
-    pub insert-steps : (p x : ℕ) {n : ℕ} → n ≡ linkOf forward layout t e p → (t₁ ≡ joinT layout p x t) × (e₁ ≡ joinE p x e) → (t₂ ≡ joinT layout x n t₁) × (e₂ ≡ joinE x n e₁) →
-        (t₂ ≡ insertT layout t e p x) × (e₂ ≡ insertE layout t e p x)
-    insert-steps p x {n} i q r = rw (← i) (r .0 ∙ ap (joinT layout x n) (q .0), r .1 ∙ ap (joinE x n) (q .1))
+-- a node's own words, which need no test that it is one
+module _ (layout : LinkLayout) (t : List ℕ) (e : Ends) (x : ℕ) (node : x ≡ 0 → ⊥) (has : HasAddress layout x) where
+  pub word-prev : {a : ℕ} → a ≡ nodeAddress layout x → getD t a 0 ≡ linkOf backward layout t e x
+  unfolding linkOf
+  word-prev k = simp (k, le-ltb _ _ has, ne-eqb _ _ node)
+
+  pub word-next : {a : ℕ} → a ≡ nodeAddress layout x → getD t (a + 1) 0 ≡ linkOf forward layout t e x
+  unfolding linkOf
+  word-next k = simp (k, le-ltb _ _ has, ne-eqb _ _ node)
+
+  put-at : (s : Side) (v : ℕ) (u : List ℕ) → putT s layout x v u ≡ set u (linkAddress s layout x) v
+  unfolding putT
+  put-at s v u = rw (ne-eqb x 0 node, le-ltb (layout .stride * x) (layout .offset) has) refl
+
+  no-end : (s : Side) (v : ℕ) (f : Ends) → putE s x v f ≡ f
+  unfolding putE
+  no-end s v f = rw (ne-eqb x 0 node) refl
+
+  module _ (p : ℕ) where
+    abbrev n : ℕ
+    n = linkOf forward layout t e p
+
+    table-in : insertT layout t e p x ≡ putT backward layout n x (set (set (putT forward layout p x t) (nodeAddress layout x) p) (nodeAddress layout x + 1) n)
+    unfolding joinT
+    table-in =
+        let u = putT forward layout p x t in
+        ap (putT backward layout n x) (put-at forward n (putT backward layout x p u) ∙ ap (λ (w : List ℕ). set w (nodeAddress layout x + 1) n) (put-at backward p u))
+
+    ends-in : insertE layout t e p x ≡ putE backward n x (putE forward p x e)
+    unfolding joinE
+    ends-in =
+        let f = putE forward p x e in
+        ap (putE backward n x) (no-end forward n (putE backward x p f) ∙ no-end backward p f)
+
+  -- the stores of `insert_after`
+  pub put-steps : (p : ℕ) {a m : ℕ} {t₁ t₂ : List ℕ} {e₁ e₂ : Ends} → a ≡ nodeAddress layout x → m ≡ linkOf forward layout t e p →
+      (t₁ ≡ putT forward layout p x t) × (e₁ ≡ putE forward p x e) →
+      (t₂ ≡ putT backward layout m x (set (set t₁ a p) (a + 1) m)) × (e₂ ≡ putE backward m x e₁) →
+      (t₂ ≡ insertT layout t e p x) × (e₂ ≡ insertE layout t e p x)
+  put-steps p k i q r = rw (r .0, r .1, q .0, q .1, k, i) (sym (table-in p), sym (ends-in p))
 
 -- the stores of `append`
 module _ (layout : LinkLayout) (t : List ℕ) (e : Ends) (x : ℕ) (can : CanAppend layout t e x) where
@@ -40,10 +76,10 @@ module _ (layout : LinkLayout) (t : List ℕ) (e : Ends) (x : ℕ) (can : CanApp
   p = e .last
 
   none : eqb x 0 ≡ false
-  none = ne-eqb x 0 (can .node)
+  none = ne-eqb x 0 (can .back .node)
 
   starts : ltb (layout .stride * x) (layout .offset) ≡ false
-  starts = le-ltb _ _ (can .back .here (can .node) .0)
+  starts = le-ltb _ _ (can .back .here (can .back .node) .0)
 
   abbrev after : List ℕ → List ℕ
   after u = set (set u (nodeAddress layout x) p) (nodeAddress layout x + 1) 0
@@ -57,7 +93,7 @@ module _ (layout : LinkLayout) (t : List ℕ) (e : Ends) (x : ℕ) (can : CanApp
   behind-in {q} i = go (p == 0) refl i
     where
       go : (b : Bool) → (p == 0) ≡ b → q ≡ (b ⇒ x else p) → (q ≡ 0 → ⊥) × Inside layout (length t) q
-      go true r k = (λ z. can .node (sym k ∙ z), inside-by layout k refl (can .back .here))
+      go true r k = (λ z. can .back .node (sym k ∙ z), inside-by layout k refl (can .back .here))
       go false r k = (λ z. eqb-false p 0 r (sym k ∙ z), inside-by layout k refl (can .back .prev))
 
   pub append-steps : {q b a f : ℕ} → q ≡ ((p == 0) ⇒ x else p) → b ≡ nodeAddress layout q → a ≡ nodeAddress layout x → f ≡ ((p == 0) ⇒ x else e .first) →

@@ -123,9 +123,10 @@ insertT layout t e p x = joinT layout x (linkOf forward layout t e p) (joinT lay
 abbrev pub insertE : LinkLayout → List ℕ → Ends → ℕ → ℕ → Ends
 insertE layout t e p x = joinE x (linkOf forward layout t e p) (joinE p x e)
 
--- what unlinking x asks: the words that it reads and writes are in the table
+-- what unlinking x asks: it is a node, and the words that it reads and writes are in the table
 pub record CanUnlink (layout : LinkLayout) (t : List ℕ) (e : Ends) (x : ℕ) : Type 0 where
   pub valid : ValidLayout layout
+  pub node : x ≡ 0 → ⊥
   pub here : Inside layout (length t) x
   pub prev : Inside layout (length t) (linkOf backward layout t e x)
   pub next : Inside layout (length t) (linkOf forward layout t e x)
@@ -133,6 +134,7 @@ pub record CanUnlink (layout : LinkLayout) (t : List ℕ) (e : Ends) (x : ℕ) :
 -- what inserting x after p asks
 pub record CanInsert (layout : LinkLayout) (t : List ℕ) (e : Ends) (p x : ℕ) : Type 0 where
   pub valid : ValidLayout layout
+  pub node : x ≡ 0 → ⊥
   pub here : Inside layout (length t) x
   pub prev : Inside layout (length t) p
   pub next : Inside layout (length t) (linkOf forward layout t e p)
@@ -140,5 +142,4 @@ pub record CanInsert (layout : LinkLayout) (t : List ℕ) (e : Ends) (p x : ℕ)
 -- what putting x behind the last node asks: no node follows that one
 pub record CanAppend (layout : LinkLayout) (t : List ℕ) (e : Ends) (x : ℕ) : Type 0 where
   pub back : CanInsert layout t e (e .last) x
-  pub node : x ≡ 0 → ⊥
   pub end : linkOf forward layout t e (e .last) ≡ 0

@@ -112,8 +112,9 @@ pub fn unlink(table: &mut [u32], layout: LinkLayout, ends: Ends, x: u32) -> Ends
     ensures { λ r. ⌜ (now (table .exit) ≡ unlinkT layout (now (table .entry)) ends x)
         × (r ≡ unlinkE layout (now (table .entry)) ends x) ⌝ }
 {
-    let p = prev(table, layout, ends, x);
-    let n = next(table, layout, ends, x);
+    let at = place(table.len(), layout, x);
+    let p = table[at];
+    let n = table[at + 1];
     join(table, layout, ends, p, n)
 }
 
@@ -124,8 +125,11 @@ pub fn insert_after(table: &mut [u32], layout: LinkLayout, ends: Ends, p: u32, x
         × (r ≡ insertE layout (now (table .entry)) ends p x) ⌝ }
 {
     let n = next(table, layout, ends, p);
-    let e = join(table, layout, ends, p, x);
-    join(table, layout, e, x, n)
+    let at = place(table.len(), layout, x);
+    let e = put_next(table, layout, ends, p, x);
+    table[at] = p;
+    table[at + 1] = n;
+    put_prev(table, layout, e, n, x)
 }
 
 // One word or another: by whether there is a node.

@@ -1,4 +1,4 @@
--- What 108 and 109 say of a list's start chart, and the number beside them.
+-- What 108 and 109 say of a list's start image, and the number beside them.
 use Prim.Native.Nat.{ℕ, _+_, _*_, _/_, _%_, _≤_, _<_}
 use mathlib.Core.Path.{_≡_, refl}
 use mathlib.Core.Bool.{Bool, true, false, not, _&&_}

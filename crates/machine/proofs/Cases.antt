@@ -48,7 +48,7 @@ pub case-g : present (then (delete 1 ∷ undo ∷ [])) ≡ seven
 unfolding then save wellFormed ifEqual
 case-g = same-graph _ refl refl
 
--- a list of no calls, from a start chart, at capacities 10, 10, 20
+-- a list of no calls, from a start image, at capacities 10, 10, 20
 abbrev idle : List ℕ → ℕ → Lent
 idle start room = record {
   start = start;

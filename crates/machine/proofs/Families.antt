@@ -136,7 +136,7 @@ Makes P (goes p) = Unit {0}
 Makes P clears = Unit {0}
 Makes P nothing = Unit {0}
 
--- a change that alters the chart makes a step, any other nothing
+-- a change that alters the graph makes a step, any other nothing
 pub change-effect : (P : Effect → Type 0) (c : Change) (m : Machine) → (alters c (present m) ≡ true → P (steps (stepOf c (present m)))) → P nothing → P (changeDeed c m .effect)
 change-effect P c m h i = go (alters c (present m)) refl
   where

@@ -25,7 +25,7 @@ chain-zero : (t : Bool) (n r : ℕ) → ((t ⇒ suc n else r) == 0) ≡ true →
 chain-zero true n r h = absurd (omega (arith, eqb-true (suc n) 0 h))
 chain-zero false n r h = (refl, h)
 
--- the three rows of the start chart
+-- the three rows of the start image
 unfoldable pub startRows : Verdict → ℕ → ℕ
 startRows v r = (codeOf v == 105) ⇒ 105 else (codeOf v == 108) ⇒ 108 else (codeOf v == 109) ⇒ 109 else r
 

@@ -21,14 +21,10 @@ use Rattle.machine.specs.Calls.{Parameters}
 use Rattle.prices.specs.Prices.{nothingHeard}
 use Rattle.machine.specs.Codes.{lacksVertex, priceCode}
 use Rattle.commands.specs.declared.Answer.{Answer}
-use Rattle.machine.specs.Machine.{priceNumber, answerTo, answer, step, last}
+use Rattle.machine.specs.Machine.{priceOn, answerTo, answer, step, last}
 use Rattle.machine.specs.Marks.{eventOf, events, setsMark, endsMark, Kept, set-here, set-later, goTo}
 use Rattle.machine.proofs.Families.{price-refusal}
 use Rattle.machine.proofs.MarkLaws.{mark-sentence}
-
--- code and number of a call of the price list, on a graph
-abbrev pub priceOn : Graph → PriceCall → Answer
-priceOn g p = record { code = priceCode g p; number = (priceCode g p == 0) ⇒ priceNumber g p else 0 }
 
 pub price-of-present : (w : Parameters) (m : Machine) (p : PriceCall) → answerTo w m (Quote p) ≡ priceOn (present m) p
 unfolding answerTo

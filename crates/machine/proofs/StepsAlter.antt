@@ -30,16 +30,17 @@ use Rattle.machine.specs.Rules.{Effect, steps, marks, unmarks, goes, cle
 use Rattle.machine.specs.Calls.{Parameters, boundsIn}
 use Rattle.machine.specs.Codes.{lacksVertex, lacksEdge, changeCode, refusal}
 use Rattle.machine.specs.Machine.{deedOf, answerTo, stepTo, step, last}
+use Rattle.machine.specs.Demand.{Altering}
 use Rattle.machine.proofs.Accepts.{accepted-step, refused-step}
 use Rattle.machine.proofs.Families.{Makes, change-effect, history-makes, change-passed}
 use Rattle.machine.proofs.MarkLaws.{PlacesInRange, fresh-places, places-step}
 
--- each graph differs from the one before it, from g on
-abbrev pub Altering : Graph → List Step → Type 0
-Altering g [] = Unit {0}
-Altering g (s ∷ ss) = (g ≡ s .graph → ⊥) × Altering (s .graph) ss
+-- Altering by recursion over the steps, from g on
+abbrev Differ : Graph → List Step → Type 0
+Differ g [] = Unit {0}
+Differ g (s ∷ ss) = (g ≡ s .graph → ⊥) × Differ (s .graph) ss
 
-cut : (p : ℕ) (g : Graph) (ss : List Step) (s : Step) → Altering g ss → p ≤ length ss → (graphAt p g ss ≡ s .graph → ⊥) → Altering g (take p ss ++ (s ∷ []))
+cut : (p : ℕ) (g : Graph) (ss : List Step) (s : Step) → Differ g ss → p ≤ length ss → (graphAt p g ss ≡ s .graph → ⊥) → Differ g (take p ss ++ (s ∷ []))
 cut zero g ss s a h n = (n, tt)
 cut (suc p) g [] s a h n = absurd (omega arith)
 cut (suc p) g (x ∷ ss) s a h n = (a .0, cut p (x .graph) ss s (a .1) (omega arith) n)
@@ -106,39 +107,38 @@ makes-another w m (Ask q) e = tt
 makes-another w m (Quote p) e = tt
 makes-another w m Unknown e = tt
 
-altering-next : (e : Effect) (m : Machine) → m .line .place ≤ length (m .line .steps) → Makes (Another m) e → Altering (m .line .start) (m .line .steps) →
-    Altering (effected e m .line .start) (effected e m .line .steps)
-altering-next (steps s) m h n a = cut (m .line .place) (m .line .start) (m .line .steps) s a h n
-altering-next (marks k) m h n a = a
-altering-next (unmarks k) m h n a = a
-altering-next (goes p) m h n a = a
-altering-next clears m h n a = tt
-altering-next nothing m h n a = a
+differ-next : (e : Effect) (m : Machine) → m .line .place ≤ length (m .line .steps) → Makes (Another m) e → Differ (m .line .start) (m .line .steps) →
+    Differ (effected e m .line .start) (effected e m .line .steps)
+differ-next (steps s) m h n a = cut (m .line .place) (m .line .start) (m .line .steps) s a h n
+differ-next (marks k) m h n a = a
+differ-next (unmarks k) m h n a = a
+differ-next (goes p) m h n a = a
+differ-next clears m h n a = tt
+differ-next nothing m h n a = a
 
-altering-step : (w : Parameters) (m : Machine) (x : Call) → PlacesInRange m → Altering (m .line .start) (m .line .steps) → Altering (step w m x .line .start) (step w m x .line .steps)
-altering-step w m x i a = go (refusal w m c == 0) refl
+differ-step : (w : Parameters) (m : Machine) (x : Call) → PlacesInRange m → Differ (m .line .start) (m .line .steps) → Differ (step w m x .line .start) (step w m x .line .steps)
+differ-step w m x i a = go (refusal w m c == 0) refl
   where
     c : Command
     c = commandOf x
 
-    go : (t : Bool) → (refusal w m c == 0) ≡ t → Altering (stepTo w m c .line .start) (stepTo w m c .line .steps)
-    go true e = rw (accepted-step w m c e) (altering-next (deedOf w c m .effect) m (i .place-in) (makes-another w m c e) a)
+    go : (t : Bool) → (refusal w m c == 0) ≡ t → Differ (stepTo w m c .line .start) (stepTo w m c .line .steps)
+    go true e = rw (accepted-step w m c e) (differ-next (deedOf w c m .effect) m (i .place-in) (makes-another w m c e) a)
     go false e = rw (refused-step w m c e) a
 
-altering-last : (w : Parameters) (m : Machine) (xs : List Call) → PlacesInRange m → Altering (m .line .start) (m .line .steps) → Altering (last w m xs .line .start) (last w m xs .line .steps)
+differ-last : (w : Parameters) (m : Machine) (xs : List Call) → PlacesInRange m → Differ (m .line .start) (m .line .steps) → Differ (last w m xs .line .start) (last w m xs .line .steps)
 unfolding last
-altering-last w m [] i a = a
-altering-last w m (x ∷ xs) i a = altering-last w (step w m x) xs (places-step w m x i) (altering-step w m x i a)
+differ-last w m [] i a = a
+differ-last w m (x ∷ xs) i a = differ-last w (step w m x) xs (places-step w m x i) (differ-step w m x i a)
 
-differ-at : (i : ℕ) (g : Graph) (ss : List Step) → Altering g ss → i < length ss → graphAt i g ss ≡ graphAt (suc i) g ss → ⊥
+differ-at : (i : ℕ) (g : Graph) (ss : List Step) → Differ g ss → i < length ss → graphAt i g ss ≡ graphAt (suc i) g ss → ⊥
 differ-at i g [] a h = absurd (omega arith)
 differ-at zero g (s ∷ ss) a h = a .0
 differ-at (suc i) g (s ∷ ss) a h = differ-at i (s .graph) ss (a .1) (omega arith)
 
 -- in a machine that calls reach, Gi and Gi+1 are never the same
-pub steps-alter : (w : Parameters) (g : Graph) (xs : List Call) → (i : ℕ) → i < length (last w (fresh g) xs .line .steps) →
-    graphAt i (last w (fresh g) xs .line .start) (last w (fresh g) xs .line .steps) ≡ graphAt (suc i) (last w (fresh g) xs .line .start) (last w (fresh g) xs .line .steps) → ⊥
-steps-alter w g xs i = differ-at i _ _ (altering-last w (fresh g) xs (fresh-places g) tt)
+pub steps-alter : (w : Parameters) (g : Graph) (xs : List Call) → Altering (last w (fresh g) xs .line)
+steps-alter w g xs i = differ-at i _ _ (differ-last w (fresh g) xs (fresh-places g) tt)
 
 -- an accepted change that alters nothing answers 0 and leaves the machine as it is
 pub unaltered : (w : Parameters) (m : Machine) (c : Change) → refusal w m (Alter c) ≡ 0 → alters c (present m) ≡ false →

@@ -53,7 +53,7 @@ demand-3 l e = record {
   each-call = λ xs ys x c. rw (← c) (answered (parametersOf l) (begins l) xs ys x);
   events-are = λ xs. (events-called (parametersOf l) (begins l) xs, events-answered (parametersOf l) (begins l) xs);
   every-point = λ xs ys c. mark-sentence (parametersOf l) (load (l .start)) xs;
-  steps-alter = λ xs ys c i h. steps-alter (parametersOf l) (load (l .start)) xs i h;
+  steps-alter = λ xs ys c. steps-alter (parametersOf l) (load (l .start)) xs;
 }
 
 -- ---- the slices keep their lengths

@@ -6,7 +6,7 @@ use mathlib.Core.List.{List, _∷_, _++_, map}
 use lib.ListN.{length}
 use Rattle.lists.specs.Lists.{overwritten}
 use Rattle.image.specs.Image.{save, load}
-use Rattle.history.specs.Machine.{Machine, graphAt, fresh, present}
+use Rattle.history.specs.Machine.{Timeline, Machine, graphAt, fresh, present}
 use Rattle.commands.specs.Calls.{Call, callsOf}
 use Rattle.commands.specs.declared.Answer.{Answer}
 use Rattle.machine.specs.Machine.{answer, answers, step, last}
@@ -28,6 +28,11 @@ ends l = after l (callsOf (l .calls))
 abbrev pub allAnswers : Lent → List Answer
 allAnswers l = answers (parametersOf l) (begins l) (callsOf (l .calls))
 
+-- each graph of a timeline differs from the one before it
+abbrev pub Altering : Timeline → Type 0
+Altering t = (i : ℕ) → i < length (t .steps)
+    → graphAt i (t .start) (t .steps) ≢ graphAt (suc i) (t .start) (t .steps)
+
 -- what the result r of the list l has to be
 pub record Demand3 (l : Lent) (r : AfterRun) : Type 0 where
   -- REFERENCE 9.5
@@ -46,11 +51,9 @@ pub record Demand3 (l : Lent) (r : AfterRun) : Type 0 where
   -- at each point, also after the last call: the events are the calls with their answers
   pub events-are : (xs : List Call)
       → (map (λ (e : Event). e .call) (events (parametersOf l) (begins l) xs) ≡ xs)
-      × (map (λ (e : Event). e .answer) (events (parametersOf l) (begins l) xs) ≡ answers (parametersOf l) (begins l) xs)
+      × (map (λ (e : Event). e .answer) (events (parametersOf l) (begins l) xs)
+      ≡ answers (parametersOf l) (begins l) xs)
   pub every-point : (xs ys : List Call) → xs ++ ys ≡ callsOf (l .calls)
       → MarkSentence (parametersOf l) (load (l .start)) xs
-  -- and each graph of the machine differs from the one before it: the steps between two marks altered something
-  pub steps-alter : (xs ys : List Call) → xs ++ ys ≡ callsOf (l .calls)
-      → (i : ℕ) → i < length (after l xs .line .steps)
-      → graphAt i (after l xs .line .start) (after l xs .line .steps)
-      ≢ graphAt (suc i) (after l xs .line .start) (after l xs .line .steps)
+  -- and the steps between two marks altered something
+  pub steps-alter : (xs ys : List Call) → xs ++ ys ≡ callsOf (l .calls) → Altering (after l xs .line)

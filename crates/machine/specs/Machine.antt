@@ -1,7 +1,7 @@
 -- The plain machine: the answer to a call, the state after it, and a list of calls.
 use Prim.Native.Nat.{ℕ}
 use mathlib.Core.List.{List, [], _∷_}
-use Rattle.lists.specs.Choice.{toBit}
+use Rattle.lists.specs.Choice.{_⇒_else_, _==_, toBit}
 use Rattle.lists.specs.Lists.{first, after, before}
 use Rattle.type_rows.specs.Types.{below}
 use Rattle.graph.specs.Graph.{
@@ -51,7 +51,7 @@ use Rattle.commands.specs.declared.Answer.{Answer}
 use Rattle.commands.specs.Calls.{Call}
 use Rattle.commands.specs.Commands.{commandOf}
 use Rattle.machine.specs.Calls.{Parameters}
-use Rattle.machine.specs.Codes.{refusal}
+use Rattle.machine.specs.Codes.{priceCode, refusal}
 
 -- ---- numbers of questions and prices
 
@@ -82,6 +82,10 @@ questionNumber rows g (Below s t) = toBit (below rows s t)
 abbrev pub priceNumber : Graph → PriceCall → ℕ
 priceNumber g (Range a b) = twoWay g a b
 priceNumber g (Grade a b c) = grade c g a b
+
+-- code and number of a call of the price list, on a graph
+abbrev pub priceOn : Graph → PriceCall → Answer
+priceOn g p = record { code = priceCode g p; number = (priceCode g p == 0) ⇒ priceNumber g p else 0 }
 
 -- ---- one command: the number and the effect of an accepted one; questions and prices have none
 

@@ -39,7 +39,8 @@ abbrev pub setsMark : ℕ → Event → Bool
 setsMark k e = (e .answer .code == 0) && callSets k (e .call)
 
 -- whether an accepted call at place p, with the number n, ends mark k, which stands at q: k set anew or dropped, a
--- commit, or a change with p below q. A change that alters nothing has the number 0 and is not counted (REFERENCE 3.11).
+-- commit, or a change with p below q. A change that alters nothing has the number 0 and is not counted (REFERENCE
+-- 3.11).
 abbrev pub callEnds : ℕ → ℕ → ℕ → ℕ → Call → Bool
 callEnds k q p n x =
     (x .kind is (17 ∷ 18 ∷ [])) ⇒ (k == x .a) else

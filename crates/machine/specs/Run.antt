@@ -28,7 +28,7 @@ pub record Lent : Type 0 where
   pub answers : List ℕ
   pub end : List ℕ
 
--- the result, a code, a number (the calls done) and the words of the end chart, and the two lent slices that a run
+-- the result, a code, a number (the calls done) and the words of the end image, and the two lent slices that a run
 -- writes, as it ends
 pub record AfterRun : Type 0 where
   pub code : ℕ
@@ -57,7 +57,7 @@ pub record Limits (w : Parameters) : Type 0 where
   pub some-types : 1 ≤ length (w .rows)
   pub few-types : length (w .rows) ≤ mostTypes
 
--- The codes of a list in turn: 101 to 104, then what is bad in the start chart, 105, 108 or 109, then 106, which asks
+-- The codes of a list in turn: 101 to 104, then what is bad in the start image, 105, 108 or 109, then 106, which asks
 -- for as many words as an image with as many vertices and edges as the capacities.
 unfoldable pub listTable : Lent → List Row
 unfolding goodRows verdict
@@ -84,7 +84,7 @@ unfoldable pub listRefusal : Lent → ℕ
 unfolding listTable
 listRefusal l = inTurn (listTable l)
 
--- the number beside a code: with 108 and 109 the offset of the first bad word of the start chart, else 0
+-- the number beside a code: with 108 and 109 the offset of the first bad word of the start image, else 0
 abbrev pub numberBeside : ℕ → ℕ → ℕ
 numberBeside code offset = ((code == 108) || (code == 109)) ⇒ offset else 0
 

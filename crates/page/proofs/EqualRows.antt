@@ -35,7 +35,7 @@ module _ (g : Graph) (h : wellFormed pageBounds g ≡ true) where
   pub all-shown : All Shown (g .eseq)
   all-shown = all-bool (soundEdge pageBounds g) shown (g .eseq) (formed pageBounds g h .edges-sound)
 
-  -- the page of a chart is read back as its edges
+  -- the page of a graph is read back as its edges
   pub page-back : readRows (length (g .eseq)) (rowsOf g) ≡ g .eseq
   unfolding rowsOf
   page-back = rows-back (g .eseq) all-shown

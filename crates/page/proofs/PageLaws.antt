@@ -14,7 +14,7 @@ use Rattle.decimal.specs.Stored.{Stored}
 use Rattle.decimal.proofs.Stores.{stored-over}
 use Rattle.graph.specs.Graph.{Graph}
 use Rattle.graph.specs.WellFormed.{wellFormed}
-use Rattle.image.specs.Image.{SavesAs, recordSize, soundHeader, part, edgeCount, edgePart, load, loadable}
+use Rattle.image.specs.Image.{SavesAs, recordSize, part, edgeCount, edgePart, load, loadable}
 use Rattle.image.specs.Checks.{codeOf, loadCode, loadOffset, verdict}
 use Rattle.image.specs.declared.Verdict.{Verdict}
 use Rattle.image.specs.declared.Verdict.the-variants.{Sound, BadHeader, BadRecord, BadIncidence}
@@ -24,10 +24,10 @@ use Rattle.image.proofs.Loads.{loads, loads-back, saves-loads, loaded}
 use Rattle.image.proofs.SavedSound.{loads-sound}
 use Rattle.image.proofs.SoundLoads.{long-edges}
 use Rattle.image.proofs.Room.{few-edges}
+use Rattle.image.proofs.EdgePart.{part-two, eseq-count}
 use Rattle.page.specs.Rows.{rowBytes, rowsOf, rowsFrom}
 use Rattle.page.specs.Page.{PageResult, pageBounds, pageBytes, pageCode, pageOf}
 use Rattle.page.proofs.RowLaws.{rows-length}
-use Rattle.page.proofs.Turns.{from-length}
 
 abbrev pub answer : ℕ → ℕ → List ℕ → PageResult
 answer code bytes page = record { code = code; bytes = bytes; page = page }
@@ -108,14 +108,6 @@ page-loads ws page = (λ o. go (loadCode pageBounds ws == 0) refl o, λ w. from 
         split false e = inl (ap (λ (x : PageResult). x .code) (graph-rows g h ws page s (ltb-false _ _ e)))
 
 -- ---- the edge part of words that load
-
-part-two : (ws : List ℕ) → soundHeader ws ≡ true → part 2 ws ≡ edgePart (recordSize ws) ws
-unfolding part
-part-two ws h = rw h
-
-eseq-count : (ws : List ℕ) → length (load ws .eseq) ≡ edgeCount ws
-unfolding load
-eseq-count ws = from-length (edgeCount ws) (edgePart (recordSize ws) ws)
 
 load-rows : (ws : List ℕ) → rowsOf (load ws) ≡ rowsFrom (edgeCount ws) (edgePart (recordSize ws) ws)
 unfolding rowsOf load

@@ -1,6 +1,6 @@
 -- The loop over the records: one turn, and the end.
-use Prim.Native.Nat.{ℕ, zero, suc, _+_, _-_, _≤_, _<_}
-use mathlib.Core.Path.{_≡_, refl, sym, ap, _∙_}
+use Prim.Native.Nat.{ℕ, suc, _+_, _-_, _≤_, _<_}
+use mathlib.Core.Path.{_≡_, sym, ap, _∙_}
 use mathlib.Core.List.{List, [], _++_}
 use native.Mathlib.Omega.{arith}
 use lib.ListN.{length, take, drop}
@@ -8,11 +8,6 @@ use lib.Seq.{sets, drop-drop}
 use Rattle.decimal.proofs.Stores.{rest-all}
 use Rattle.image.specs.Image.{edgesFrom}
 use Rattle.page.specs.Rows.{rowOf, edgeRead, rowsFrom}
-
-pub from-length : (k : ℕ) (ws : List ℕ) → length (edgesFrom k ws) ≡ k
-unfolding edgesFrom
-from-length zero ws = refl
-from-length (suc k) ws = ap suc (from-length k (drop 6 ws))
 
 module _ (ws : List ℕ) (count i : ℕ) where
   pub rows-turn : (from : ℕ) → i < count →

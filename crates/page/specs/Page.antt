@@ -1,20 +1,19 @@
--- The page of a saved chart: the code and the number of bytes, and what the page is afterwards, for all words.
+-- The page of an image: the code and the number of bytes, and what the page is afterwards, for all words.
 use Prim.Native.Nat.{ℕ, _*_}
 use mathlib.Core.List.{List}
 use lib.ListN.{length}
 use lib.Dec.{ltb}
 use Rattle.lists.specs.Choice.{_⇒_else_, _==_}
 use Rattle.lists.specs.Lists.{overwritten}
-use Rattle.graph.specs.Limits.{mostVertices, mostEdges, mostTypes}
 use Rattle.graph.specs.WellFormed.{Bounds}
 use Rattle.image.specs.Image.{load}
-use Rattle.image.specs.Checks.{bounds, loadCode, loadOffset}
+use Rattle.image.specs.Checks.{savedBounds, loadCode, loadOffset}
 use Rattle.page.specs.Rows.{rowBytes, rowsOf}
 use Rattle.page.specs.declared.Printed.{Printed}
 
 -- what the words are held against, whatever a run elsewhere is lent
 abbrev pub pageBounds : Bounds
-pageBounds = bounds mostVertices mostEdges mostTypes
+pageBounds = savedBounds
 
 pub record PageResult : Type 0 where
   pub code : ℕ

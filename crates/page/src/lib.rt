@@ -1,4 +1,4 @@
-// The page of a saved chart: one row of 25 bytes for each edge.
+// The page of an image (a saved chart): one row of 25 bytes for each edge.
 // Each function but print writes a text at a place of out and returns the place behind it.
 ghost use mathlib.Core.Path.{_≡_};
 ghost use Prim.Native.Nat.{_+_, _*_, _≤_};
@@ -8,10 +8,7 @@ ghost use Rattle.graph.specs.Graph.{readingOf};
 ghost use Rattle.page.specs.Rows.{column, cell, readingColumn, rowOf, edgeRead, rowsFrom};
 ghost use Rattle.page.specs.Page.{pageOf, printed};
 use decimal::bytes;
-use graph::MOST_EDGES;
-use graph::MOST_TYPES;
-use graph::MOST_VERTICES;
-use image::check;
+use image::check_saved;
 use image::code_of;
 use image::layout::EDGE;
 use image::offset_of;
@@ -108,12 +105,12 @@ fn rows(words: &[u32], count: usize, out: &mut [u8]) -> usize
     at
 }
 
-// The page of a saved chart: 105, 108 or 109 where the words do not load; only of words that load 107, under 25 bytes
+// The page of an image: 105, 108 or 109 where the words do not load; only of words that load 107, under 25 bytes
 // an edge. With a code the page is as it was, and bytes behind the rows are so in any case.
 pub fn print(words: &[u32], page: &mut [u8]) -> Printed
     ensures { λ r. ⌜ printed r (now (page .exit)) ≡ pageOf (now (words .entry)) (now (page .entry)) ⌝ }
 {
-    let found = check(words, MOST_VERTICES, MOST_EDGES, MOST_TYPES);
+    let found = check_saved(words);
     let code = code_of(found);
     if code != 0 {
         return Printed {

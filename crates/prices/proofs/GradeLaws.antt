@@ -10,7 +10,7 @@ use lib.Dec.{leb, ltb}
 use borrow.Author.Tests.{leb-true, leb-false, ltb-true, ltb-false, lt-leb, le-leb, eqb-true}
 use Rattle.lists.specs.Choice.{_⇒_else_, _==_, toBit}
 use Rattle.lists.proofs.Bools.{ft, and-true}
-use Rattle.prices.specs.Grades.{oldLimits, newLimits, limitsOf, reached, gradeBy, risesFrom, rising, multiplesFrom}
+use Rattle.prices.specs.Grades.{oldLimits, newLimits, limitsOf, reached, gradeBy, Graded, risesFrom, rising, multiplesFrom}
 
 -- no limit is reached by a range that is not above what they rise from
 none : (p : ℕ) (ls : List ℕ) (r : ℕ) → risesFrom p ls ≡ true → r ≤ p → reached ls r ≡ 0
@@ -50,12 +50,6 @@ cut-more l ls r h rest = go (leb l r) refl
 cut : (p : ℕ) (ls : List ℕ) (r : ℕ) → risesFrom p ls ≡ true → Cut ls r (reached ls r)
 cut p [] r h = record { few = omega arith; below = λ i k. absurd (omega arith); above = λ k. absurd (omega arith) }
 cut p (l ∷ ls) r h = let a = and-true (ltb p l) (risesFrom l ls) h in cut-more l ls r (a .1) (cut l ls r (a .1))
-
--- the grade is a line of the table, its limit is not above the range, and the next line's is
-pub record Graded (ls : List ℕ) (r g : ℕ) : Type 0 where
-  pub line : g < length ls
-  pub limit : getD ls g 0 ≤ r
-  pub next : g + 1 < length ls → r < getD ls (g + 1) 0
 
 pub graded : (ls : List ℕ) (r : ℕ) → rising ls ≡ true → Graded ls r (gradeBy ls r)
 unfolding gradeBy

@@ -7,12 +7,7 @@ use Rattle.lists.specs.Lists.{All, done, more}
 use Rattle.graph.specs.declared.Reading.{Reading}
 use Rattle.graph.specs.declared.Reading.the-variants.{Untested, Silent, Heard}
 use Rattle.graph.specs.Graph.{Graph, listOf}
-use Rattle.prices.specs.Prices.{readingOut, later, lastTested, way, isHeard, oneWay, nothingHeard}
-
--- silent, or heard
-pub data Tested : Reading → Type 0 where
-  silent : Tested Silent
-  heard : (d : ℕ) → Tested (Heard d)
+use Rattle.prices.specs.Prices.{readingOut, Tested, silent, heard, later, lastTested, way, isHeard, oneWay, nothingHeard}
 
 later-tested : (r s : Reading) → Tested s → later r s ≡ s
 later-tested r s silent = refl

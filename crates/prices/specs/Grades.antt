@@ -1,7 +1,8 @@
 -- Grades by printed tables of lower limits: one limit a grade, from grade 0 on.
-use Prim.Native.Nat.{ℕ, suc, _-_, _*_}
+use Prim.Native.Nat.{ℕ, suc, _+_, _-_, _*_, _≤_, _<_}
 use mathlib.Core.Bool.{Bool, true, false, _&&_}
 use mathlib.Core.List.{List, [], _∷_}
+use lib.ListN.{length, getD}
 use lib.Dec.{leb, ltb}
 use Rattle.lists.specs.Choice.{_⇒_else_, _==_, toBit}
 use Rattle.lists.specs.Lists.{sumOf}
@@ -119,6 +120,12 @@ reached ls range = sumOf (λ l. toBit (leb l range)) ls
 -- the last line whose limit is not above the range; the first line is grade 0
 unfoldable pub gradeBy : List ℕ → ℕ → ℕ
 gradeBy ls range = reached ls range - 1
+
+-- g is a line of the table, its limit is not above the range r, and the next line's is
+pub record Graded (ls : List ℕ) (r g : ℕ) : Type 0 where
+  pub line : g < length ls
+  pub limit : getD ls g 0 ≤ r
+  pub next : g + 1 < length ls → r < getD ls (g + 1) 0
 
 -- each limit is above the one before it, the first above p
 abbrev pub risesFrom : ℕ → List ℕ → Bool

@@ -12,6 +12,11 @@ use Rattle.prices.specs.Grades.{limitsOf, gradeBy}
 abbrev pub readingOut : Graph → ℕ → ℕ → Reading
 readingOut g b w = bySide w (ifEqual (edge g (edgeOf w) .omega) b (edge g (edgeOf w) .reading) Untested) Untested
 
+-- silent, or heard
+pub data Tested : Reading → Type 0 where
+  silent : Tested Silent
+  heard : (d : ℕ) → Tested (Heard d)
+
 -- the later of two readings, unless that is untested
 abbrev pub later : Reading → Reading → Reading
 later r Untested = r

@@ -20,7 +20,7 @@ use Rattle.text.proofs.ImageLineBack.{image-length, image-line-back}
 use Rattle.printout.specs.Printout.{rowsOrCode, printedLine, printout}
 
 module _ (g : Graph) (h : wellFormed pageBounds g ≡ true) where
-  -- 11 bytes a word at most, and at most 35,006 words
+  -- 11 bytes a word at most, and at most 36,006 words
   fits : length (lineOf imageWord (save g)) ≤ 400000
   fits = omega (arith, image-length (save g), numbers-most (save g), image-fits pageBounds g h)
 

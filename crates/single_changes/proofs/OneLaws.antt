@@ -8,8 +8,6 @@ use native.Mathlib.Omega.{arith}
 use lib.ListN.{length}
 use borrow.Author.Tests.{eqb-true, eqb-false, ne-eqb}
 use Rattle.lists.specs.Choice.{_==_, _⇒_else_}
-use denote.Enum.Declared.{tagOf}
-use Rattle.graph.proofs.Change.{the-type}
 use Rattle.graph.specs.declared.Change.{Change}
 use Rattle.graph.specs.declared.Change.the-variants.{CreateVertex, DeleteVertex, CreateEdge, DeleteEdge, RetypeVertex, RetypeEdge, SetValue, SetReading, SetAlpha, SetOmega, VertexBefore, VertexAfter, EdgeBefore, EdgeAfter, WordBefore, WordAfter}
 use Rattle.graph.specs.declared.Edit.{Edit}
@@ -30,6 +28,8 @@ use Rattle.graph_tables.specs.Capacities.{Sized, boundsOf}
 use Rattle.graph_tables.proofs.Callers.{small, vertex-in, edge-in}
 use Rattle.graph_tables.proofs.Refines.{can-edit}
 use Rattle.graph_tables.proofs.Steps.{can-by}
+use Rattle.journal.specs.Rows.{costing}
+use Rattle.journal.specs.Written.{Written}
 use Rattle.queries.specs.Plans.{planS, CanPlan, OneEdit}
 use Rattle.queries.proofs.Answers.{reading-words}
 use Rattle.queries.proofs.PlanLaws.{can-plan, plan-is, one-edit}
@@ -38,23 +38,66 @@ use Rattle.change_codes.specs.Held.{HoldsVE}
 use Rattle.commands.specs.Fits.{ChangeFits}
 use Rattle.machine.proofs.Allows.{allows}
 use Rattle.tried_edits.specs.declared.Made.{Made}
-use Rattle.tried_edits.specs.Tried.{tried, Tries}
-use Rattle.single_changes.specs.One.{HoldsGraph, ReadingWords, One, withRoom}
+use Rattle.tried_edits.specs.Tried.{Outcome, outcome, kept, written, tried, Tries}
+use Rattle.single_changes.specs.One.{HoldsGraph, ReadingWords, codeHere, unlessRefused, attempted, One}
 
-pub no-code : (keeps : Bool) (free c : ℕ) → withRoom keeps free c ≡ 0 → c ≡ 0
-no-code keeps free c e = go (c == 0) refl e
-  where
-    go : (p : Bool) → (c == 0) ≡ p → (p ⇒ tried keeps free else c) ≡ 0 → c ≡ 0
-    go true q z = eqb-true c 0 q
-    go false q z = z
+-- ---- what an outcome tells
 
-pub some-room : (free c : ℕ) → withRoom false free c ≡ 0 → free ≢ 0
-some-room free c e = go (c == 0) refl (free == 0) refl e
-  where
-    go : (p : Bool) → (c == 0) ≡ p → (r : Bool) → (free == 0) ≡ r → _≡_ {A = ℕ} (p ⇒ (r ⇒ 10 else 0) else c) 0 → free ≢ 0
-    go true q true k z = absurd (omega arith)
-    go true q false k z = eqb-false free 0 k
-    go false q r k z = absurd (eqb-false c 0 q z)
+-- the lowest code: one of 2 to 9, then that of the edit
+abbrev pub withRoom : Bool → ℕ → ℕ → ℕ
+withRoom keeps free c = (c == 0) ⇒ (keeps ⇒ 0 else (free == 0) ⇒ 10 else 0) else c
+
+-- a step was made
+pub record Makes (e : Edit) (c i free : ℕ) (s : State) (t : List ℕ) (code cost : ℕ) (s′ : State) (t′ : List ℕ) : Type 0 where
+  pub coded : code ≡ 0
+  pub uncoded : c ≡ 0
+  pub costs : cost ≡ 1
+  pub alters : idle e ≡ false
+  pub room : free ≢ 0
+  pub writes : Written e (costing 1) i s t s′ t′
+
+-- cost 0 says that nothing was written
+pub record Told (e : Edit) (c i free : ℕ) (s : State) (t : List ℕ) (code cost : ℕ) (s′ : State) (t′ : List ℕ) : Type 0 where
+  pub coded : code ≡ withRoom (idle e) free c
+  pub stays : cost ≡ 0 → (s′ ≡ s) × (t′ ≡ t)
+  pub keeps : cost ≡ 0 → code ≡ 0 → (c ≡ 0) × (idle e ≡ true)
+  pub made : cost ≢ 0 → Makes e c i free s t code cost s′ t′
+
+module _ (e : Edit) (c i free : ℕ) (s : State) (t : List ℕ) (code cost : ℕ) (s′ : State) (t′ : List ℕ) where
+  told : outcome code cost s′ t′ ≡ unlessRefused c s t (tried e i free s t) → Told e c i free s t code cost s′ t′
+  unfolding tried
+  told q = go (c == 0) refl (idle e) refl (free == 0) refl q
+    where
+      leaves : {k : ℕ} → outcome code cost s′ t′ ≡ kept k s t → (code ≡ k) × (cost ≡ 0) × (s′ ≡ s) × (t′ ≡ t)
+      leaves p = (ap (λ (r : Outcome). r .code) p, ap (λ (r : Outcome). r .cost) p, ap (λ (r : Outcome). r .state) p, ap (λ (r : Outcome). r .journal) p)
+
+      go : (u : Bool) → (c == 0) ≡ u → (v : Bool) → idle e ≡ v → (w : Bool) → (free == 0) ≡ w → outcome code cost s′ t′ ≡ (u ⇒ (v ⇒ kept 0 s t else w ⇒ kept 10 s t else written e i s t) else kept c s t) →
+          Told e c i free s t code cost s′ t′
+      go false x v y w z p =
+          let l = leaves p in
+          record { coded = rw x (l .0); stays = λ _. (l .2, l .3); keeps = λ _ d. absurd (eqb-false c 0 x (sym (l .0) ∙ d)); made = λ d. absurd (d (l .1)) }
+      go true x true y w z p =
+          let l = leaves p in
+          record { coded = rw (x, y) (l .0); stays = λ _. (l .2, l .3); keeps = λ _ _. (eqb-true c 0 x, y); made = λ d. absurd (d (l .1)) }
+      go true x false y true z p =
+          let l = leaves p in
+          record { coded = rw (x, y, z) (l .0); stays = λ _. (l .2, l .3); keeps = λ _ d. absurd (omega (arith, l .0, d)); made = λ d. absurd (d (l .1)) }
+      go true x false y false z p =
+          let k = ap (λ (r : Outcome). r .code) p in
+          let n = ap (λ (r : Outcome). r .cost) p in
+          record {
+            coded = rw (x, y, z) k;
+            stays = λ d. absurd (omega (arith, n, d));
+            keeps = λ d. absurd (omega (arith, n, d));
+            made = λ _. record {
+              coded = k;
+              uncoded = eqb-true c 0 x;
+              costs = n;
+              alters = y;
+              room = eqb-false free 0 z;
+              writes = record { state = ap (λ (r : Outcome). r .state) p; row = ap (λ (r : Outcome). r .journal) p };
+            };
+          }
 
 -- ---- what is allowed can be made
 
@@ -97,11 +140,30 @@ module _ (b : Bounds) (s : State) (z : Sized b s) (g : Graph) (h : Holds s g) wh
 
 -- ---- one change
 
+-- a change of one edit has the code of its table
+pub code-here : (b : Bounds) (g : Graph) (c : Change) → OneEdit c → codeHere b g c ≡ changeCode b g c
+code-here b g (CreateVertex n t x) k = refl
+code-here b g (DeleteVertex v) k = absurd k
+code-here b g (CreateEdge n x o t) k = refl
+code-here b g (DeleteEdge n) k = refl
+code-here b g (RetypeVertex v t) k = refl
+code-here b g (RetypeEdge e t) k = refl
+code-here b g (SetValue v x) k = refl
+code-here b g (SetReading e l d) k = refl
+code-here b g (SetAlpha e v) k = refl
+code-here b g (SetOmega e v) k = refl
+code-here b g (VertexBefore x y) k = refl
+code-here b g (VertexAfter x y) k = refl
+code-here b g (EdgeBefore x y) k = refl
+code-here b g (EdgeAfter x y) k = refl
+code-here b g (WordBefore x y) k = refl
+code-here b g (WordAfter x y) k = refl
+
 -- what is known of a change that has none of codes 2 to 9: the rows that it reads are there, its edit can be made, and
 -- there is a row for it where there is room
 pub record Accepted (x : Change) (types i free : ℕ) (s : State) (t : List ℕ) : Type 0 where
   pub fits : ChangeFits x
-  pub uncoded : (g : Graph) → HoldsVE (s .vertices) (s .edges) g → changeCode (boundsOf (s .vertices) (s .edges) types) g x ≡ 0
+  pub uncoded : (g : Graph) → HoldsVE (s .vertices) (s .edges) g → codeHere (boundsOf (s .vertices) (s .edges) types) g x ≡ 0
   pub rows : CanPlan x s
   pub can : Can (planS x s) s
   pub words : ReadingWords x s
@@ -109,14 +171,15 @@ pub record Accepted (x : Change) (types i free : ℕ) (s : State) (t : List ℕ)
 
 -- c is its code of those
 module _ {x : Change} {types i free : ℕ} {h : Head} {vertices edges t : List ℕ} (f : ChangeFits x) {c : ℕ}
-    (e : (g : Graph) → HoldsVE vertices edges g → c ≡ changeCode (boundsOf vertices edges types) g x) where
+    (e : (g : Graph) → HoldsVE vertices edges g → c ≡ codeHere (boundsOf vertices edges types) g x) where
   pub one-refused : c ≢ 0 → {r : Made} → r ≡ record { head = h; code = c; cost = 0 } → One x types i free (state h vertices edges) t (r .code) (r .cost) (state (r .head) vertices edges) t
+  unfolding attempted
   one-refused n q = subst (λ (y : Made). One x types i free (state h vertices edges) t (y .code) (y .cost) (state (y .head) vertices edges) t) (sym q) (record {
     fits = f;
-    answers = λ g y. ap (λ (p : Bool). p ⇒ tried (idle (planS x (state h vertices edges))) free else c) (sym (ne-eqb c 0 n)) ∙ ap (withRoom (idle (planS x (state h vertices edges))) free) (e g y);
-    stays = λ _. (refl, refl);
-    keeps = λ _ z. absurd (n z);
-    made = λ d. absurd (d refl);
+    comes = λ g y.
+        let s = state h vertices edges in
+        let r = tried (planS x s) i free s t in
+        ap (λ (p : Bool). p ⇒ r else kept c s t) (sym (ne-eqb c 0 n)) ∙ ap (λ (k : ℕ). unlessRefused k s t r) (e g y);
   })
 
   pub accept : c ≡ 0 → OneEdit x → HoldsGraph (state h vertices edges) × (free ≢ 0 → 12 * i + 12 ≤ length t) → Accepted x types i free (state h vertices edges) t
@@ -125,8 +188,8 @@ module _ {x : Change} {types i free : ℕ} {h : Head} {vertices edges t : List �
       let b = boundsOf vertices edges types in
       let y = p .0 in
       let g = y .graph in
-      let u : (g : Graph) → HoldsVE vertices edges g → changeCode b g x ≡ 0 = λ g w. sym (e g w) ∙ z in
-      let a = allows b g (y .holds .sound) x f (u g (h, y .holds)) in
+      let u : (g : Graph) → HoldsVE vertices edges g → codeHere b g x ≡ 0 = λ g w. sym (e g w) ∙ z in
+      let a = allows b g (y .holds .sound) x f (sym (code-here b g x k) ∙ u g (h, y .holds)) in
       let q = plan-is s g (y .holds) b x a in
       let r = subst (λ (d : Edit). Room d s) q (has-room b s (y .sized types) g (y .holds) x a) in
       record {
@@ -138,41 +201,30 @@ module _ {x : Change} {types i free : ℕ} {h : Head} {vertices edges t : List �
         room = p .1;
       }
 
+-- a deletion
+pub one-deletion : {a types i free : ℕ} {h : Head} {vertices edges t : List ℕ} {r : Made} → r ≡ record { head = h; code = 1; cost = 0 } → One (DeleteVertex a) types i free (state h vertices edges) t (r .code) (r .cost) (state (r .head) vertices edges) t
+one-deletion {a = a} q = one-refused {x = DeleteVertex a} tt {c = 1} (λ g y. refl) (λ e. omega arith) q
+
 -- an edit that is the planned one can be made
 pub can-make : {x : Change} {types i free : ℕ} {s : State} {t : List ℕ} {e : Edit} → Accepted x types i free s t → e ≡ planS x s → Can e s × (free ≢ 0 → 12 * i + 12 ≤ length t)
 can-make {s = s} a q = (can-by s (sym q) (a .can), a .room)
 
 pub one-tried : {x : Change} {types i free : ℕ} {s s′ : State} {t t′ : List ℕ} {k n : ℕ} → Accepted x types i free s t → Tries (planS x s) i free s t k n s′ t′ → One x types i free s t k n s′ t′
-one-tried {x = x} {free = free} {s = s} a m = record {
+unfolding attempted
+one-tried {x = x} {i = i} {free = free} {s = s} {t = t} a m = record {
   fits = a .fits;
-  answers = λ g y. m .coded ∙ ap (withRoom (idle (planS x s)) free) (sym (a .uncoded g y));
-  stays = m .stays;
-  keeps = m .keeps;
-  made = m .made;
+  comes = λ g y. m .comes ∙ ap (λ (k : ℕ). unlessRefused k s t (tried (planS x s) i free s t)) (sym (a .uncoded g y));
 }
+
+pub one-told : {x : Change} {types i free : ℕ} {s s′ : State} {t t′ : List ℕ} {k n : ℕ} → OneEdit x → One x types i free s t k n s′ t′ →
+    (g : Graph) → HoldsVE (s .vertices) (s .edges) g → Told (planS x s) (changeCode (boundsOf (s .vertices) (s .edges) types) g x) i free s t k n s′ t′
+unfolding attempted
+one-told {x = x} {types = types} {i = i} {free = free} {s = s} {t = t} o r g y =
+    told _ _ _ _ _ _ _ _ _ _ (r .comes g y ∙ ap (λ (k : ℕ). unlessRefused k s t (tried (planS x s) i free s t)) (code-here (boundsOf (s .vertices) (s .edges) types) g x o))
 
 -- in an arm of the match
 pub one-by : {x y : Change} {types i free : ℕ} {s s′ : State} {t t′ : List ℕ} {k n : ℕ} → x ≡ y → One y types i free s t k n s′ t′ → One x types i free s t k n s′ t′
 one-by {types = types} {i = i} {free = free} {s = s} {s′ = s′} {t = t} {t′ = t′} {k = k} {n = n} e o = subst (λ (z : Change). One z types i free s t k n s′ t′) (sym e) o
-
--- a change that is one edit is no deletion of a vertex
-pub no-deletion : (c : Change) → OneEdit c → tagOf the-type c ≡ 1 → ⊥
-no-deletion (CreateVertex n t x) o z = omega arith
-no-deletion (DeleteVertex a) o z = o
-no-deletion (CreateEdge n a y t) o z = omega arith
-no-deletion (DeleteEdge a) o z = omega arith
-no-deletion (RetypeVertex a t) o z = omega arith
-no-deletion (RetypeEdge a t) o z = omega arith
-no-deletion (SetValue a x) o z = omega arith
-no-deletion (SetReading a k d) o z = omega arith
-no-deletion (SetAlpha e v) o z = omega arith
-no-deletion (SetOmega e v) o z = omega arith
-no-deletion (VertexBefore a b) o z = omega arith
-no-deletion (VertexAfter a b) o z = omega arith
-no-deletion (EdgeBefore a b) o z = omega arith
-no-deletion (EdgeAfter a b) o z = omega arith
-no-deletion (WordBefore a b) o z = omega arith
-no-deletion (WordAfter a b) o z = omega arith
 
 -- ---- what is written is the plan
 

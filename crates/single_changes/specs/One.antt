@@ -1,8 +1,6 @@
--- A change of one edit: what it asks of the tables, its code, and what it leaves.
+-- A change of one edit: what it asks of the tables, its code, its cost, and the words that it leaves.
 use Prim.Native.Nat.{ℕ}
 use mathlib.Core.Path.{_≡_}
-use mathlib.Core.Logic.{_≢_}
-use mathlib.Core.Bool.{Bool, true}
 use mathlib.Core.List.{List}
 use Rattle.lists.specs.Choice.{_==_, _⇒_else_}
 use Rattle.graph.specs.declared.Change.{Change}
@@ -25,7 +23,8 @@ use Rattle.graph.specs.declared.Change.the-variants.{
   WordAfter,
 }
 use Rattle.graph.specs.Graph.{Graph, IsWords}
-use Rattle.graph.specs.Same.{idle}
+use Rattle.graph.specs.WellFormed.{Bounds}
+use Rattle.graph.specs.Changes.{onDeletion}
 use Rattle.graph_tables.specs.Tables.{State, ekind, edecimetres}
 use Rattle.graph_tables.specs.Holds.{Holds}
 use Rattle.graph_tables.specs.Capacities.{Sized, boundsOf}
@@ -33,7 +32,7 @@ use Rattle.queries.specs.Plans.{planS}
 use Rattle.machine.specs.Codes.{changeCode}
 use Rattle.change_codes.specs.Held.{HoldsVE}
 use Rattle.commands.specs.Fits.{ChangeFits}
-use Rattle.tried_edits.specs.Tried.{Makes, tried}
+use Rattle.tried_edits.specs.Tried.{Outcome, outcome, kept, tried}
 
 -- the head and the tables hold a graph, within the limits
 pub record HoldsGraph (s : State) : Type 0 where
@@ -60,18 +59,24 @@ ReadingWords (EdgeAfter a b) s = Unit {0}
 ReadingWords (WordBefore a b) s = Unit {0}
 ReadingWords (WordAfter a b) s = Unit {0}
 
--- the lowest code of a change of cost 1: one of 2 to 9, then that of its edit
-abbrev pub withRoom : Bool → ℕ → ℕ → ℕ
-withRoom keeps free c = (c == 0) ⇒ tried keeps free else c
+-- the lowest of codes 2 to 9; the deletion of a vertex, which takes several edits, is no change of these: 1
+abbrev pub codeHere : Bounds → Graph → Change → ℕ
+codeHere b g x = onDeletion (λ a. 1) (changeCode b g x) x
+
+-- refused with a code, or else r
+abbrev pub unlessRefused : ℕ → State → List ℕ → Outcome → Outcome
+unlessRefused c s t r = (c == 0) ⇒ r else kept c s t
+
+-- a change on tables that hold g: its code, or its edit tried
+unfoldable pub attempted : Change → ℕ → ℕ → ℕ → Graph → State → List ℕ → Outcome
+attempted x types i free g s t =
+    unlessRefused (codeHere (boundsOf (s .vertices) (s .edges) types) g x) s t (tried (planS x s) i free s t)
 
 pub record One (x : Change) (types i free : ℕ) (s : State) (t : List ℕ) (code cost : ℕ) (s′ : State)
     (t′ : List ℕ) : Type 0 where
+  pub comes : (g : Graph) → HoldsVE (s .vertices) (s .edges) g → outcome code cost s′ t′ ≡ attempted x types i free g s t
+  -- known only where a match has taken the change apart
   pub fits : ChangeFits x
-  pub answers : (g : Graph) → HoldsVE (s .vertices) (s .edges) g
-      → code ≡ withRoom (idle (planS x s)) free (changeCode (boundsOf (s .vertices) (s .edges) types) g x)
-  pub stays : cost ≡ 0 → (s′ ≡ s) × (t′ ≡ t)
-  pub keeps : cost ≡ 0 → code ≡ 0 → idle (planS x s) ≡ true
-  pub made : cost ≢ 0 → Makes (planS x s) i s t code cost s′ t′
 
 -- of a change that names no type: whatever types there are
 abbrev pub Untyped : Change → ℕ → ℕ → State → List ℕ → ℕ → ℕ → State → List ℕ → Type 0

@@ -8,13 +8,13 @@ ghost use mathlib.Core.Path.{_≡_};
 ghost use Prim.Native.Nat.{_+_, _*_, _≤_};
 ghost use lib.ListN.{length};
 ghost use Rattle.graph_tables.specs.Tables.{state, entryState, exitState};
-ghost use Rattle.queries.specs.Plans.{OneEdit};
 ghost use Rattle.single_changes.specs.One.{HoldsGraph, One};
 
 mod kinds; // kinds 1 and 3 to 8, one function each
 mod moves; // kinds 9 to 16
 
-// Any change but the deletion of a vertex: `row` is its row, `free` the room in the journal.
+// A change of one edit: `row` is its row, `free` the room in the journal. The deletion of a vertex is refused: its rows
+// are made elsewhere.
 pub fn make(
     head: Head,
     vertices: &mut [u32],
@@ -25,7 +25,7 @@ pub fn make(
     free: u32,
     change: Change,
 ) -> Made
-    requires { ⌜ OneEdit change × HoldsGraph (state head (now vertices) (now edges))
+    requires { ⌜ HoldsGraph (state head (now vertices) (now edges))
         × ((free ≡ 0 → ⊥) → 12 * row + 12 ≤ length (now journal)) ⌝ }
     ensures { λ r. ⌜ One change types row free (entryState head vertices edges) (now (journal .entry)) (r .code)
         (r .cost) (exitState (r .head) vertices edges) (now (journal .exit)) ⌝ }
@@ -43,7 +43,7 @@ pub fn make(
             sort,
             value,
         ),
-        Change::DeleteVertex(_) => unchanged(head, 1),
+        Change::DeleteVertex(_a) => unchanged(head, 1),
         Change::CreateEdge(n, a, z, sort) => kinds::create_edge(
             head,
             vertices,

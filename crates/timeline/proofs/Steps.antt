@@ -57,7 +57,7 @@ turn-at t g i (suc p) (x ∷ ss) l h =
     record { cost = r .cost; some = r .some; next = r .next; first = r .first; last = r .last; within = r .within }
 
 -- the first p steps' rows make Gp
-makes-current : (t : List ℕ) (g : Graph) (i p : ℕ) (ss : List Step) → StepsAt t g i ss → p ≤ length ss → graphAt p (made t g i) ss ≡ made t g (rowsTo i p ss)
+pub makes-current : (t : List ℕ) (g : Graph) (i p : ℕ) (ss : List Step) → StepsAt t g i ss → p ≤ length ss → graphAt p (made t g i) ss ≡ made t g (rowsTo i p ss)
 makes-current t g i zero ss l h = refl
 makes-current t g i (suc p) [] l h = absurd (omega arith)
 makes-current t g i (suc p) (x ∷ ss) l h = ap (λ (y : Graph). graphAt p y ss) (l .0 .makes) ∙ makes-current t g (i + x .cost) p ss (l .1) (omega arith)

@@ -60,23 +60,29 @@ fn row_crossed(u: u32, back: bool) -> u32
     u
 }
 
-// Takes one row back or carries it out.
-fn replay_row(
-    head: Head,
-    vertices: &mut [u32],
-    edges: &mut [u32],
-    journal: &[u32],
-    u: u32,
-    back: bool,
-) -> Head
-    requires { ⌜ ((b : Bounds) × (g : Graph) × (n : ℕ) × Reach back 1 u n
+// Takes one row back.
+fn undo_row(head: Head, vertices: &mut [u32], edges: &mut [u32], journal: &[u32], u: u32) -> Head
+    requires { ⌜ ((b : Bounds) × (g : Graph) × (n : ℕ) × Reach true 1 u n
         × JournalRows b (now journal) g n (state head (now vertices) (now edges)) u) ⌝ }
-    ensures { λ r. ⌜ ((b : Bounds) → (g : Graph) → (n : ℕ) → Reach back 1 u n
+    ensures { λ r. ⌜ ((b : Bounds) → (g : Graph) → (n : ℕ) → Reach true 1 u n
         → JournalRows b (now (journal .entry)) g n (entryState head vertices edges) u
-        → JournalRows b (now (journal .entry)) g n (exitState r vertices edges) (shifted back 1 u)) ⌝ }
+        → JournalRows b (now (journal .entry)) g n (exitState r vertices edges) (shifted true 1 u)) ⌝ }
 {
-    let i = row_crossed(u, back);
-    let e = journal::row_at(journal, i, back);
+    let i = row_crossed(u, true);
+    let e = journal::row_at(journal, i, true);
+    graph_tables::edits::apply_undoing(head, vertices, edges, e)
+}
+
+// Carries one row out.
+fn redo_row(head: Head, vertices: &mut [u32], edges: &mut [u32], journal: &[u32], u: u32) -> Head
+    requires { ⌜ ((b : Bounds) × (g : Graph) × (n : ℕ) × Reach false 1 u n
+        × JournalRows b (now journal) g n (state head (now vertices) (now edges)) u) ⌝ }
+    ensures { λ r. ⌜ ((b : Bounds) → (g : Graph) → (n : ℕ) → Reach false 1 u n
+        → JournalRows b (now (journal .entry)) g n (entryState head vertices edges) u
+        → JournalRows b (now (journal .entry)) g n (exitState r vertices edges) (shifted false 1 u)) ⌝ }
+{
+    let i = row_crossed(u, false);
+    let e = journal::row_at(journal, i, false);
     graph_tables::edits::apply_edit(head, vertices, edges, e)
 }
 
@@ -116,23 +122,22 @@ fn next_ahead(journal: &[u32], u: u32, a: Ahead, back: bool) -> Ahead
     }
 }
 
-// So many steps back or on, row by row: the one loop that replays, so that it is compiled as one piece with the edits
-// in it. A caller has so many steps on that way. Which words of the tables hold the graph there is left open.
-pub fn go(
+// So many steps back, row by row. A caller has so many behind it. Which words of the tables hold the graph there is
+// left open. Back and on are two loops, each with its own edits in it, so that each is compiled as one piece.
+pub fn back(
     current: Current,
     vertices: &mut [u32],
     edges: &mut [u32],
     journal: &[u32],
-    back: bool,
     steps: u32,
 ) -> Current
-    requires { ⌜ Reach back steps (current .position .place) (current .position .steps) ⌝ }
+    requires { ⌜ Reach true steps (current .position .place) (current .position .steps) ⌝ }
     requires { ⌜ ((b : Bounds) × (l : Timeline)
         × Journal b (current .position) (state (current .head) (now vertices) (now edges)) (now journal) l) ⌝ }
     ensures { λ r. ⌜ ((b : Bounds) → (l : Timeline)
         → Journal b (current .position) (entryState (current .head) vertices edges) (now (journal .entry)) l
         → Journal b (r .position) (exitState (r .head) vertices edges) (now (journal .entry))
-        (placed (shifted back steps (l .place)) l)) ⌝ }
+        (placed (shifted true steps (l .place)) l)) ⌝ }
 {
     let mut h = current.head;
     let mut u = current.position.used;
@@ -141,11 +146,42 @@ pub fn go(
         left: steps,
     };
     while unfinished(u, a) {
-        a = next_ahead(journal, u, a, back);
-        h = replay_row(h, vertices, edges, journal, u, back);
-        u = shifted_by(u, 1, back);
+        a = next_ahead(journal, u, a, true);
+        h = undo_row(h, vertices, edges, journal, u);
+        u = shifted_by(u, 1, true);
     }
-    let place = shifted_by(current.position.place, steps, back);
+    let place = shifted_by(current.position.place, steps, true);
+    lent::moved(current, h, place, u)
+}
+
+// So many steps on, as back does.
+pub fn on(
+    current: Current,
+    vertices: &mut [u32],
+    edges: &mut [u32],
+    journal: &[u32],
+    steps: u32,
+) -> Current
+    requires { ⌜ Reach false steps (current .position .place) (current .position .steps) ⌝ }
+    requires { ⌜ ((b : Bounds) × (l : Timeline)
+        × Journal b (current .position) (state (current .head) (now vertices) (now edges)) (now journal) l) ⌝ }
+    ensures { λ r. ⌜ ((b : Bounds) → (l : Timeline)
+        → Journal b (current .position) (entryState (current .head) vertices edges) (now (journal .entry)) l
+        → Journal b (r .position) (exitState (r .head) vertices edges) (now (journal .entry))
+        (placed (shifted false steps (l .place)) l)) ⌝ }
+{
+    let mut h = current.head;
+    let mut u = current.position.used;
+    let mut a = Ahead {
+        end: u,
+        left: steps,
+    };
+    while unfinished(u, a) {
+        a = next_ahead(journal, u, a, false);
+        h = redo_row(h, vertices, edges, journal, u);
+        u = shifted_by(u, 1, false);
+    }
+    let place = shifted_by(current.position.place, steps, false);
     lent::moved(current, h, place, u)
 }
 

@@ -6,7 +6,6 @@ use graph_tables::EdgeRecord;
 use graph_tables::Head;
 use graph_tables::edges::place_edge;
 use graph_tables::incidence::attach;
-use graph_tables::rows::reading_of;
 use journal::put_row;
 use journal::removal::EdgeWords;
 ghost use mathlib.Core.Path.{_≡_};
@@ -284,8 +283,7 @@ pub fn set_edge(
         0,
         0,
     );
-    let r = reading_of(kind2, decimetres2);
-    graph_tables::edges::set_edge(head, vertices, edges, n, sort2, r);
+    graph_tables::edges::set_edge_words(head, vertices, edges, n, sort2, kind2, decimetres2);
     altered(head)
 }
 

@@ -1,4 +1,4 @@
-//! The saved chart: its words, its parts, and which words load.
+//! The image of a graph: its words, its parts, and which words load.
 
 use crate::machine::{Capacities, Edge, Graph, Reading, Vertex};
 use std::collections::{BTreeSet, HashSet};
@@ -190,7 +190,7 @@ pub fn bad_by_old_record(words: &[u32], capacities: Capacities, types: u32) -> O
     }
 }
 
-/// The chart that saves as exactly these words, or did with the old record, if there is one.
+/// The graph that saves as exactly these words, or did with the old record, if there is one.
 pub fn load(words: &[u32], capacities: Capacities, types: u32) -> Option<Graph> {
     let g = read(words)?;
     (is_chart(&g, capacities, types) && (save(&g) == words || save_old(&g) == words)).then_some(g)

@@ -1,4 +1,4 @@
-//! The page of a saved chart, and the program chartpage: bytes in, bytes out.
+//! The page of an image, and the program chartpage: bytes in, bytes out.
 
 use crate::image;
 use crate::machine::{Capacities, Edge, Reading};

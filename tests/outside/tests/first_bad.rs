@@ -1,4 +1,4 @@
-//! REFERENCE 8.10 by trying: what is said to be the first bad word is held against all small charts, in both records.
+//! REFERENCE 10.12 by trying: what is said to be the first bad word is held against all small graphs, in both records.
 
 use outside::gen::Random;
 use outside::image::{self, Bad};

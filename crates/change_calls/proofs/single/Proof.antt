@@ -3,6 +3,7 @@ use mathlib.Core.Path.{refl}
 use native.Mathlib.Omega.{arith}
 use Rattle.graph_tables.specs.Tables.{state}
 use Rattle.history_calls.specs.Memory.{Memory, memory, tablesOf}
+use Rattle.single_changes.specs.One.{HoldsGraph}
 use Rattle.change_calls.proofs.Attempting.{stands-now, single-attempts}
 use Rattle.change_calls.proofs.Following.{altered-by, step-fits, change-kept, change-made}
 use borrow.Author.Needs.{needs}
@@ -13,11 +14,16 @@ use Rattle.change_calls.proofs.single.Tie as tie
 abbrev given : tie.Start → Memory
 given s = memory (s .args .vertices .now) (s .args .edges .now) (s .args .journal .now) (s .args .marks .now)
 
+-- the tables hold a graph
+held : (s : tie.Start) → HoldsGraph (tablesOf (s .args .store) (given s))
+held s =
+    let p = s .pre .1 in
+    stands-now (s .args .types) (s .args .store .current .position) (tablesOf (s .args .store) (given s)) (s .args .journal .now) (p .0) (p .1) (p .2) (p .3 .journal)
+
 make-requires : tie.Need-make-requires
 make-requires c κs =
     let s = c .before .before .before .before .before .before .before .before in
-    let p = s .pre .1 in
-    (s .pre .0, stands-now (s .args .types) (s .args .store .current .position) (tablesOf (s .args .store) (given s)) (s .args .journal .now) (p .0) (p .1) (p .2) (p .3 .journal), λ n. omega (arith, n))
+    (held s, λ n. omega (arith, n, s .pre .1 .4))
 
 returns : tie.Need-returns
 returns c =
@@ -25,7 +31,7 @@ returns c =
     let k = c .before .before .before .before .before .before .before .before .before .make in
     let s′ = state (k .result .head) (k .last .1 .0) (k .last .1 .1 .0) in
     let t′ = k .last .1 .1 .1 .0 in
-    let r = single-attempts (s .args .types) (s .args .store .current .position) (tablesOf (s .args .store) (given s)) (s .args .journal .now) _ _ s′ t′ (s .args .free) (s .pre .1 .4) (s .args .change) (s .pre .0) (k .ensures) in
+    let r = single-attempts (s .args .types) (s .args .store .current .position) (tablesOf (s .args .store) (given s)) (s .args .journal .now) _ _ s′ t′ (s .args .free) (s .pre .1 .4) (s .args .change) (s .pre .0) (held s) (k .ensures) in
     altered-by (s .args .change) (s .args .types) (s .args .free) (s .args .store) (given s) _ (c .stay .ensures) (change-kept (s .args .change) (s .args .types) (s .args .free) (s .args .store) (given s) _ _ s′ t′ r (c .before .if1 .taken))
 
 stepped-requires : tie.Need-stepped-requires
@@ -35,7 +41,7 @@ stepped-requires c κs =
     let p = s .pre .1 in
     let s′ = state (k .result .head) (k .last .1 .0) (k .last .1 .1 .0) in
     let t′ = k .last .1 .1 .1 .0 in
-    let r = single-attempts (s .args .types) (s .args .store .current .position) (tablesOf (s .args .store) (given s)) (s .args .journal .now) _ _ s′ t′ (s .args .free) (s .pre .1 .4) (s .args .change) (s .pre .0) (k .ensures) in
+    let r = single-attempts (s .args .types) (s .args .store .current .position) (tablesOf (s .args .store) (given s)) (s .args .journal .now) _ _ s′ t′ (s .args .free) (s .pre .1 .4) (s .args .change) (s .pre .0) (held s) (k .ensures) in
     step-fits (s .args .change) (s .args .types) (s .args .free) (s .args .store) (given s) _ _ s′ t′ r (p .0) (p .1) (p .2) (p .3) (c .if1 .left)
 
 returns-2 : tie.Need-returns-2
@@ -44,7 +50,7 @@ returns-2 c =
     let k = c .before .before .before .before .before .before .before .before .before .before .make in
     let s′ = state (k .result .head) (k .last .1 .0) (k .last .1 .1 .0) in
     let t′ = k .last .1 .1 .1 .0 in
-    let r = single-attempts (s .args .types) (s .args .store .current .position) (tablesOf (s .args .store) (given s)) (s .args .journal .now) _ _ s′ t′ (s .args .free) (s .pre .1 .4) (s .args .change) (s .pre .0) (k .ensures) in
+    let r = single-attempts (s .args .types) (s .args .store .current .position) (tablesOf (s .args .store) (given s)) (s .args .journal .now) _ _ s′ t′ (s .args .free) (s .pre .1 .4) (s .args .change) (s .pre .0) (held s) (k .ensures) in
     change-made (s .args .change) (s .args .types) (s .args .free) (s .args .store) (given s) _ _ s′ t′ r (c .before .before .if1 .left) _ (c .before .stepped .ensures) (c .cut .ensures)
 
 pub single-spec : {M : Type 1} → statement M

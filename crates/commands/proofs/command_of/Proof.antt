@@ -1,68 +1,69 @@
--- `commands::command_of` meets its contract.
-use mathlib.Core.Path.{ap}
-use borrow.Author.Tests.{eq-eqb, ne-eqb, le-leb, lt-leb}
-use Rattle.commands.specs.declared.Command.the-variants.{Alter, History, Ask}
-use Rattle.commands.specs.Commands.{commandOf}
-use borrow.Author.Needs.{needs}
+-- `commands::command_of` meets its contract: an arm for each kind that is named, which computes, and the rest.
+use Prim.Native.Nat.{_≤_}
+use native.Mathlib.Omega.{arith}
+use mathlib.Core.Path.{_≡_, sym}
+use Rattle.commands.specs.Commands.{changeOf, historyOf, questionOf, commandOf}
+use Rattle.commands.proofs.Unnamed.{above, unnamed}
 use Rattle.commands.proofs.command_of.Statement.{statement}
 use Rattle.commands.proofs.command_of.Tie as tie
 
-returns : tie.Need-returns
-unfolding commandOf
-returns c = rw (eq-eqb _ _ (c .if1 .taken))
-
-returns-2 : tie.Need-returns-2
-unfolding commandOf
-returns-2 c = rw (ne-eqb _ _ (c .before .before .if1 .left), le-leb _ _ (c .before .if2 .taken)) (ap Alter (c .change-of .ensures))
-
-returns-3 : tie.Need-returns-3
-unfolding commandOf
-returns-3 c = rw (ne-eqb _ _ (c .before .before .before .if1 .left), lt-leb _ _ (c .before .before .if2 .left), le-leb _ _ (c .before .if3 .taken)) (ap History (c .history-of .ensures))
-
-returns-4 : tie.Need-returns-4
-unfolding commandOf
-returns-4 c = rw (ne-eqb _ _ (c .before .before .before .if1 .left), lt-leb _ _ (c .before .before .if2 .left), lt-leb _ _ (c .before .if3 .left), le-leb _ _ (c .if4 .taken))
-
-returns-5 : tie.Need-returns-5
-unfolding commandOf
-returns-5 c = rw (ne-eqb _ _ (c .before .before .before .before .before .if1 .left), lt-leb _ _ (c .before .before .before .before .if2 .left), lt-leb _ _ (c .before .before .before .if3 .left), lt-leb _ _ (c .before .before .if4 .left), le-leb _ _ (c .before .if5 .taken)) (ap Ask (c .question-of .ensures))
-
-returns-6 : tie.Need-returns-6
-unfolding commandOf
-returns-6 c = rw (ne-eqb _ _ (c .before .before .before .before .before .before .if1 .left), lt-leb _ _ (c .before .before .before .before .before .if2 .left), lt-leb _ _ (c .before .before .before .before .if3 .left), lt-leb _ _ (c .before .before .before .if4 .left), lt-leb _ _ (c .before .before .if5 .left), le-leb _ _ (c .before .if6 .taken)) (ap History (c .history-of2 .ensures))
-
-returns-7 : tie.Need-returns-7
-unfolding commandOf
-returns-7 c = rw (ne-eqb _ _ (c .before .before .before .before .before .before .before .if1 .left), lt-leb _ _ (c .before .before .before .before .before .before .if2 .left), lt-leb _ _ (c .before .before .before .before .before .if3 .left), lt-leb _ _ (c .before .before .before .before .if4 .left), lt-leb _ _ (c .before .before .before .if5 .left), lt-leb _ _ (c .before .before .if6 .left), eq-eqb _ _ (c .before .if7 .taken)) (ap Ask (c .question-of2 .ensures))
-
-returns-8 : tie.Need-returns-8
-unfolding commandOf
-returns-8 c = rw (ne-eqb _ _ (c .before .before .before .before .before .before .before .if1 .left), lt-leb _ _ (c .before .before .before .before .before .before .if2 .left), lt-leb _ _ (c .before .before .before .before .before .if3 .left), lt-leb _ _ (c .before .before .before .before .if4 .left), lt-leb _ _ (c .before .before .before .if5 .left), lt-leb _ _ (c .before .before .if6 .left), ne-eqb _ _ (c .before .if7 .left), eq-eqb _ _ (c .if8 .taken))
-
-returns-9 : tie.Need-returns-9
-unfolding commandOf
-returns-9 c = rw (ne-eqb _ _ (c .before .before .before .before .before .before .before .before .if1 .left), lt-leb _ _ (c .before .before .before .before .before .before .before .if2 .left), lt-leb _ _ (c .before .before .before .before .before .before .if3 .left), lt-leb _ _ (c .before .before .before .before .before .if4 .left), lt-leb _ _ (c .before .before .before .before .if5 .left), lt-leb _ _ (c .before .before .before .if6 .left), ne-eqb _ _ (c .before .before .if7 .left), ne-eqb _ _ (c .before .if8 .left), eq-eqb _ _ (c .if9 .taken))
-
-returns-10 : tie.Need-returns-10
-unfolding commandOf
-returns-10 c = rw (ne-eqb _ _ (c .before .before .before .before .before .before .before .before .if1 .left), lt-leb _ _ (c .before .before .before .before .before .before .before .if2 .left), lt-leb _ _ (c .before .before .before .before .before .before .if3 .left), lt-leb _ _ (c .before .before .before .before .before .if4 .left), lt-leb _ _ (c .before .before .before .before .if5 .left), lt-leb _ _ (c .before .before .before .if6 .left), ne-eqb _ _ (c .before .before .if7 .left), ne-eqb _ _ (c .before .if8 .left), ne-eqb _ _ (c .if9 .left))
+returns-48 : tie.Need-returns-48
+returns-48 c =
+    let r = c .match .rest in
+    sym (unnamed _
+    (λ z. above (above (above (above (above (above (above (above (above (above (above (above (above (above (above (above (above (above (above (above (above (above (omega (arith, z)) (r .0 .0 .0 .0 .0 .0 .0 .0 .0 .0 .0 .0 .0 .0 .0 .0 .0 .0 .0 .0 .0 .0 .0 .0 .0 .0 .0 .0 .0 .0 .0 .0 .0 .0 .0 .0 .0 .0 .0 .0 .0 .0 .0 .0 .0 .0 .1)) (r .0 .0 .0 .0 .0 .0 .0 .0 .0 .0 .0 .0 .0 .0 .0 .0 .0 .0 .0 .0 .0 .0 .0 .0 .0 .0 .0 .0 .0 .0 .0 .0 .0 .0 .0 .0 .0 .0 .0 .0 .0 .0 .0 .0 .0 .1)) (r .0 .0 .0 .0 .0 .0 .0 .0 .0 .0 .0 .0 .0 .0 .0 .0 .0 .0 .0 .0 .0 .0 .0 .0 .0 .0 .0 .0 .0 .0 .0 .0 .0 .0 .0 .0 .0 .0 .0 .0 .0 .0 .0 .0 .1)) (r .0 .0 .0 .0 .0 .0 .0 .0 .0 .0 .0 .0 .0 .0 .0 .0 .0 .0 .0 .0 .0 .0 .0 .0 .0 .0 .0 .0 .0 .0 .0 .0 .0 .0 .0 .0 .0 .0 .0 .0 .0 .0 .0 .1)) (r .0 .0 .0 .0 .0 .0 .0 .0 .0 .0 .0 .0 .0 .0 .0 .0 .0 .0 .0 .0 .0 .0 .0 .0 .0 .0 .0 .0 .0 .0 .0 .0 .0 .0 .0 .0 .0 .0 .0 .0 .0 .0 .1)) (r .0 .0 .0 .0 .0 .0 .0 .0 .0 .0 .0 .0 .0 .0 .0 .0 .0 .0 .0 .0 .0 .0 .0 .0 .0 .0 .0 .0 .0 .0 .0 .0 .0 .0 .0 .0 .0 .0 .0 .0 .0 .1)) (r .0 .0 .0 .0 .0 .0 .0 .0 .0 .0 .0 .0 .0 .0 .0 .0 .0 .0 .0 .0 .0 .0 .0 .0 .0 .0 .0 .0 .0 .0 .0 .0 .0 .0 .0 .0 .0 .0 .0 .0 .1)) (r .0 .0 .0 .0 .0 .0 .0 .0 .0 .0 .0 .0 .0 .0 .0 .0 .0 .0 .0 .0 .0 .0 .0 .0 .0 .0 .0 .0 .0 .0 .0 .0 .0 .0 .0 .0 .0 .0 .0 .1)) (r .0 .0 .0 .0 .0 .0 .0 .0 .0 .0 .0 .0 .0 .0 .0 .0 .0 .0 .0 .0 .0 .0 .0 .0 .0 .0 .0 .0 .0 .0 .0 .0 .0 .0 .0 .0 .0 .0 .1)) (r .0 .0 .0 .0 .0 .0 .0 .0 .0 .0 .0 .0 .0 .0 .0 .0 .0 .0 .0 .0 .0 .0 .0 .0 .0 .0 .0 .0 .0 .0 .0 .0 .0 .0 .0 .0 .0 .1)) (r .0 .0 .0 .0 .0 .0 .0 .0 .0 .0 .0 .0 .0 .0 .0 .0 .0 .0 .0 .0 .0 .0 .0 .0 .0 .0 .0 .0 .0 .0 .0 .0 .0 .0 .0 .0 .1)) (r .0 .0 .0 .0 .0 .0 .0 .0 .0 .0 .0 .0 .0 .0 .0 .0 .0 .0 .0 .0 .0 .0 .0 .0 .0 .0 .0 .0 .0 .0 .0 .0 .0 .0 .0 .1)) (r .0 .0 .0 .0 .0 .0 .0 .0 .0 .0 .0 .0 .0 .0 .0 .0 .0 .0 .0 .0 .0 .0 .0 .0 .0 .0 .0 .0 .0 .0 .0 .0 .0 .0 .1)) (r .0 .0 .0 .0 .0 .0 .0 .0 .0 .0 .0 .0 .0 .0 .0 .0 .0 .0 .0 .0 .0 .0 .0 .0 .0 .0 .0 .0 .0 .0 .0 .0 .0 .1)) (r .0 .0 .0 .0 .0 .0 .0 .0 .0 .0 .0 .0 .0 .0 .0 .0 .0 .0 .0 .0 .0 .0 .0 .0 .0 .0 .0 .0 .0 .0 .0 .0 .1)) (r .0 .0 .0 .0 .0 .0 .0 .0 .0 .0 .0 .0 .0 .0 .0 .0 .0 .0 .0 .0 .0 .0 .0 .0 .0 .0 .0 .0 .0 .0 .0 .1)) (r .0 .0 .0 .0 .0 .0 .0 .0 .0 .0 .0 .0 .0 .0 .0 .0 .0 .0 .0 .0 .0 .0 .0 .0 .0 .0 .0 .0 .0 .0 .1)) (r .0 .0 .0 .0 .0 .0 .0 .0 .0 .0 .0 .0 .0 .0 .0 .0 .0 .0 .0 .0 .0 .0 .0 .0 .0 .0 .0 .0 .0 .1)) (r .0 .0 .0 .0 .0 .0 .0 .0 .0 .0 .0 .0 .0 .0 .0 .0 .0 .0 .0 .0 .0 .0 .0 .0 .0 .0 .0 .0 .1)) (r .0 .0 .0 .0 .0 .0 .0 .0 .0 .0 .0 .0 .0 .0 .0 .0 .0 .0 .0 .0 .0 .0 .0 .0 .0 .0 .0 .1)) (r .0 .0 .0 .0 .0 .0 .0 .0 .0 .0 .0 .0 .0 .0 .0 .0 .0 .0 .0 .0 .0 .0 .0 .0 .0 .0 .1)) (r .0 .0 .0 .0 .0 .0 .0 .0 .0 .0 .0 .0 .0 .0 .0 .0 .0 .0 .0 .0 .0 .0 .0 .0 .0 .1))
+    (λ h. above (above (above (above (above (above (above (above (above (above (above (above (above (above (above (above (above (above (above (above (above (above (above (above (above (h) (r .0 .0 .0 .0 .0 .0 .0 .0 .0 .0 .0 .0 .0 .0 .0 .0 .0 .0 .0 .0 .0 .0 .0 .0 .1)) (r .0 .0 .0 .0 .0 .0 .0 .0 .0 .0 .0 .0 .0 .0 .0 .0 .0 .0 .0 .0 .0 .0 .0 .1)) (r .0 .0 .0 .0 .0 .0 .0 .0 .0 .0 .0 .0 .0 .0 .0 .0 .0 .0 .0 .0 .0 .0 .1)) (r .0 .0 .0 .0 .0 .0 .0 .0 .0 .0 .0 .0 .0 .0 .0 .0 .0 .0 .0 .0 .0 .1)) (r .0 .0 .0 .0 .0 .0 .0 .0 .0 .0 .0 .0 .0 .0 .0 .0 .0 .0 .0 .0 .1)) (r .0 .0 .0 .0 .0 .0 .0 .0 .0 .0 .0 .0 .0 .0 .0 .0 .0 .0 .0 .1)) (r .0 .0 .0 .0 .0 .0 .0 .0 .0 .0 .0 .0 .0 .0 .0 .0 .0 .0 .1)) (r .0 .0 .0 .0 .0 .0 .0 .0 .0 .0 .0 .0 .0 .0 .0 .0 .0 .1)) (r .0 .0 .0 .0 .0 .0 .0 .0 .0 .0 .0 .0 .0 .0 .0 .0 .1)) (r .0 .0 .0 .0 .0 .0 .0 .0 .0 .0 .0 .0 .0 .0 .0 .1)) (r .0 .0 .0 .0 .0 .0 .0 .0 .0 .0 .0 .0 .0 .0 .1)) (r .0 .0 .0 .0 .0 .0 .0 .0 .0 .0 .0 .0 .0 .1)) (r .0 .0 .0 .0 .0 .0 .0 .0 .0 .0 .0 .0 .1)) (r .0 .0 .0 .0 .0 .0 .0 .0 .0 .0 .0 .1)) (r .0 .0 .0 .0 .0 .0 .0 .0 .0 .0 .1)) (r .0 .0 .0 .0 .0 .0 .0 .0 .0 .1)) (r .0 .0 .0 .0 .0 .0 .0 .0 .1)) (r .0 .0 .0 .0 .0 .0 .0 .1)) (r .0 .0 .0 .0 .0 .0 .1)) (r .0 .0 .0 .0 .0 .1)) (r .0 .0 .0 .0 .1)) (r .0 .0 .0 .1)) (r .0 .0 .1)) (r .0 .1)) (r .1)))
 
 pub command-of-spec : {M : Type 1} → statement M
+unfolding changeOf historyOf questionOf commandOf
 command-of-spec =
     tie.close
     (tie.spec
-    returns
-    (λ c κs. search needs)
-    returns-2
-    (λ c κs. search needs)
-    returns-3
-    returns-4
-    (λ c κs. search needs)
-    returns-5
-    (λ c κs. search needs)
-    returns-6
-    (λ c κs. search needs)
-    returns-7
-    returns-8
-    returns-9
-    returns-10)
+    (λ c. rw (c .match .keys1))
+    (λ c. rw (c .match .keys2))
+    (λ c. rw (c .match .keys3))
+    (λ c. rw (c .match .keys4))
+    (λ c. rw (c .match .keys5))
+    (λ c. rw (c .match .keys6))
+    (λ c. rw (c .match .keys7))
+    (λ c. rw (c .match .keys8))
+    (λ c. rw (c .match .keys9))
+    (λ c. rw (c .match .keys10))
+    (λ c. rw (c .match .keys11))
+    (λ c. rw (c .match .keys12))
+    (λ c. rw (c .match .keys13))
+    (λ c. rw (c .match .keys14))
+    (λ c. rw (c .match .keys15))
+    (λ c. rw (c .match .keys16))
+    (λ c. rw (c .match .keys17))
+    (λ c. rw (c .match .keys18))
+    (λ c. rw (c .match .keys19))
+    (λ c. rw (c .match .keys20))
+    (λ c. rw (c .match .keys21))
+    (λ c. rw (c .match .keys22))
+    (λ c. rw (c .match .keys23))
+    (λ c. rw (c .match .keys24))
+    (λ c. rw (c .match .keys25))
+    (λ c. rw (c .match .keys26))
+    (λ c. rw (c .match .keys27))
+    (λ c. rw (c .match .keys28))
+    (λ c. rw (c .match .keys29))
+    (λ c. rw (c .match .keys30))
+    (λ c. rw (c .match .keys31))
+    (λ c. rw (c .match .keys32))
+    (λ c. rw (c .match .keys33))
+    (λ c. rw (c .match .keys34))
+    (λ c. rw (c .match .keys35))
+    (λ c. rw (c .match .keys36))
+    (λ c. rw (c .match .keys37))
+    (λ c. rw (c .match .keys38))
+    (λ c. rw (c .match .keys39))
+    (λ c. rw (c .match .keys40))
+    (λ c. rw (c .match .keys41))
+    (λ c. rw (c .match .keys42))
+    (λ c. rw (c .match .keys43))
+    (λ c. rw (c .match .keys44))
+    (λ c. rw (c .match .keys45))
+    (λ c. rw (c .match .keys46))
+    (λ c. rw (c .match .keys47))
+    returns-48)

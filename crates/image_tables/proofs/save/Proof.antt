@@ -19,28 +19,28 @@ asked s = s .pre
 header-requires : tie.Need-header-requires
 unfolding held
 header-requires c κs =
-    let s = c .before .before .before .before .before .before in
+    let s = c .before .before .before .before in
     let n = length (s .args .out .now) in
     (few-v (held s) n (asked s), few-e (held s) n (asked s), omega (arith, lengths (held s) n (asked s) .room))
 
 edges-requires : tie.Need-edges-requires
 unfolding held
 edges-requires c κs =
-    let s = c .before .before .before .before .before .before .before .before .before .before .before in
+    let s = c .before .before .before .before .before .before .before .before .before in
     let n = length (s .args .out .now) in
     let l = lengths (held s) n (asked s) in (
       some-e (held s) n (asked s),
       omega (arith, asked s .sized .edges, asked s .sized .fewEdges),
-      omega (arith, c .edge-offset .ensures .0, l .edges, l .room, c .before .before .before .before .header .kept),
+      omega (arith, c .edge-offset .ensures, l .edges, l .room, c .before .before .before .before .header .kept),
     )
 
 vertices-requires : tie.Need-vertices-requires
 unfolding held
 vertices-requires c κs =
-    let s = c .before .before .before .before .before .before .before .before .before .before .before .before .before .before .before .before in
+    let s = c .before .before .before .before .before .before .before .before .before .before .before .before .before .before in
     let n = length (s .args .out .now) in
     let l = lengths (held s) n (asked s) in
-    let o = c .incidence-offset .ensures .0 in (
+    let o = c .incidence-offset .ensures in (
       some-v (held s) n (asked s),
       some-i (held s) n (asked s),
       omega (arith, o, l .vertices),
@@ -56,15 +56,13 @@ returns c =
     let e = c .before .before .before .before .before .before .before .edges in
     let o = c .before .before .before .before .before .before .before .before .edge-offset in
     let h = c .before .before .before .before .before .before .before .before .before .before .before .before .header in
-    let s = c .before .before .before .before .before .before .before .before .before .before .before .before .before .before .before .before .before .before .before in
-    saved-by (held s) (s .args .out .now) (asked s) (h .last .0) (e .last .1 .1 .0) (v .last .1 .1 .1 .0) (o .result) (i .result) (v .result) (o .ensures .0) (i .ensures .0) (h .ensures) (e .ensures) (v .ensures)
+    let s = c .before .before .before .before .before .before .before .before .before .before .before .before .before .before .before .before .before in
+    saved-by (held s) (s .args .out .now) (asked s) (h .last .0) (e .last .1 .1 .0) (v .last .1 .1 .1 .0) (o .result) (i .result) (v .result) (o .ensures) (i .ensures) (h .ensures) (e .ensures) (v .ensures)
 
 pub save-spec : {M : Type 1} → statement M
 save-spec =
     tie.close
     (tie.spec
-    (λ c. search needs)
-    (λ c. search needs)
     header-requires
     (λ c κs. search needs)
     edges-requires

@@ -15,7 +15,7 @@ place-requires c κs =
 place-requires-2 : tie.Need-place-requires-2
 place-requires-2 c κs =
     let s = c .before .before .before in
-    (s .pre .back .valid, (s .pre .node, (s .pre .back .here, omega arith)))
+    (s .pre .back .valid, (s .pre .back .node, (s .pre .back .here, omega arith)))
 
 slice-write-table-2 : tie.Need-slice-write-table-2
 slice-write-table-2 c = simp length-set (omega (arith, c .before .place2 .ensures .1))

@@ -1,4 +1,5 @@
--- `ring::before` meets its contract. The loop's invariant: b is behind a exactly where it is in the rest of the list, which starts with x.
+-- `linked_lists::before` meets its contract. The loop's invariant: b is behind a exactly where it is in the rest of the
+-- list, which starts with x.
 -- The measure is the length of that rest.
 use lib.ListN.{length}
 use Rattle.linked_lists.specs.Links.{nodes}

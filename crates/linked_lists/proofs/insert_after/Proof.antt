@@ -1,29 +1,62 @@
--- `ring::insert_after` meets its contract, by what `next` and its two calls of `join` ensure.
-use mathlib.Core.Path.{refl}
-use Rattle.linked_lists.proofs.Steps.{inside-by, insert-steps}
+-- `linked_lists::insert_after` meets its contract, by what `next`, `put_next` and `put_prev` ensure, and two stores.
+use Prim.Native.Nat.{_+_}
+use mathlib.Core.Path.{_∙_}
+use native.Mathlib.Omega.{arith}
+use lib.ListN.{set, length-set}
+use Rattle.linked_lists.proofs.Steps.{inside-by, put-steps}
 use borrow.Author.Needs.{needs}
 use Rattle.linked_lists.proofs.insert_after.Statement.{statement}
 use Rattle.linked_lists.proofs.insert_after.Tie as tie
 
-join-requires-2 : tie.Need-join-requires-2
-join-requires-2 c κs =
+place-requires : tie.Need-place-requires
+place-requires c κs =
+    let s = c .before .before .before in
+    (s .pre .valid, (s .pre .node, (s .pre .here, omega arith)))
+
+slice-write-table : tie.Need-slice-write-table
+slice-write-table c = omega (arith, c .before .before .before .before .place .ensures .1, c .before .before .put-next .kept .0)
+
+slice-write-table-2 : tie.Need-slice-write-table-2
+slice-write-table-2 c = simp length-set (omega (arith, c .before .before .before .before .place .ensures .1, c .before .before .put-next .kept .0))
+
+put-prev-requires : tie.Need-put-prev-requires
+put-prev-requires c κs =
     let d = c .before .before .before in
-    let n = d .before .before in
-    let s = n .before .before .before in (
-      s .pre .valid,
-      (
-        inside-by (s .args .layout) refl (d .join .kept .0) (s .pre .here),
-        inside-by (s .args .layout) (n .next .ensures) (d .join .kept .0) (s .pre .next),
-      ),
-    )
+    let n = d .before .before .before in
+    let s = n .before .before .before in
+    (s .pre .valid, simp length-set (inside-by (s .args .layout) (n .next .ensures) (d .put-next .kept .0) (s .pre .next)))
+
+same-length : tie.Need-same-length
+same-length c =
+    let d = c .before .before .before .before .before .before in
+    let a = d .before .before in
+    let s = a .before .before .before .before in
+    c .before .before .put-prev .kept .0
+    ∙ length-set (set (d .put-next .last .0) (a .place .result) (s .args .p)) (a .place .result + 1) (a .before .next .result)
+    ∙ length-set (d .put-next .last .0) (a .place .result) (s .args .p)
+    ∙ d .put-next .kept .0
 
 returns : tie.Need-returns
 returns c =
     let b = c .before .before in
-    let a = b .before .before .before .before in
-    let n = a .before .before in
-    insert-steps _ _ _ _ _ (n .next .ensures) (a .join .ensures) (b .join2 .ensures)
+    let d = b .before .before .before .before in
+    let a = d .before .before in
+    let n = a .before in
+    let s = n .before .before .before in
+    put-steps (s .args .layout) (s .args .table .now) (s .args .ends) (s .args .x) (s .pre .node) (a .place .ensures .2) _ (a .place .ensures .0) (n .next .ensures) (d .put-next .ensures) (b .put-prev .ensures)
 
 pub insert-after-spec : {M : Type 1} → statement M
 insert-after-spec =
-    tie.close (tie.spec (λ c κs. search needs) (λ c κs. search needs) join-requires-2 (λ c. search needs) returns)
+    tie.close
+    (tie.spec
+    (λ c κs. search needs)
+    place-requires
+    (λ c κs. search needs)
+    (λ c. search needs)
+    slice-write-table
+    (λ c. search needs)
+    (λ c. search needs)
+    slice-write-table-2
+    put-prev-requires
+    same-length
+    returns)

@@ -1,4 +1,4 @@
--- `ring::join` meets its contract, by what `put_next` and `put_prev` ensure.
+-- `linked_lists::join` meets its contract, by what `put_next` and `put_prev` ensure.
 use mathlib.Core.Path.{refl}
 use Rattle.linked_lists.proofs.Steps.{inside-by, join-steps}
 use borrow.Author.Needs.{needs}

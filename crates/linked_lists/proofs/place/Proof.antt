@@ -1,4 +1,4 @@
--- `ring::place` meets its contract. That the product fits is `product`, from the table's length.
+-- `linked_lists::place` meets its contract. That the product fits is `product`, from the table's length.
 use mathlib.Core.Path.{refl}
 use Rattle.linked_lists.proofs.Words.{product}
 use Rattle.linked_lists.proofs.place.Statement.{statement}

@@ -1,4 +1,4 @@
--- `ring::prev` meets its contract: at 0 the answer is read off the ends, elsewhere off the table.
+-- `linked_lists::prev` meets its contract: at 0 the answer is read off the ends, elsewhere off the table.
 use native.Mathlib.Omega.{arith}
 use borrow.Author.Tests.{eq-eqb, ne-eqb, le-ltb}
 use Rattle.linked_lists.specs.Links.{linkOf}

@@ -1,4 +1,4 @@
--- `ring::put_next` meets its contract: at 0 the ends change, elsewhere one word of the table.
+-- `linked_lists::put_next` meets its contract: at 0 the ends change, elsewhere one word of the table.
 use native.Mathlib.Omega.{arith}
 use mathlib.Core.Path.{refl}
 use borrow.Author.Tests.{eq-eqb, ne-eqb, le-ltb}

@@ -1,28 +1,44 @@
--- `ring::unlink` meets its contract, by what `prev`, `next` and `join` ensure.
+-- `linked_lists::unlink` meets its contract, by the two words of the node and what `join` ensures.
 use mathlib.Core.Path.{refl}
-use Rattle.linked_lists.proofs.Steps.{inside-by, unlink-steps}
+use native.Mathlib.Omega.{arith}
+use Rattle.linked_lists.proofs.Steps.{inside-by, unlink-steps, word-prev, word-next}
 use borrow.Author.Needs.{needs}
 use Rattle.linked_lists.proofs.unlink.Statement.{statement}
 use Rattle.linked_lists.proofs.unlink.Tie as tie
 
+place-requires : tie.Need-place-requires
+place-requires c κs =
+    let s = c .before in
+    (s .pre .valid, (s .pre .node, (s .pre .here, omega arith)))
+
 join-requires : tie.Need-join-requires
 join-requires c κs =
-    let n = c .before in
-    let p = n .before .before in
-    let s = p .before .before .before in (
+    let a = c .before .before .before in
+    let s = a .before .before in (
       s .pre .valid,
       (
-        inside-by (s .args .layout) (p .prev .ensures) refl (s .pre .prev),
-        inside-by (s .args .layout) (n .next .ensures) refl (s .pre .next),
+        inside-by (s .args .layout) (word-prev (s .args .layout) (s .args .table .now) (s .args .ends) (s .args .x) (s .pre .node) (a .place .ensures .2) (a .place .ensures .0)) refl (s .pre .prev),
+        inside-by (s .args .layout) (word-next (s .args .layout) (s .args .table .now) (s .args .ends) (s .args .x) (s .pre .node) (a .place .ensures .2) (a .place .ensures .0)) refl (s .pre .next),
       ),
     )
 
 returns : tie.Need-returns
 returns c =
     let j = c .before .before in
-    let n = j .before .before in
-    let p = n .before .before in
-    unlink-steps _ _ _ _ (p .prev .ensures) (n .next .ensures) (j .join .ensures)
+    let a = j .before .before .before .before in
+    let s = a .before .before in
+    unlink-steps _ _ _ _ (word-prev (s .args .layout) (s .args .table .now) (s .args .ends) (s .args .x) (s .pre .node) (a .place .ensures .2) (a .place .ensures .0)) (word-next (s .args .layout) (s .args .table .now) (s .args .ends) (s .args .x) (s .pre .node) (a .place .ensures .2) (a .place .ensures .0)) (j .join .ensures)
 
 pub unlink-spec : {M : Type 1} → statement M
-unlink-spec = tie.close (tie.spec (λ c κs. search needs) (λ c κs. search needs) join-requires (λ c. search needs) returns)
+unlink-spec =
+    tie.close
+    (tie.spec
+    place-requires
+    (λ c. search needs)
+    (λ c. search needs)
+    (λ c. search needs)
+    (λ c. search needs)
+    (λ c. search needs)
+    join-requires
+    (λ c. search needs)
+    returns)

@@ -9,12 +9,12 @@ use Rattle.page.proofs.print.Tie as tie
 
 -- past the first test the words load
 loads : (c : tie.Else1) → loadCode pageBounds (c .before .before .before .before .before .args .words .now) ≡ 0
-loads c = sym (c .before .code-of .ensures ∙ ap codeOf (c .before .before .check .ensures)) ∙ c .if1 .left
+loads c = sym (c .before .code-of .ensures ∙ ap codeOf (c .before .before .check-saved .ensures)) ∙ c .if1 .left
 
 returns : tie.Need-returns
 returns c =
     let k = c .before .before in
-    let v = k .before .check .ensures in
+    let v = k .before .check-saved .ensures in
     let a = k .before .before .before .before .args in
     page-refused (a .words .now) (a .page .now) _ _ (k .code-of .ensures ∙ ap codeOf v) (c .offset-of .ensures ∙ ap offsetOf v) (c .before .if1 .taken)
 

@@ -6,10 +6,11 @@ use lib.ListN.{length, take, drop, length-drop}
 use lib.Seq.{sets}
 use Prim.Native.Nat.{_+_, _-_, _*_, _≤_, _<_}
 use Rattle.image.specs.Image.{edgesFrom}
+use Rattle.image.proofs.EdgePart.{from-length}
 use Rattle.decimal.proofs.Stores.{rest-all, stored-left}
 use Rattle.page.specs.Rows.{edgeRead, rowsFrom}
 use Rattle.page.proofs.RowLaws.{row-length, each-length}
-use Rattle.page.proofs.Turns.{from-length, rows-turn, rows-end, rows-start}
+use Rattle.page.proofs.Turns.{rows-turn, rows-end, rows-start}
 use Rattle.page.proofs.rows.Statement.{statement}
 use Rattle.page.proofs.rows.Tie as tie
 

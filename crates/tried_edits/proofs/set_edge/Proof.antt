@@ -1,7 +1,5 @@
 -- `tried_edits::set_edge` meets its contract.
-use mathlib.Core.Path.{ap, sym, _∙_}
-use Rattle.graph.specs.declared.Reading.{Reading}
-use Rattle.graph_tables.specs.Tables.{state, setEdgeS}
+use mathlib.Core.Path.{sym, _∙_}
 use Rattle.tried_edits.proofs.Tries.{tries-kept, tries-full, tries-made, edge-idle}
 use Rattle.journal.proofs.RowLaws.{rowed-by, edge-words}
 use borrow.Author.Needs.{needs}
@@ -22,12 +20,12 @@ returns-2 c =
 
 returns-3 : tie.Need-returns-3
 returns-3 c =
-    let s = c .before .before .before .before .before .before .before .before .before .before .before .before .before .before .before .before in
+    let s = c .before .before .before .before .before .before .before .before .before .before .before .before .before .before .before in
     let a = s .args in
-    tries-made (edge-idle (a .n) (a .sort) (a .sort2) (a .kind) (a .decimetres) (a .kind2) (a .decimetres2) (s .pre .1) (s .pre .2) ∙ sym (c .before .before .before .before .before .before .before .before .before .before .before .before .same-edge .ensures) ∙ c .before .before .before .before .before .before .before .before .before .before .before .if1 .left) (c .before .before .before .before .before .before .before .before .before .before .if2 .left)
+    tries-made (edge-idle (a .n) (a .sort) (a .sort2) (a .kind) (a .decimetres) (a .kind2) (a .decimetres2) (s .pre .1) (s .pre .2) ∙ sym (c .before .before .before .before .before .before .before .before .before .before .before .same-edge .ensures) ∙ c .before .before .before .before .before .before .before .before .before .before .if1 .left) (c .before .before .before .before .before .before .before .before .before .if2 .left)
     (record {
-      state = c .before .before .before .set-edge .ensures ∙ ap (λ (r : Reading). setEdgeS (a .n) (a .sort2) r (state (a .head) (a .vertices .now) (a .edges .now))) (c .before .before .before .before .before .reading-of .ensures);
-      row = rowed-by _ _ _ _ _ _ (edge-words (c .before .before .before .before .before .before .before .before .before .before .before .before .before .before .before .before .args .n) (c .before .before .before .before .before .before .before .before .before .before .before .before .before .before .before .before .args .sort) (c .before .before .before .before .before .before .before .before .before .before .before .before .before .before .before .before .args .kind) (c .before .before .before .before .before .before .before .before .before .before .before .before .before .before .before .before .args .decimetres) (c .before .before .before .before .before .before .before .before .before .before .before .before .before .before .before .before .args .sort2) (c .before .before .before .before .before .before .before .before .before .before .before .before .before .before .before .before .args .kind2) (c .before .before .before .before .before .before .before .before .before .before .before .before .before .before .before .before .args .decimetres2) (c .before .before .before .before .before .before .before .before .before .before .before .before .before .before .before .before .pre .1) (c .before .before .before .before .before .before .before .before .before .before .before .before .before .before .before .before .pre .2)) (c .before .before .before .before .before .before .before .before .put-row .ensures);
+      state = c .before .before .before .set-edge-words .ensures;
+      row = rowed-by _ _ _ _ _ _ (edge-words (a .n) (a .sort) (a .kind) (a .decimetres) (a .sort2) (a .kind2) (a .decimetres2) (s .pre .1) (s .pre .2)) (c .before .before .before .before .before .before .before .put-row .ensures);
     }) (c .altered .ensures)
 
 pub set-edge-spec : {M : Type 1} → statement M
@@ -40,7 +38,6 @@ set-edge-spec =
     (λ c κs. search needs)
     returns-2
     (λ c κs. c .before .before .before .before .before .before .before .pre .3 (c .before .if2 .left))
-    (λ c κs. search needs)
     (λ c κs. search needs)
     (λ c κs. search needs)
     (λ c. search needs)

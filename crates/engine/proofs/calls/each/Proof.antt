@@ -72,7 +72,7 @@ loop-again c =
       s .kept .1 .1 .1 .1 .0 ∙ l .inv .4,
       simp length-set (l .inv .5),
       λ w m h.
-          rw (c .same .ensures) (after-calls-more w m _ _ _ _ _ _ (a .calls .now) (l .k) _ (s .result) _ (l .inv .6 w m h) (c .before .before .before .before .before .before .before .before .before .before .before .before .before .before .decode .ensures) (λ w m h. at-capacity _ _ (capacity-is w m _ _ _ _ h _ (sym (l .inv .3))) (s .ensures .0 w m h))
+          rw (c .same .ensures) (after-calls-more w m _ _ _ _ _ _ (a .calls .now) (l .k) _ (s .result) _ (l .inv .6 w m h) (c .before .before .before .before .before .before .before .before .before .before .before .before .before .before .decode .ensures) (let g = l .inv .6 w m h .after in at-capacity _ _ (capacity-is w _ _ _ _ _ g _ (sym (l .inv .3))) (s .ensures .0 w _ g))
           (omega (arith, c .before .before .before .before .before .before .before .before .before .before .before .before .before .before .before .before)) (omega (arith, c .before .before .before .before .before .before .before .before .before .before .before .before .before .before .before .before))),
     )
 

@@ -37,14 +37,14 @@ returns-2 : tie.Need-returns-2
 returns-2 c =
     λ l h. rows-refused l _ _ _ _ _ _ _ _ h (lengths-pass (c .before .before .before)) (verdict-bad _ _ (c .before .before .check-rows .ensures) (c .enum-told2 .given .1))
 
+cast-v : tie.Need-cast-v
+cast-v c = omega (arith, limits (c .before .before .before) .0)
+
+cast-e : tie.Need-cast-e
+cast-e c = omega (arith, limits (c .before .before .before) .1)
+
 cast-check : tie.Need-cast-check
-cast-check c = omega (arith, limits (c .before .before .before) .0)
-
-cast-check-2 : tie.Need-cast-check-2
-cast-check-2 c = omega (arith, limits (c .before .before .before) .1)
-
-cast-check-3 : tie.Need-cast-check-3
-cast-check-3 c = omega (arith, good-facts (c .before .before .before .before .before .before .before .args .rows .now) (rows-good c) .few)
+cast-check c = omega (arith, good-facts (c .before .before .before .before .before .before .before .args .rows .now) (rows-good c) .few)
 
 -- capacities that 103 lets pass are checked as they are
 found : (c : tie.After-check) → let a = c .before .before .before .before .before .before .before .before .args in
@@ -62,16 +62,13 @@ returns-3 c =
     let r = start-refused l _ _ _ _ _ _ _ _ h (lengths-pass (e .before .before .before)) (rows-good e) (f .before .check .result) (found (f .before)) (λ z. c .before .if2 .taken (f .code-of .ensures ∙ z)) in
     (f .code-of .ensures ∙ r .0, c .offset-of .ensures ∙ r .1)
 
-length-requires : tie.Need-length-requires
-length-requires c κs = let k = limits (c .before .before .before .before .before .before) in (omega arith, omega (arith, k .0), omega (arith, k .1))
-
 returns-4 : tie.Need-returns-4
 returns-4 c =
     let f = c .before .before .before in
     let e = f .before .before in
     λ l h.
     image-refused l _ _ _ _ _ _ _ _ h (lengths-pass (e .before .before .before)) (rows-good e) (f .before .check .result) (found (f .before)) (sym (f .code-of .ensures) ∙ c .before .before .if2 .left)
-    (omega (arith, c .if3 .taken, c .before .length .ensures .0))
+    (omega (arith, c .if3 .taken, c .before .length .ensures))
 
 returns-5 : tie.Need-returns-5
 returns-5 c =
@@ -79,7 +76,7 @@ returns-5 c =
     let e = f .before .before in
     λ l h.
     none-refused l _ _ _ _ _ _ _ _ h (lengths-pass (e .before .before .before)) (rows-good e) (f .before .check .result) (found (f .before)) (sym (f .code-of .ensures) ∙ c .before .before .if2 .left)
-    (omega (arith, c .if3 .left, c .before .length .ensures .0))
+    (omega (arith, c .if3 .left, c .before .length .ensures))
 
 pub refusal-spec : {M : Type 1} → statement M
 refusal-spec =
@@ -91,13 +88,13 @@ refusal-spec =
     (λ c. search needs)
     (λ c. search needs)
     returns-2
+    cast-v
+    cast-e
     cast-check
-    cast-check-2
-    cast-check-3
     (λ c κs. search needs)
     (λ c κs. search needs)
     (λ c κs. search needs)
     returns-3
-    length-requires
+    (λ c κs. search needs)
     returns-4
     returns-5)

@@ -32,7 +32,7 @@ returns c =
     let t = told d in
     let n = c .before .if1 .taken in
     let ran-as = run-refused (given d) _ _ (t .0) (t .1) n in
-    (ran-as, (λ z. (refl, refl, refl), (meets-demand-1 (given d) _ _ _ ran-as _ (λ z. (refl, refl, refl)), (meets-demand-2 (given d) _ _ _ ran-as (words d), λ e. absurd (n (t .0 ∙ e))))))
+    (ran-as, (λ z. (refl, refl, refl), (meets-demand-1 (given d) _ _ _ ran-as _ (λ z. (refl, refl, refl)), (meets-demand-2 (given d) _ _ _ ran-as (words d), λ z. absurd (n z)))))
 
 accepted-requires : tie.Need-accepted-requires
 accepted-requires c κs = sym (told (c .before .before .before .before .before .before .before) .0) ∙ c .before .before .before .before .before .if1 .left
@@ -42,7 +42,7 @@ returns-2 c =
     let d = c .before .before .before .before .before .before .before .before .before .before .before .before .before .before .before .before .before .before in
     let e = sym (told d .0) ∙ c .before .before .before .before .before .before .before .before .before .before .before .before .before .before .before .before .if1 .left in
     let ran-as = run-accepted (given d) _ e (c .before .before .before .before .before .before .before .before .before .before .accepted .ensures) in
-    (ran-as, (λ n. absurd (n e), (meets-demand-1 (given d) _ _ _ ran-as _ (λ n. absurd (n e)), (meets-demand-2 (given d) _ _ _ ran-as (words d), meets-demand-3 (given d) _ _ _ ran-as))))
+    (ran-as, (λ n. absurd (n e), (meets-demand-1 (given d) _ _ _ ran-as _ (λ n. absurd (n e)), (meets-demand-2 (given d) _ _ _ ran-as (words d), λ z. meets-demand-3 (given d) _ _ _ ran-as e))))
 
 pub run-spec : {M : Type 1} → statement M
 run-spec =

@@ -10,7 +10,7 @@ returns c =
     let f = t .before .before .before .before .before .before in
     let a = f .before .before .before .before .before .before .before in
     let s = a .before .before .before .before .before .before .args in
-    edge-did (s .part .now) (s .at) (s .head) (s .vertices .now) (s .edges .now) (a .append .ensures) (f .fields .ensures) (t .put-this .ensures)
+    edge-did (s .part .now) (s .at) (s .head) (s .vertices .now) (s .edges .now) (a .append .ensures) (f .put-fields .ensures) (t .put-this .ensures)
 
 pub edge-spec : {M : Type 1} → statement M
 edge-spec =

@@ -13,7 +13,7 @@ returns c =
     let second = c .before .before .three2 in
     let words = edgeOffset vertexSize (a .v) ∷ incidenceOffset vertexSize (a .v) (a .e) ∷ imageLength (a .v) (a .e) ∷ [] in
     then-by (a .out .now) 0 3 (a .v ∷ a .e ∷ vertexOffset ∷ []) words (c .before .before .before .before .before .before .three .ensures) refl
-    (rw (c .before .before .before .before .before .before .before .before .before .before .edge-offset .ensures .0, c .before .before .before .before .before .before .before .before .before .incidence-offset .ensures .0, c .before .before .before .before .before .before .before .before .length .ensures .0) at (second .ensures))
+    (rw (c .before .before .before .before .before .before .before .before .before .before .edge-offset .ensures, c .before .before .before .before .before .before .before .before .before .incidence-offset .ensures, c .before .before .before .before .before .before .before .before .length .ensures) at (second .ensures))
 
 pub header-spec : {M : Type 1} → statement M
 header-spec =

@@ -1,9 +1,9 @@
--- `image::layout::edge_offset` meets its contract.
+-- `image::by_size::edge_offset` meets its contract.
 use mathlib.Core.Path.{refl}
 use native.Mathlib.Omega.{arith}
 use Rattle.image.proofs.Sizes.{size-times}
-use Rattle.image.proofs.layout.edge_offset.Statement.{statement}
-use Rattle.image.proofs.layout.edge_offset.Tie as tie
+use Rattle.image.proofs.by_size.edge_offset.Statement.{statement}
+use Rattle.image.proofs.by_size.edge_offset.Tie as tie
 
 mul-result : tie.Need-mul-result
 mul-result c = omega (arith, size-times (c .args .size) (c .args .v) (c .pre .0))
