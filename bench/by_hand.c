@@ -1,6 +1,6 @@
 /*
  * The engine's data structure by hand in C, for comparison of speed: doubly linked lists in lent tables, a journal of
- * edits, marks as a 64-bit set. It answers what the engine answers.
+ * edits, marks as a 64-bit set with places and names. It answers what the engine answers.
  */
 #include "../include/futtockfig.h"
 
@@ -32,6 +32,7 @@ struct store {
     u32 place, steps, used; /* used: rows of steps 1 to place */
     u64 marks;
     u32 places[64];
+    u32 names[64][2]; /* of standing marks; 0 0 is none */
     u64 below[64];
 };
 
@@ -180,6 +181,23 @@ static void redo(struct store *s) {
     u32 cost = s->journal[12 * (size_t)s->used + 1];
     for (u32 i = 0; i < cost; i++) redo_row(s, s->journal + 12 * (size_t)s->used++);
     s->place++;
+}
+
+static inline u32 go_to(struct store *s, u32 to) {
+    u32 from = s->place;
+    while (s->place > to) undo(s);
+    while (s->place < to) redo(s);
+    return from > to ? from - to : to - from;
+}
+
+/* The standing mark that has the name, or 0. */
+static inline u32 holder(const struct store *s, u32 first, u32 second) {
+    if (!(first | second)) return 0;
+    for (u64 left = s->marks; left; left &= left - 1) {
+        int i = __builtin_ctzll(left);
+        if (s->names[i][0] == first && s->names[i][1] == second) return (u32)i + 1;
+    }
+    return 0;
 }
 
 /* A step begins: the steps after the place and the marks above it are cut. */
@@ -415,6 +433,7 @@ static inline void step(struct store *s, const u32 *call, u32 *answer) {
         if (STANDS(a)) REFUSE(12);
         s->marks |= (u64)1 << (a - 1);
         s->places[a - 1] = s->place;
+        s->names[a - 1][0] = s->names[a - 1][1] = 0;
         ANSWER(0);
     case 18:
         NEED_MARK(a);
@@ -429,14 +448,10 @@ static inline void step(struct store *s, const u32 *call, u32 *answer) {
         if (s->place == s->steps) REFUSE(14);
         redo(s);
         ANSWER(1);
-    case 21: {
+    case 21:
         NEED_MARK(a);
         if (!STANDS(a)) REFUSE(13);
-        u32 from = s->place, to = s->places[a - 1];
-        while (s->place > to) undo(s);
-        while (s->place < to) redo(s);
-        ANSWER(from > to ? from - to : to - from);
-    }
+        ANSWER(go_to(s, s->places[a - 1]));
     case 22: {
         u32 place = s->place;
         s->place = s->steps = s->used = 0;
@@ -514,6 +529,20 @@ static inline void step(struct store *s, const u32 *call, u32 *answer) {
         if (call[0] == 53) ANSWER(range);
         if (c > 2) REFUSE(17);
         ANSWER(c == 2 ? range / 200 : range / 250);
+    }
+    case 56: {
+        NEED_MARK(a);
+        if (!STANDS(a)) REFUSE(13);
+        u32 mark = holder(s, b, c);
+        if (!(b | c) || (mark && mark != a)) REFUSE(18);
+        s->names[a - 1][0] = b;
+        s->names[a - 1][1] = c;
+        ANSWER(0);
+    }
+    case 57: {
+        u32 mark = holder(s, a, b);
+        if (!mark) REFUSE(19);
+        ANSWER(go_to(s, s->places[mark - 1]));
     }
     default: REFUSE(1);
     }

@@ -22,6 +22,9 @@
  *   after it. A mark (1 to 64) records a place, and going to it brings back the graph held there. Commit forgets all
  *   steps and marks and keeps the graph. A step costs 1 change, deleting a vertex 1 + the number of distinct edges at
  *   it. Free changes are the journal's capacity less the costs of the steps up to the present place.
+ *   A standing mark may have a name, two words that are not both 0. No two standing marks have the same, and a name goes
+ *   when its mark goes. A name may be any words; as text it is up to eight bytes, the first lowest in the first word,
+ *   with zeros behind (FUTTOCKFIG_NAME_WORD).
  */
 #ifndef FUTTOCKFIG_H
 #define FUTTOCKFIG_H
@@ -34,7 +37,7 @@ extern "C" {
 #endif
 
 /* What a caller sees; raised with every change to it (docs/CHANGES.md). */
-#define FUTTOCKFIG_VERSION 9
+#define FUTTOCKFIG_VERSION 10
 
 /* Words a row in each table, and the most rows that a table may have. The fewest is 1. */
 #define FUTTOCKFIG_VERTEX_WORDS 8
@@ -48,6 +51,10 @@ extern "C" {
 /* Words a call and words an answer. */
 #define FUTTOCKFIG_CALL_WORDS 5
 #define FUTTOCKFIG_ANSWER_WORDS 2
+
+/* Four bytes of a name as a word: 'r', 'e', 'c', 'e' and 'i', 'v', 'e', 'd' are the two words of "received". */
+#define FUTTOCKFIG_NAME_WORD(a, b, c, d) \
+    ((uint32_t)(uint8_t)(a) | (uint32_t)(uint8_t)(b) << 8 | (uint32_t)(uint8_t)(c) << 16 | (uint32_t)(uint8_t)(d) << 24)
 
 /* Bytes a row of a page. */
 #define FUTTOCKFIG_PAGE_ROW 25
@@ -112,10 +119,13 @@ enum futtockfig_kind {
     FUTTOCKFIG_RANGE = 53,             /* a, b vertices; the smaller of both ways. The way from a to b is what is heard on the
                                           last edge that is tested (kind 1 or 2) and goes out to b, in the order of
                                           a's list; a may equal b */
-    FUTTOCKFIG_GRADE = 54              /* a, b vertices, c price list: 0 and 1 the old, 2 the new; the grade of that range.
+    FUTTOCKFIG_GRADE = 54,             /* a, b vertices, c price list: 0 and 1 the old, 2 the new; the grade of that range.
                                           Limits of the old list: 0, 250, 500, .. 9,750 (grades 0 to 39); of the new:
                                           0, 200, 400, .. 9,800 (0 to 49). The grade is the last of them that is not
                                           above the range, counted from 0 */
+    /* Names of marks. Naming is no step: it cuts nothing, and undo does not take it back. */
+    FUTTOCKFIG_NAME_MARK = 56,         /* a standing mark, b and c its name; one that it had is free then; answers 0 */
+    FUTTOCKFIG_GO_TO_NAME = 57         /* a and b a name; as kind 21 to the mark that has it; answers the steps moved */
 };
 
 /*
@@ -137,11 +147,13 @@ enum futtockfig_code {
     FUTTOCKFIG_NO_ROOM = 10,           /* a change that would alter the graph: its cost is above the free changes */
     FUTTOCKFIG_BAD_MARK = 11,          /* a mark named is not 1 to 64 */
     FUTTOCKFIG_MARK_STANDS = 12,       /* kind 17 */
-    FUTTOCKFIG_NO_SUCH_MARK = 13,      /* kinds 18, 21, 49: some mark that is named is not standing */
+    FUTTOCKFIG_NO_SUCH_MARK = 13,      /* kinds 18, 21, 49, 56: some mark that is named is not standing */
     FUTTOCKFIG_NO_STEP = 14,           /* nothing to undo or redo */
     FUTTOCKFIG_BAD_SIDE = 15,          /* kind 45: c above 2 */
     FUTTOCKFIG_NOTHING_HEARD = 16,     /* kinds 53, 54: a way's last tested edge is silent, or it has none */
     FUTTOCKFIG_BAD_PRICE_LIST = 17,    /* kind 54: c above 2 */
+    FUTTOCKFIG_BAD_NAME = 18,          /* kind 56: both words of the name are 0, or another standing mark has it */
+    FUTTOCKFIG_NO_SUCH_NAME = 19,      /* kind 57: no standing mark has that name; two zeros are no mark's */
     /* Of the whole list. Nothing is run and nothing is written, tables included. */
     FUTTOCKFIG_BAD_CALLS = 101,        /* calls_len is not a multiple of 5 */
     FUTTOCKFIG_SHORT_ANSWERS = 102,    /* answers_len is under 2 a call */

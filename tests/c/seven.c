@@ -15,6 +15,10 @@ static const uint32_t seven[] = {4, 7, 6, 22, 64, 78, 1, 0, 0, 6, 2, 0, 0, 4, 3,
 /* Its old words, without degrees. */
 static const uint32_t old_seven[] = {4, 7, 6, 18, 60, 74, 1, 0, 0, 2, 0, 0, 3, 0, 0, 4, 0, 0, EDGES_AND_LISTS};
 
+/* Two names of marks. */
+#define RECEIVED FUTTOCKFIG_NAME_WORD('r', 'e', 'c', 'e'), FUTTOCKFIG_NAME_WORD('i', 'v', 'e', 'd')
+#define AERIAL FUTTOCKFIG_NAME_WORD('a', 'e', 'r', 'i'), FUTTOCKFIG_NAME_WORD('a', 'l', 0, 0)
+
 /* Each call with its code and number. */
 static const struct {
     uint32_t call[5], code, number;
@@ -23,6 +27,8 @@ static const struct {
     {{FUTTOCKFIG_DEGREE, 1, 0, 0}, 0, 6},
     {{FUTTOCKFIG_DEGREE, 1, 0, 1}, 0, 3},
     {{FUTTOCKFIG_SET_MARK, 5}, 0, 0},
+    {{FUTTOCKFIG_NAME_MARK, 5, 0, 0}, FUTTOCKFIG_BAD_NAME, 0},
+    {{FUTTOCKFIG_NAME_MARK, 5, RECEIVED}, 0, 0},
     {{FUTTOCKFIG_UNDO}, FUTTOCKFIG_NO_STEP, 0},
     {{FUTTOCKFIG_SET_READING, 2, 2, 450}, 0, 1},
     {{FUTTOCKFIG_GRADE, 1, 2}, FUTTOCKFIG_NOTHING_HEARD, 0},
@@ -35,7 +41,14 @@ static const struct {
     {{FUTTOCKFIG_FIRST_WORD, 4}, 0, 12},
     {{FUTTOCKFIG_NEXT_WORD, 12}, 0, 14},
     {{FUTTOCKFIG_FREE_CHANGES}, 0, 12},
+    {{FUTTOCKFIG_SET_MARK, 6}, 0, 0},
+    {{FUTTOCKFIG_NAME_MARK, 6, RECEIVED}, FUTTOCKFIG_BAD_NAME, 0},
+    {{FUTTOCKFIG_NAME_MARK, 6, AERIAL}, 0, 0},
     {{FUTTOCKFIG_GO_TO_MARK, 5}, 0, 3},
+    {{FUTTOCKFIG_GO_TO_NAME, AERIAL}, 0, 3},
+    {{FUTTOCKFIG_DROP_MARK, 6}, 0, 0},
+    {{FUTTOCKFIG_GO_TO_NAME, AERIAL}, FUTTOCKFIG_NO_SUCH_NAME, 0},
+    {{FUTTOCKFIG_GO_TO_NAME, RECEIVED}, 0, 3},
     {{FUTTOCKFIG_FREE_CHANGES}, 0, 20},
     {{FUTTOCKFIG_WORD_BEFORE, 3, 2}, 0, 1},
     {{FUTTOCKFIG_FIRST_WORD, 1}, 0, 3},

@@ -36,7 +36,7 @@ use core::ops::Range;
 use raw::{futtockfig_page, futtockfig_part, futtockfig_run};
 
 /// The version of what a caller sees, that of `include/futtockfig.h`.
-pub const VERSION: u32 = 9;
+pub const VERSION: u32 = 10;
 
 /// Kind, a, b, c, d.
 pub type Call = [u32; 5];
@@ -110,6 +110,22 @@ pub mod kind {
     pub const IS_BELOW: u32 = 52;
     pub const RANGE: u32 = 53;
     pub const GRADE: u32 = 54;
+    pub const NAME_MARK: u32 = 56;
+    pub const GO_TO_NAME: u32 = 57;
+}
+
+/// The two words of a mark's name for [`kind::NAME_MARK`] and [`kind::GO_TO_NAME`]: up to eight bytes of text, the first
+/// lowest in the first word, with zeros behind. `None` where there are more, or none that is not 0.
+///
+/// ```
+/// assert_eq!(futtockfig::name("received"), Some([0x6563_6572, 0x6465_7669]));
+/// assert_eq!(futtockfig::name("as received"), None);
+/// ```
+pub fn name(text: &str) -> Option<[u32; 2]> {
+    let mut bytes = [0; 8];
+    bytes.get_mut(..text.len())?.copy_from_slice(text.as_bytes());
+    let [a, b, c, d, e, f, g, h] = bytes;
+    (bytes != [0; 8]).then_some([u32::from_le_bytes([a, b, c, d]), u32::from_le_bytes([e, f, g, h])])
 }
 
 /// What a run writes to. The words found there do not matter.
@@ -257,7 +273,7 @@ pub fn run<'a>(start: &[u32], rows: &[u64], calls: &[u32], lent: Lent<'a>) -> Re
     }
 }
 
-/// The answers one by one: the number of an accepted call, or the code (1 to 17) of a refused one.
+/// The answers one by one: the number of an accepted call, or the code (1 to 19) of a refused one.
 pub fn answers(words: &[u32]) -> impl Iterator<Item = Result<u32, u32>> + '_ {
     words.chunks_exact(2).map(|answer| match answer[0] {
         0 => Ok(answer[1]),

@@ -1,6 +1,6 @@
 //! Examples of docs/REFERENCE.md through the safe functions.
 
-use futtockfig::{answers, image_words, kind, page, part, run, span, Done, Lent, Part, Refused, EMPTY, PAGE_ROW};
+use futtockfig::{answers, image_words, kind, name, page, part, run, span, Done, Lent, Part, Refused, EMPTY, PAGE_ROW};
 
 /// Runs calls with capacities 10, 10, 20 and one type, in lent words that are full of junk.
 fn with<T>(calls: &[u32], start: &[u32], then: impl FnOnce(Result<Done, Refused>) -> T) -> T {
@@ -91,6 +91,30 @@ fn delete_and_undo() {
         let done = done.unwrap();
         assert!(answers(done.answers).eq([Ok(6), Ok(1), Err(14)]));
         assert_eq!(done.image, start);
+    });
+}
+
+#[test]
+fn marks_by_name() {
+    let [first, second] = name("received").unwrap();
+    let [other, zeros] = name("new").unwrap();
+    assert_eq!((zeros, name(""), name("\0\0"), name("new aerial")), (0, None, None, None));
+    let calls = [
+        [kind::SET_MARK, 5, 0, 0, 0],
+        [kind::NAME_MARK, 5, first, second, 0],
+        [kind::DELETE_VERTEX, 1, 0, 0, 0],
+        [kind::SET_MARK, 6, 0, 0, 0],
+        [kind::NAME_MARK, 6, first, second, 0],
+        [kind::NAME_MARK, 6, other, zeros, 0],
+        [kind::GO_TO_NAME, first, second, 0, 0],
+        [kind::GO_TO_NAME, other, zeros, 0, 0],
+        [kind::GO_TO_NAME, second, first, 0, 0],
+        [kind::DROP_MARK, 5, 0, 0, 0],
+        [kind::GO_TO_NAME, first, second, 0, 0],
+    ];
+    with(&calls.concat(), &seven(), |done| {
+        let wanted = [Ok(0), Ok(0), Ok(6), Ok(0), Err(18), Ok(0), Ok(1), Ok(1), Err(19), Ok(0), Err(19)];
+        assert!(answers(done.unwrap().answers).eq(wanted));
     });
 }
 

@@ -16,6 +16,7 @@ use Rattle.history.specs.Machine.{MarkPlace, gone, at, Machine, freeOf, cut, cu
 use Rattle.history.proofs.Timelines.{length-cut}
 use Rattle.machine.specs.Rules.{steps, nothing, effected, Deed, deed, changeDeed, changeRule}
 use Rattle.marks.specs.Marked.{Marked}
+use Rattle.marks.proofs.NameLaws.{cut-named}
 use Rattle.graph_tables.specs.Tables.{State}
 use Rattle.timeline.specs.Current.{afterStep}
 use Rattle.timeline.proofs.Steps.{place-short, at-record}
@@ -105,6 +106,7 @@ module _ (c : Change) (types free : ℕ) (x : Store) (mem : Memory) (code n : �
           (subst (λ (d : Deed). Represents b x′ after (effected (d .effect) m)) u (record {
             journal = at-record b (x′ .current) _ (s′ .vertices) (s′ .edges) t′ _ f (step .steps);
             marks = subst (λ (p : ℕ). Marked (cutMarks p (m .marks)) (x′ .set) (mem .marks)) (h .journal .place) k;
+            names = cut-named (m .marks) (m .names) (mem .marks) (m .line .place) (h .names);
             inside = λ i p z. omega (arith, left-low (m .line .place) p (m .marks i) z, length-cut (m .line .place) (m .line .steps) (stepOf c (present m)) (h .journal .inside));
           }))
 

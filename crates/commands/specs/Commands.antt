@@ -33,6 +33,8 @@ use Rattle.commands.specs.declared.HistoryCall.the-variants.{
   Between,
   Standing,
   Free,
+  NameMark,
+  GoToName,
 }
 use Rattle.commands.specs.declared.Question.{Question}
 use Rattle.commands.specs.declared.Question.the-variants.{
@@ -97,8 +99,8 @@ changeOf x =
     d : ℕ
     d = x .d
 
-unfoldable pub historyOf : ℕ → ℕ → ℕ → HistoryCall
-historyOf k a b =
+unfoldable pub historyOf : ℕ → ℕ → ℕ → ℕ → HistoryCall
+historyOf k a b c =
     (k == 17) ⇒ SetMark a else
     (k == 18) ⇒ DropMark a else
     (k == 19) ⇒ Undo else
@@ -107,6 +109,8 @@ historyOf k a b =
     (k == 22) ⇒ Commit else
     (k == 49) ⇒ Between a b else
     (k == 50) ⇒ Standing else
+    (k == 56) ⇒ NameMark a b c else
+    (k == 57) ⇒ GoToName a b else
     Free
 
 unfoldable pub questionOf : ℕ → ℕ → ℕ → ℕ → Question
@@ -137,13 +141,15 @@ unfolding changeOf historyOf questionOf
 commandOf x =
     (k == 0) ⇒ Unknown else
     leb k 16 ⇒ Alter (changeOf x) else
-    leb k 22 ⇒ History (historyOf k (x .a) (x .b)) else
+    leb k 22 ⇒ History (historyOf k (x .a) (x .b) (x .c)) else
     leb k 29 ⇒ Unknown else
     leb k 48 ⇒ Ask (questionOf k (x .a) (x .b) (x .c)) else
-    leb k 51 ⇒ History (historyOf k (x .a) (x .b)) else
+    leb k 51 ⇒ History (historyOf k (x .a) (x .b) (x .c)) else
     (k == 52) ⇒ Ask (questionOf k (x .a) (x .b) (x .c)) else
     (k == 53) ⇒ Quote (Range (x .a) (x .b)) else
     (k == 54) ⇒ Quote (Grade (x .a) (x .b) (x .c)) else
+    (k == 55) ⇒ Unknown else
+    leb k 57 ⇒ History (historyOf k (x .a) (x .b) (x .c)) else
     Unknown
   where
     k : ℕ
@@ -179,6 +185,8 @@ historyCall Commit = five 22 0 0 0 0
 historyCall (Between a b) = five 49 a b 0 0
 historyCall Standing = five 50 0 0 0 0
 historyCall Free = five 51 0 0 0 0
+historyCall (NameMark a b c) = five 56 a b c 0
+historyCall (GoToName a b) = five 57 a b 0 0
 
 abbrev pub questionCall : Question → Call
 questionCall FirstVertex = five 30 0 0 0 0

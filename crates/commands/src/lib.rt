@@ -6,7 +6,7 @@ ghost use Rattle.commands.specs.Calls.{callAt, five};
 ghost use Rattle.commands.specs.Answers.{accepts, refuses};
 ghost use Rattle.commands.specs.Commands.{commandOf};
 
-// Kinds 17 to 22 and 49 to 51.
+// Kinds 17 to 22, 49 to 51, 56 and 57; a name is two words.
 pub enum HistoryCall {
     SetMark(u32),
     DropMark(u32),
@@ -17,6 +17,8 @@ pub enum HistoryCall {
     Between(u32, u32),
     Standing,
     Free,
+    NameMark(u32, u32, u32),
+    GoToName(u32, u32),
 }
 
 // Kinds 30 to 48 and 52.
@@ -118,6 +120,8 @@ fn command_of(k: u32, a: u32, b: u32, c: u32, d: u32) -> Command
         52 => Command::Ask(Question::Below(a, b)),
         53 => Command::Quote(PriceCall::Range(a, b)),
         54 => Command::Quote(PriceCall::Grade(a, b, c)),
+        56 => Command::History(HistoryCall::NameMark(a, b, c)),
+        57 => Command::History(HistoryCall::GoToName(a, b)),
         _ => Command::Unknown,
     }
 }

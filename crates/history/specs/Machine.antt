@@ -1,6 +1,6 @@
 -- The state of the plain machine, and what each sort of history call makes of it.
 use Prim.Native.Nat.{ℕ, zero, suc, _+_, _-_}
-use mathlib.Core.Bool.{Bool, true, false}
+use mathlib.Core.Bool.{Bool, true, false, not, _&&_}
 use mathlib.Core.List.{List, [], _∷_, _++_}
 use lib.ListN.{length, take}
 use lib.Dec.{ltb}
@@ -27,10 +27,16 @@ pub data MarkPlace : Type 0 where
   gone : MarkPlace
   at : ℕ → MarkPlace
 
+-- two words; both 0 is no name
+pub record Name : Type 0 where
+  pub first : ℕ
+  pub second : ℕ
+
 -- REFERENCE 4.1
 pub record Machine : Type 0 where
   pub line : Timeline
   pub marks : ℕ → MarkPlace
+  pub names : ℕ → Name
 
 -- ---- the timeline
 
@@ -104,29 +110,86 @@ isMark a = within 1 mostMarks a
 unfoldable pub countStanding : (ℕ → MarkPlace) → ℕ
 countStanding ms = length (filter (λ n. stands (ms (suc n))) (range mostMarks))
 
+-- ---- names
+
+abbrev pub name : ℕ → ℕ → Name
+name b c = record { first = b; second = c }
+
+abbrev pub noName : Name
+noName = name 0 0
+
+abbrev pub noNames : ℕ → Name
+noNames k = noName
+
+abbrev pub isName : Name → Bool
+isName n = not ((n .first == 0) && (n .second == 0))
+
+abbrev pub sameName : Name → Name → Bool
+sameName n o = (n .first == o .first) && (n .second == o .second)
+
+abbrev pub named : ℕ → Name → (ℕ → Name) → ℕ → Name
+named j n ns k = (k == j) ⇒ n else ns k
+
+-- a name goes when its mark goes: of these marks, those that stand keep theirs
+abbrev pub keptNames : (ℕ → MarkPlace) → (ℕ → Name) → ℕ → Name
+keptNames ms ns k = stands (ms k) ⇒ ns k else noName
+
+-- the first of the n numbers from k on that passes; 0 where none does
+unfoldable pub seek : ℕ → ℕ → (ℕ → Bool) → ℕ
+seek zero k p = 0
+seek (suc n) k p = p k ⇒ k else seek n (suc k) p
+
 -- ---- the machine
 
 -- REFERENCE 4.2
 abbrev pub fresh : Graph → Machine
-fresh g = record { line = begun g; marks = noMarks }
+fresh g = record { line = begun g; marks = noMarks; names = noNames }
 
 abbrev pub present : Machine → Graph
 present m = presentIn (m .line)
 
 -- an accepted change that makes s
 abbrev pub afterChange : Step → Machine → Machine
-afterChange s m = record { line = extended s (m .line); marks = cutMarks (m .line .place) (m .marks) }
+afterChange s m = record {
+  line = extended s (m .line);
+  marks = cutMarks (m .line .place) (m .marks);
+  names = keptNames (cutMarks (m .line .place) (m .marks)) (m .names);
+}
 
 abbrev pub movedTo : ℕ → Machine → Machine
-movedTo p m = record { line = placed p (m .line); marks = m .marks }
+movedTo p m = record { line = placed p (m .line); marks = m .marks; names = m .names }
 
--- mark n stands at the present place
+-- mark n stands at the present place, and has no name
 abbrev pub withMarkSet : ℕ → Machine → Machine
-withMarkSet n m = record { line = m .line; marks = marked n (at (m .line .place)) (m .marks) }
+withMarkSet n m = record {
+  line = m .line;
+  marks = marked n (at (m .line .place)) (m .marks);
+  names = named n noName (m .names);
+}
 
 abbrev pub withMarkDropped : ℕ → Machine → Machine
-withMarkDropped n m = record { line = m .line; marks = marked n gone (m .marks) }
+withMarkDropped n m = record {
+  line = m .line;
+  marks = marked n gone (m .marks);
+  names = named n noName (m .names);
+}
+
+-- mark k has the name n, and no other
+abbrev pub withName : ℕ → Name → Machine → Machine
+withName k n m = record { line = m .line; marks = m .marks; names = named k n (m .names) }
 
 -- REFERENCE 4.9
 abbrev pub afterCommit : Machine → Machine
-afterCommit m = record { line = begun (present m); marks = noMarks }
+afterCommit m = record { line = begun (present m); marks = noMarks; names = noNames }
+
+-- mark k stands and has the name n
+abbrev pub bears : Machine → Name → ℕ → Bool
+bears m n k = stands (m .marks k) && (isName n && sameName (m .names k) n)
+
+-- the standing mark, other than a, that has the name; 0 where none has
+unfoldable pub holderBut : ℕ → Name → Machine → ℕ
+holderBut a n m = seek mostMarks 1 (λ k. not (k == a) && bears m n k)
+
+-- the standing mark that has the name; 0 where none has
+abbrev pub holderOf : Name → Machine → ℕ
+holderOf n m = holderBut 0 n m

@@ -1,21 +1,24 @@
 -- What each call makes of the relation with the machine.
-use Prim.Native.Nat.{ℕ, _-_, _≤_}
+use Prim.Native.Nat.{ℕ, _≤_}
 use mathlib.Core.Path.{_≡_, refl, sym, ap, subst, _∙_}
 use mathlib.Core.Logic.{_≢_}
 use mathlib.Core.Bool.{Bool, true, not}
 use mathlib.Core.List.{List}
 use native.Mathlib.Omega.{arith}
 use borrow.Author.Tests.{eq-eqb, ne-eqb}
-use lib.ListN.{length, set}
+use lib.ListN.{length}
 use Rattle.lists.specs.Choice.{_⇒_else_}
+use Rattle.lists.proofs.Bools.{ft}
 use Rattle.lists.proofs.Picks.{same, differ, same?}
 use Rattle.graph.specs.Graph.{Graph}
 use Rattle.graph.specs.WellFormed.{Bounds}
-use Rattle.history.specs.Machine.{MarkPlace, gone, at, Machine, begun, placed, freeOf, distance, noMarks, stands, placeOr, marked, present, movedTo}
+use Rattle.history.specs.Machine.{MarkPlace, gone, at, Machine, begun, placed, freeOf, distance, noMarks, stands, placeOr, marked, present, movedTo, Name, name, noName, noNames, named}
 use Rattle.machine.specs.Rules.{effected, historyRule}
 use Rattle.commands.specs.declared.HistoryCall.{HistoryCall}
-use Rattle.commands.specs.declared.HistoryCall.the-variants.{SetMark, DropMark, Commit, Between, Standing as StandingMarks, Free}
-use Rattle.marks.specs.Marked.{placeIn, withMark, withoutMark, Marked}
+use Rattle.commands.specs.declared.HistoryCall.the-variants.{SetMark, DropMark, Commit, Between, Standing as StandingMarks, Free, NameMark}
+use Rattle.marks.specs.Marked.{markWords, placeIn, withMark, withoutMark, Marked}
+use Rattle.marks.specs.Named.{nameSet, markPut, Named}
+use Rattle.marks.proofs.NameLaws.{named-marked, name-put, set-named, drop-named}
 use Rattle.marks.proofs.MarkLaws.{marked-same, marked-other, in-marks, in-set, place-is, with-is, without-is, mark-put, mark-gone, none-marked, count-is}
 use Rattle.graph_tables.specs.Tables.{state}
 use Rattle.timeline.specs.Steps.{Journal}
@@ -24,9 +27,9 @@ use Rattle.history_calls.specs.declared.Store.{Store}
 use Rattle.history_calls.specs.declared.Called.{Called}
 use Rattle.history_calls.specs.Memory.{Memory, memory, tablesOf}
 use Rattle.history_calls.specs.Represents.{Represents, Follows}
-use Rattle.marks.specs.Codes.{noMark, standingCode, newCode}
-use Rattle.history_calls.specs.Outcomes.{pairCode, done, markSet, placesSet, markDropped, committed, betweenMarks, marksStanding, changesFree}
-use Rattle.marks.proofs.CodeLaws.{Mark, standing-none, new-none, standing-is, new-is, both-is, both-none}
+use Rattle.marks.specs.Codes.{noMark, standingCode, newCode, nameCode}
+use Rattle.history_calls.specs.Outcomes.{pairCode, done, markSet, placesSet, markDropped, committed, betweenMarks, marksStanding, changesFree, markNamed, namesSet}
+use Rattle.marks.proofs.CodeLaws.{Mark, standing-none, new-none, standing-is, new-is, both-is, both-none, name-codes, name-none}
 use Rattle.history_calls.proofs.Following.{refused, accepted, follows-by}
 use Rattle.history_calls.proofs.OutcomeLaws.{with-kept, without-kept}
 
@@ -35,9 +38,9 @@ use Rattle.history_calls.proofs.OutcomeLaws.{with-kept, without-kept}
 none-at : (k q : ℕ) → noMarks k ≡ at q → ⊥
 none-at k q e = let z : _≡_ {A = ℕ} 0 1 = cc in omega arith
 
-pub begun-represents : (b : Bounds) (x : Store) (mem : Memory) (g : Graph) → Journal b (x .current .position) (tablesOf x mem) (mem .journal) (begun g) → x .set ≡ 0 → length (mem .marks) ≡ 64
-    → Represents b x mem (record { line = begun g; marks = noMarks })
-begun-represents b x mem g j e r = record { journal = j; marks = rw e (none-marked (mem .marks) r); inside = λ k q e. absurd (none-at k q e) }
+pub begun-represents : (b : Bounds) (x : Store) (mem : Memory) (g : Graph) → Journal b (x .current .position) (tablesOf x mem) (mem .journal) (begun g) → x .set ≡ 0 → length (mem .marks) ≡ markWords
+    → Represents b x mem (record { line = begun g; marks = noMarks; names = noNames })
+begun-represents b x mem g j e r = record { journal = j; marks = rw e (none-marked (mem .marks) r); inside = λ k q e. absurd (none-at k q e); names = λ k e. ft e }
 
 -- ---- a mark that is set or dropped
 
@@ -81,6 +84,7 @@ module _ (b : Bounds) (x : Store) (mem : Memory) (m : Machine) (h : Represents b
     journal = j;
     marks = subst (λ (s : ℕ). Marked (m .marks) s (mem .marks)) (sym e) (h .marks);
     inside = h .inside;
+    names = h .names;
   }
 
   -- 18 and 21: a mark that must stand
@@ -116,6 +120,7 @@ module _ (b : Bounds) (x : Store) (mem : Memory) (m : Machine) (h : Represents b
             journal = h .journal;
             marks = subst (λ (n : ℕ). Marked (marked a gone (m .marks)) n (mem .marks)) s (mark-gone (m .marks) (x .set) (mem .marks) (h .marks) a (k .low) (k .high) _ (mark-stands z) refl);
             inside = drop-inside (m .marks) a (length (m .line .steps)) (h .inside);
+            names = drop-named (m .marks) (m .names) (mem .marks) a (h .names);
           }))
       | differ n y ↦
           follows-by _ m b mem (λ i. done (record { current = x .current; set = without-kept (x .set) a n i }) (standingCode (x .set) a) 0)
@@ -138,19 +143,50 @@ module _ (b : Bounds) (x : Store) (mem : Memory) (m : Machine) (h : Represents b
           let p = x .current .position .place in
           let s = with-is (x .set) a _ w refl in
           let stood = sym (in-set (m .marks) (x .set) (mem .marks) (h .marks) a (k .low) (k .high)) ∙ k .stands in
-          let put : set (mem .marks) (a - 1) p ≡ placesSet x a (mem .marks) = rw (eq-eqb (newCode (x .set) a) 0 z) in
-          let d = subst (λ (n : ℕ). Marked (marked a (at p) (m .marks)) n (set (mem .marks) (a - 1) p)) s (mark-put (m .marks) (x .set) (mem .marks) (h .marks) a (k .low) (k .high) p _ stood refl) in
+          let put : markPut a p (mem .marks) ≡ placesSet x a (mem .marks) = rw (eq-eqb (newCode (x .set) a) 0 z) in
+          let d = subst (λ (n : ℕ). Marked (marked a (at p) (m .marks)) n (markPut a p (mem .marks))) s (named-marked _ _ _ a noName (k .low) (mark-put (m .marks) (x .set) (mem .marks) (h .marks) a (k .low) (k .high) p _ stood refl)) in
           let e = subst (λ (l : List ℕ). Marked (marked a (at p) (m .marks)) (withMark a (x .set)) l) put d in
           follows-by _ m b marksAfter (λ i. done (record { current = x .current; set = withMark a (x .set) }) (z i) 0)
           (accepted (historyRule capacity (SetMark a)) m b _ marksAfter 0 (sym set-code ∙ z) refl (record {
             journal = h .journal;
             marks = subst (λ (i : ℕ). Marked (marked a (at i) (m .marks)) (withMark a (x .set)) (placesSet x a (mem .marks))) (h .journal .place) e;
             inside = set-inside (m .marks) a (m .line .place) (length (m .line .steps)) (h .journal .inside) (h .inside);
+            names = subst (λ (i : ℕ). Named (marked a (at i) (m .marks)) (named a noName (m .names)) (placesSet x a (mem .marks))) (h .journal .place)
+                (subst (λ (l : List ℕ). Named (marked a (at p) (m .marks)) (named a noName (m .names)) l) put (set-named (m .marks) (m .names) (x .set) (mem .marks) a p (h .marks) (k .low) (k .high) (h .names)));
           }))
       | differ n y ↦
           let stay : mem .marks ≡ placesSet x a (mem .marks) = rw (ne-eqb (newCode (x .set) a) 0 n) in
           follows-by _ m b marksAfter (λ i. done (record { current = x .current; set = with-kept (x .set) a n i }) (newCode (x .set) a) 0)
           (subst (λ (l : List ℕ). ByRule capacity (SetMark a) (done x (newCode (x .set) a) 0) (memory (mem .vertices) (mem .edges) (mem .journal) l)) stay (kept capacity (SetMark a) _ set-code n))
+    ]
+
+  -- 56: a mark that must stand, and a name that is free
+
+  module _ (capacity a b′ c : ℕ) where
+    abbrev n : Name
+    n = name b′ c
+
+    name-is : nameCode (x .set) (mem .marks) a n ≡ historyRule capacity (NameMark a b′ c) .code m
+    name-is = name-codes m (x .set) (mem .marks) (h .marks) (h .names) a n
+
+    abbrev namesAfter : Memory
+    namesAfter = memory (mem .vertices) (mem .edges) (mem .journal) (namesSet x a n (mem .marks))
+
+    pub name-follows : ByRule capacity (NameMark a b′ c) (markNamed x (mem .marks) a n) namesAfter
+    name-follows = elim (same? (nameCode (x .set) (mem .marks) a n) 0) [
+      | same z y ↦
+          let k = name-none (x .set) (mem .marks) a n z in
+          let put : nameSet a n (mem .marks) ≡ namesSet x a n (mem .marks) = sym (ap (λ (t : Bool). t ⇒ nameSet a n (mem .marks) else mem .marks) (eq-eqb (nameCode (x .set) (mem .marks) a n) 0 z)) in
+          follows-by _ m b namesAfter (λ i. done x (z i) 0)
+          (accepted (historyRule capacity (NameMark a b′ c)) m b x namesAfter 0 (sym name-is ∙ z) refl (record {
+            journal = h .journal;
+            marks = subst (λ (l : List ℕ). Marked (m .marks) (x .set) l) put (named-marked (m .marks) (x .set) (mem .marks) a n (k .low) (h .marks));
+            inside = h .inside;
+            names = subst (λ (l : List ℕ). Named (m .marks) (named a n (m .names)) l) put (name-put (m .marks) (m .names) (x .set) (mem .marks) a n (h .marks) (k .low) (k .high) (h .names));
+          }))
+      | differ z y ↦
+          let stay : mem .marks ≡ namesSet x a n (mem .marks) = sym (ap (λ (t : Bool). t ⇒ nameSet a n (mem .marks) else mem .marks) (ne-eqb (nameCode (x .set) (mem .marks) a n) 0 z)) in
+          subst (λ (l : List ℕ). ByRule capacity (NameMark a b′ c) (done x (nameCode (x .set) (mem .marks) a n) 0) (memory (mem .vertices) (mem .edges) (mem .journal) l)) stay (kept capacity (NameMark a b′ c) _ name-is z)
     ]
 
   -- 22

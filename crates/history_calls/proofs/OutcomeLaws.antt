@@ -5,15 +5,15 @@ use mathlib.Core.Logic.{_≢_}
 use mathlib.Core.Bool.{Bool, true, false, not, _&&_}
 use mathlib.Core.List.{List}
 use borrow.Author.Tests.{eq-eqb, ne-eqb}
-use lib.ListN.{set as setAt}
 use Rattle.lists.specs.Choice.{_⇒_else_, _==_, within}
-use Rattle.history.specs.Machine.{distance}
+use Rattle.history.specs.Machine.{distance, Name}
 use Rattle.marks.specs.Marked.{placeIn, withMark, withoutMark}
+use Rattle.marks.specs.Named.{markPut}
 use Rattle.history_calls.specs.declared.Store.{Store}
 use Rattle.history_calls.specs.declared.Called.{Called}
 use Rattle.history_calls.specs.Memory.{memory}
-use Rattle.marks.specs.Codes.{standingCode, newCode}
-use Rattle.history_calls.specs.Outcomes.{pairCode, done, markSet, placesSet, markDropped, betweenMarks, Leaves}
+use Rattle.marks.specs.Codes.{standingCode, newCode, nameCode}
+use Rattle.history_calls.specs.Outcomes.{pairCode, done, markSet, placesSet, markDropped, betweenMarks, markNamed, namesSet, Leaves}
 
 -- ---- a mark that is refused
 
@@ -50,7 +50,7 @@ pub places-left : (x : Store) (a code : ℕ) (places : List ℕ) → code ≡ ne
 places-left x a code places f n = rw (ne-eqb (newCode (x .set) a) 0 (λ z. n (f ∙ z)))
 
 pub places-put : (x : Store) (a code : ℕ) (places places′ : List ℕ) → code ≡ newCode (x .set) a → code ≡ 0
-    → within 1 64 a ≡ true → places′ ≡ (within 1 64 a ⇒ setAt places (a - 1) (x .current .position .place) else places) → places′ ≡ placesSet x a places
+    → within 1 64 a ≡ true → places′ ≡ (within 1 64 a ⇒ markPut a (x .current .position .place) places else places) → places′ ≡ placesSet x a places
 places-put x a code places places′ f z w e = rw (eq-eqb (newCode (x .set) a) 0 (sym f ∙ z)) (e ∙ rw w refl)
 
 module _ (x : Store) (places : List ℕ) (a c code : ℕ) (e : code ≡ pairCode x a c) where
@@ -84,3 +84,8 @@ module _ (x : Store) (a : ℕ) (r : Called) (vertices edges t places : List ℕ)
       let k = with-kept (x .set) a z in
       let l : places′ ≡ places = rw (ne-eqb (newCode (x .set) a) 0 z) at f in
       (ap (λ (d : Called). d .store) e ∙ (λ i. record { current = x .current; set = k i }), λ i. memory vertices edges t (l i))
+
+  pub leaves-name : (n : Name) (places′ : List ℕ) → r ≡ markNamed x places a n → places′ ≡ namesSet x a n places → Leaves x (memory vertices edges t places) r (memory vertices edges t places′)
+  leaves-name n places′ e f z =
+      let l : places′ ≡ places = rw (ne-eqb (nameCode (x .set) places a n) 0 (λ i. z (ap codeIn e ∙ i))) at f in
+      (ap (λ (d : Called). d .store) e, λ i. memory vertices edges t (l i))

@@ -11,12 +11,16 @@ use borrow.Author.Tests.{eqb-false, ltb-true, ltb-false}
 use lib.Dec.{ltb}
 use Rattle.lists.specs.Choice.{_==_, _⇒_else_}
 use Rattle.graph.specs.WellFormed.{Bounds}
-use Rattle.history.specs.Machine.{Machine, placed, placeOr, distance}
+use Rattle.history.specs.Machine.{Machine, placed, placeOr, distance, name}
 use Rattle.commands.proofs.HistoryCall.{the-type}
 use Rattle.commands.specs.declared.HistoryCall.{HistoryCall}
-use Rattle.commands.specs.declared.HistoryCall.the-variants.{SetMark, DropMark, Undo, Redo, GoTo, Commit, Between, Standing, Free}
-use Rattle.machine.specs.Rules.{goes, effected, Deed, deed, historyDeed, historyRule}
+use Rattle.commands.specs.declared.HistoryCall.the-variants.{SetMark, DropMark, Undo, Redo, GoTo, Commit, Between, Standing, Free, NameMark, GoToName}
+use Rattle.machine.specs.Rules.{goes, effected, Deed, deed, goingTo, historyDeed, historyRule}
 use Rattle.marks.specs.Marked.{placeIn}
+use Rattle.marks.specs.Named.{holderIn}
+use Rattle.marks.specs.Codes.{standingCode}
+use Rattle.marks.proofs.NameLaws.{holder-same}
+use Rattle.marks.proofs.CodeLaws.{holder-stands}
 use Rattle.graph_tables.specs.Tables.{state}
 use Rattle.timeline.specs.JournalRows.{shifted, Reach}
 use Rattle.timeline.specs.Steps.{Journal}
@@ -30,19 +34,21 @@ use Rattle.history_calls.proofs.Following.{refused, accepted}
 
 -- ---- which calls they are
 
-pub leads-by : (c : HistoryCall) → OneOf (2 ∷ 3 ∷ 4 ∷ []) (tagOf the-type c) → Leads c
-leads-by (SetMark a) i = miss (2 ∷ 3 ∷ 4 ∷ []) 0 tt i
-leads-by (DropMark a) i = miss (2 ∷ 3 ∷ 4 ∷ []) 1 tt i
+pub leads-by : (c : HistoryCall) → OneOf (2 ∷ 3 ∷ 4 ∷ 10 ∷ []) (tagOf the-type c) → Leads c
+leads-by (SetMark a) i = miss (2 ∷ 3 ∷ 4 ∷ 10 ∷ []) 0 tt i
+leads-by (DropMark a) i = miss (2 ∷ 3 ∷ 4 ∷ 10 ∷ []) 1 tt i
 leads-by Undo i = tt
 leads-by Redo i = tt
 leads-by (GoTo a) i = tt
-leads-by Commit i = miss (2 ∷ 3 ∷ 4 ∷ []) 5 tt i
-leads-by (Between a d) i = miss (2 ∷ 3 ∷ 4 ∷ []) 6 tt i
-leads-by Standing i = miss (2 ∷ 3 ∷ 4 ∷ []) 7 tt i
-leads-by Free i = miss (2 ∷ 3 ∷ 4 ∷ []) 8 tt i
+leads-by Commit i = miss (2 ∷ 3 ∷ 4 ∷ 10 ∷ []) 5 tt i
+leads-by (Between a d) i = miss (2 ∷ 3 ∷ 4 ∷ 10 ∷ []) 6 tt i
+leads-by Standing i = miss (2 ∷ 3 ∷ 4 ∷ 10 ∷ []) 7 tt i
+leads-by Free i = miss (2 ∷ 3 ∷ 4 ∷ 10 ∷ []) 8 tt i
+leads-by (NameMark a d e) i = miss (2 ∷ 3 ∷ 4 ∷ 10 ∷ []) 9 tt i
+leads-by (GoToName a d) i = tt
 
 abbrev pub others : List ℕ
-others = 0 ∷ 1 ∷ 5 ∷ 6 ∷ 7 ∷ 8 ∷ []
+others = 0 ∷ 1 ∷ 5 ∷ 6 ∷ 7 ∷ 8 ∷ 9 ∷ []
 
 pub no-way : (x : Store) (places : List ℕ) (c : HistoryCall) → OneOf others (tagOf the-type c) → nowhere ≡ wayOf x places c
 no-way x places (SetMark a) i = refl
@@ -54,6 +60,8 @@ no-way x places Commit i = refl
 no-way x places (Between a d) i = refl
 no-way x places Standing i = refl
 no-way x places Free i = refl
+no-way x places (NameMark a d e) i = refl
+no-way x places (GoToName a d) i = absurd (miss others 10 tt i)
 
 -- ---- numbers
 
@@ -63,6 +71,13 @@ not-end p e z = go (p == e) refl z
     go : (t : Bool) → (p == e) ≡ t → _≡_ {A = ℕ} (t ⇒ 14 else 0) 0 → p ≢ e
     go true f z = absurd (omega arith)
     go false f z = eqb-false p e f
+
+found : (a : ℕ) → _≡_ {A = ℕ} ((a == 0) ⇒ 19 else 0) 0 → a ≢ 0
+found a z = go (a == 0) refl z
+  where
+    go : (t : Bool) → (a == 0) ≡ t → _≡_ {A = ℕ} (t ⇒ 19 else 0) 0 → a ≢ 0
+    go true f z = absurd (omega arith)
+    go false f z = eqb-false a 0 f
 
 -- q from p, as the direction and the distance
 module _ (p q : ℕ) where
@@ -91,6 +106,24 @@ module _ (b : Bounds) (x : Store) (mem : Memory) (m : Machine) (h : Represents b
   inside : x .current .position .place ≤ x .current .position .steps
   inside = omega (arith, h .journal .place, h .journal .steps, h .journal .inside)
 
+  -- to a mark that stands
+  module _ (a : ℕ) (z : standingCode (x .set) a ≡ 0) where
+    abbrev p : ℕ
+    p = x .current .position .place
+
+    abbrev q : ℕ
+    q = placeIn (mem .marks) a
+
+    to-reach : Reach (ltb q p) (distance p q) p (x .current .position .steps)
+    to-reach = distance-reach p q (x .current .position .steps) inside (mark-inside b x mem m h a z)
+
+    to-deeds : goingTo a m ≡ deed (distance p q) (goes (shifted (ltb q p) (distance p q) (m .line .place)))
+    to-deeds =
+        let e = h .journal .place in
+        let f : placeOr (m .line .place) (m .marks a) ≡ q = sym (mark-place b x mem m h a z (m .line .place)) in
+        let g : q ≡ shifted (ltb q p) (distance p q) (m .line .place) = distance-shifts p q ∙ ap (shifted (ltb q p) (distance p q)) e in
+        λ i. deed (distance (sym e i) (f i)) (goes ((f ∙ g) i))
+
   led : (c : HistoryCall) → Leads c → Led c (wayOf x (mem .marks) c)
   led (SetMark a) l = absurd l
   led (DropMark a) l = absurd l
@@ -108,22 +141,24 @@ module _ (b : Bounds) (x : Store) (mem : Memory) (m : Machine) (h : Represents b
         reach = λ z. let n = not-end (x .current .position .place) (x .current .position .steps) z in omega (arith, n, inside);
         deeds = λ z. ap (λ (k : ℕ). deed 1 (goes k)) s;
       }
-  led (GoTo a) l =
-      let p = x .current .position .place in
-      let q = placeIn (mem .marks) a in
-      let e = h .journal .place in
-      record {
-        coded = code-is b x mem m h a;
-        reach = λ z. distance-reach p q (x .current .position .steps) inside (mark-inside b x mem m h a z);
-        deeds = λ z.
-            let f : placeOr (m .line .place) (m .marks a) ≡ q = sym (mark-place b x mem m h a z (m .line .place)) in
-            let g : q ≡ shifted (ltb q p) (distance p q) (m .line .place) = distance-shifts p q ∙ ap (shifted (ltb q p) (distance p q)) e in
-            λ i. deed (distance (sym e i) (f i)) (goes ((f ∙ g) i));
-      }
+  led (GoTo a) l = record {
+    coded = code-is b x mem m h a;
+    reach = λ z. to-reach a z;
+    deeds = λ z. to-deeds a z;
+  }
   led Commit l = absurd l
   led (Between a d) l = absurd l
   led Standing l = absurd l
   led Free l = absurd l
+  led (NameMark a d e) l = absurd l
+  led (GoToName a d) l =
+      let k = holderIn (x .set) (mem .marks) 0 (name a d) in
+      let e = holder-same m (x .set) (mem .marks) 0 (name a d) (h .marks) (h .names) in
+      record {
+        coded = ap (λ (j : ℕ). (j == 0) ⇒ 19 else 0) e;
+        reach = λ z. to-reach k (holder-stands (x .set) (mem .marks) (name a d) (found k z));
+        deeds = λ z. ap (λ (j : ℕ). goingTo j m) (sym e) ∙ to-deeds k (holder-stands (x .set) (mem .marks) (name a d) (found k z));
+      }
 
   module _ (c : HistoryCall) (l : Leads c) (w : Way) (e : w ≡ wayOf x (mem .marks) c) where
     this : Led c w

@@ -6,7 +6,6 @@ use mathlib.Core.Logic.{_≢_}
 use mathlib.Core.List.{List}
 use lib.Count.{ones}
 use lib.Dec.{ltb}
-use lib.ListN.{set as setAt}
 use Rattle.lists.specs.Choice.{_⇒_else_, _==_}
 use Rattle.commands.specs.declared.HistoryCall.{HistoryCall}
 use Rattle.commands.specs.declared.HistoryCall.the-variants.{
@@ -19,11 +18,14 @@ use Rattle.commands.specs.declared.HistoryCall.the-variants.{
   Between,
   Standing,
   Free,
+  NameMark,
+  GoToName,
 }
 use Rattle.commands.specs.Answers.{answerOf}
-use Rattle.history.specs.Machine.{distance}
+use Rattle.history.specs.Machine.{distance, Name, name}
 use Rattle.marks.specs.Marked.{placeIn, withMark, withoutMark}
-use Rattle.marks.specs.Codes.{standingCode, newCode, bothCode}
+use Rattle.marks.specs.Named.{nameSet, markPut, holderIn}
+use Rattle.marks.specs.Codes.{standingCode, newCode, bothCode, nameCode}
 use Rattle.graph_tables.specs.declared.Head.{Head}
 use Rattle.timeline.specs.Current.{noSteps}
 use Rattle.history_calls.specs.declared.Store.{Store}
@@ -46,12 +48,12 @@ done x code number = record { store = x; answer = record { code = code; number =
 abbrev pub begunAt : Head → Store
 begunAt h = record { current = record { head = h; position = noSteps }; set = 0 }
 
--- mark a is set, and its place; a mark that stands, or that is no mark, is refused and changes neither
+-- mark a is set, with its place and no name; a mark that stands, or that is no mark, is refused and changes neither
 abbrev pub markSet : Store → ℕ → Called
 markSet x a = done (record { current = x .current; set = withMark a (x .set) }) (newCode (x .set) a) 0
 
 abbrev pub placesSet : Store → ℕ → List ℕ → List ℕ
-placesSet x a marks = (newCode (x .set) a == 0) ⇒ setAt marks (a - 1) (x .current .position .place) else marks
+placesSet x a marks = (newCode (x .set) a == 0) ⇒ markPut a (x .current .position .place) marks else marks
 
 -- mark a is dropped; one that does not stand is refused
 abbrev pub markDropped : Store → ℕ → Called
@@ -73,6 +75,13 @@ marksStanding x = done x 0 (ones (x .set))
 abbrev pub changesFree : Store → ℕ → Called
 changesFree x free = done x 0 free
 
+-- mark a is named; refused, it and its words stay
+abbrev pub markNamed : Store → List ℕ → ℕ → Name → Called
+markNamed x marks a n = done x (nameCode (x .set) marks a n) 0
+
+abbrev pub namesSet : Store → ℕ → Name → List ℕ → List ℕ
+namesSet x a n marks = (nameCode (x .set) marks a n == 0) ⇒ nameSet a n marks else marks
+
 -- ---- the calls that lead to another place
 
 abbrev pub Leads : HistoryCall → Type 0
@@ -85,11 +94,22 @@ Leads Commit = ⊥
 Leads (Between a c) = ⊥
 Leads Standing = ⊥
 Leads Free = ⊥
+Leads (NameMark a b c) = ⊥
+Leads (GoToName b c) = Unit {0}
 
 abbrev pub nowhere : Way
 nowhere = record { code = 0; back = false; steps = 0 }
 
--- one step back or on, where the place is not at that end; to the place of a mark that stands
+-- to the place of mark a
+abbrev pub wayTo : List ℕ → ℕ → ℕ → ℕ → Way
+wayTo marks place code a = record {
+  code = code;
+  back = ltb (placeIn marks a) place;
+  steps = distance place (placeIn marks a);
+}
+
+-- one step back or on, where the place is not at that end; to the place of a mark that stands, or of the one that has a
+-- name
 abbrev pub wayOf : Store → List ℕ → HistoryCall → Way
 wayOf x marks (SetMark a) = nowhere
 wayOf x marks (DropMark a) = nowhere
@@ -99,15 +119,15 @@ wayOf x marks Redo = record {
   back = false;
   steps = 1;
 }
-wayOf x marks (GoTo a) = record {
-  code = standingCode (x .set) a;
-  back = ltb (placeIn marks a) (x .current .position .place);
-  steps = distance (x .current .position .place) (placeIn marks a);
-}
+wayOf x marks (GoTo a) = wayTo marks (x .current .position .place) (standingCode (x .set) a) a
+wayOf x marks (GoToName b c) =
+    wayTo marks (x .current .position .place) ((holderIn (x .set) marks 0 (name b c) == 0) ⇒ 19 else 0)
+    (holderIn (x .set) marks 0 (name b c))
 wayOf x marks Commit = nowhere
 wayOf x marks (Between a c) = nowhere
 wayOf x marks Standing = nowhere
 wayOf x marks Free = nowhere
+wayOf x marks (NameMark a b c) = nowhere
 
 -- ---- what a refused call leaves
 

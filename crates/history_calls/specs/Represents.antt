@@ -7,6 +7,7 @@ use Rattle.history.specs.Machine.{Machine, at, freeOf}
 use Rattle.commands.specs.declared.HistoryCall.{HistoryCall}
 use Rattle.machine.specs.Rules.{Rule, answered, followed, historyRule}
 use Rattle.marks.specs.Marked.{Marked}
+use Rattle.marks.specs.Named.{Named}
 use Rattle.timeline.specs.Steps.{Journal}
 use Rattle.history_calls.specs.declared.Store.{Store}
 use Rattle.history_calls.specs.declared.Called.{Called}
@@ -17,6 +18,7 @@ pub record Represents (b : Bounds) (x : Store) (mem : Memory) (m : Machine) : Ty
   pub journal : Journal b (x .current .position) (tablesOf x mem) (mem .journal) (m .line)
   pub marks : Marked (m .marks) (x .set) (mem .marks)
   pub inside : (k q : ℕ) → m .marks k ≡ at q → q ≤ length (m .line .steps)
+  pub names : Named (m .marks) (m .names) (mem .marks)
 
 -- a call by this rule: the answer is the machine's, and so is what is represented afterwards
 pub record Follows (r : Rule) (m : Machine) (b : Bounds) (d : Called) (mem : Memory) : Type 0 where

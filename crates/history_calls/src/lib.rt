@@ -4,6 +4,7 @@ use commands::Answer;
 use commands::HistoryCall;
 use graph_tables::Head;
 use marks::codes::both_code;
+use marks::codes::name_code;
 use marks::codes::new_code;
 use marks::codes::standing_code;
 use timeline::Current;
@@ -13,7 +14,7 @@ ghost use Prim.Native.Nat.{ℕ, _^_, _<_};
 ghost use lib.ListN.{length};
 ghost use Rattle.graph.specs.Graph.{Graph};
 ghost use Rattle.graph.specs.WellFormed.{Bounds, Within};
-ghost use Rattle.history.specs.Machine.{fresh};
+ghost use Rattle.history.specs.Machine.{fresh, name};
 ghost use Rattle.marks.specs.Marked.{markWords};
 ghost use Rattle.graph_tables.specs.Holds.{Holds};
 ghost use Rattle.graph_tables.specs.Capacities.{Sized};
@@ -30,7 +31,10 @@ ghost use Rattle.history_calls.specs.Outcomes.{
   betweenMarks,
   marksStanding,
   changesFree,
+  markNamed,
+  namesSet,
   Leads,
+  wayTo,
   wayOf,
   Leaves,
 };
@@ -91,7 +95,7 @@ pub fn start(head: Head) -> Store
     }
 }
 
-// Where kinds 19, 20 and 21 lead: a code, or so many steps back or on.
+// Where kinds 19, 20, 21 and 57 lead: a code, or so many steps back or on.
 pub struct Way {
     pub code: u32,
     pub back: bool,
@@ -108,7 +112,32 @@ fn end_code(place: u32, end: u32) -> u32
     0
 }
 
-// Kind 19 is one step back, kind 20 one step on, kind 21 leads to the place of a mark. No other call leads anywhere.
+// To the place of mark a, where the code is 0.
+fn to_mark(marks: &[u32], place: u32, code: u32, a: u32) -> Way
+    requires { ⌜ length (now marks) ≡ markWords ⌝ }
+    ensures { λ r. ⌜ r ≡ wayTo (now (marks .entry)) place code a ⌝ }
+{
+    let q = marks::place_of(marks, a);
+    let steps = marks::between(place, q);
+    Way {
+        code,
+        back: q < place,
+        steps,
+    }
+}
+
+// Code 19 or 0: a mark was found.
+fn found_code(a: u32) -> u32
+    ensures { λ r. ⌜ r ≡ ((a == 0) ⇒ 19 else 0) ⌝ }
+{
+    if a == 0 {
+        return 19;
+    }
+    0
+}
+
+// Kind 19 is one step back, kind 20 one step on, kind 21 leads to the place of a mark, kind 57 to that of the mark with
+// a name. No other call leads anywhere.
 pub fn way_of(store: Store, marks: &[u32], call: HistoryCall) -> Way
     requires { ⌜ length (now marks) ≡ markWords ⌝ }
     ensures { λ r. ⌜ r ≡ wayOf store (now (marks .entry)) call ⌝ }
@@ -133,13 +162,12 @@ pub fn way_of(store: Store, marks: &[u32], call: HistoryCall) -> Way
         }
         HistoryCall::GoTo(a) => {
             let code = standing_code(store.set, a);
-            let q = marks::place_of(marks, a);
-            let steps = marks::between(place, q);
-            Way {
-                code,
-                back: q < place,
-                steps,
-            }
+            to_mark(marks, place, code, a)
+        }
+        HistoryCall::GoToName(b, c) => {
+            let a = marks::holder(store.set, marks, 0, b, c);
+            let code = found_code(a);
+            to_mark(marks, place, code, a)
         }
         _ => Way {
             code: 0,
@@ -149,7 +177,7 @@ pub fn way_of(store: Store, marks: &[u32], call: HistoryCall) -> Way
     }
 }
 
-// Kinds 19, 20 and 21: the steps on the way are undone or redone. Refused, it leaves every word; else those of the
+// Kinds 19, 20, 21 and 57: the steps on the way are undone or redone. Refused, it leaves every word; else those of the
 // tables are left open, but for the graph that they hold.
 fn go(
     store: Store,
@@ -211,6 +239,20 @@ pub fn set_mark(store: Store, marks: &mut [u32], a: u32) -> Called
         store: Store { current, set },
         answer: Answer { code: 0, number: 0 },
     }
+}
+
+// Kind 56: mark a has the name b, c.
+pub fn name_mark(store: Store, marks: &mut [u32], a: u32, b: u32, c: u32) -> Called
+    requires { ⌜ length (now marks) ≡ markWords ⌝ }
+    ensures { λ r. ⌜ r ≡ markNamed store (now (marks .entry)) a (name b c) ⌝ }
+    ensures { λ r. ⌜ now (marks .exit) ≡ namesSet store a (name b c) (now (marks .entry)) ⌝ }
+{
+    let code = name_code(store.set, marks, a, b, c);
+    if code != 0 {
+        return stay(store, code, 0);
+    }
+    marks::name_mark(marks, a, b, c);
+    stay(store, 0, 0)
 }
 
 // Kind 18: mark a goes.
@@ -304,6 +346,7 @@ pub fn perform(
         HistoryCall::Between(a, b) => between(store, marks, a, b),
         HistoryCall::Standing => standing(store),
         HistoryCall::Free => free_changes(store, free),
+        HistoryCall::NameMark(a, b, c) => name_mark(store, marks, a, b, c),
         _ => go(store, vertices, edges, journal, marks, call),
     }
 }

@@ -18,8 +18,8 @@ use Rattle.graph.specs.WellFormed.{Within}
 use Rattle.prices.proofs.Ranges.{two-way-range, grade-range}
 use Rattle.image.specs.Image.{load}
 use Rattle.image.proofs.WordSize.{Word}
-use Rattle.history.specs.Machine.{Machine, present}
-use Rattle.commands.specs.declared.HistoryCall.the-variants.{SetMark, DropMark, Undo, Redo, GoTo, Commit, Between, Standing, Free}
+use Rattle.history.specs.Machine.{Machine, present, name, holderOf}
+use Rattle.commands.specs.declared.HistoryCall.the-variants.{SetMark, DropMark, Undo, Redo, GoTo, Commit, Between, Standing, Free, NameMark, GoToName}
 use Rattle.commands.specs.declared.Question.{Question}
 use Rattle.commands.specs.declared.Question.the-variants.{
   FirstVertex,
@@ -74,11 +74,11 @@ lowest-le n (r ∷ rs) (more h hs) = go (r .applies) (lowest-le n rs hs)
     go true i = h
     go false i = i
 
-pub code-le : (w : Parameters) (m : Machine) (c : Command) → refusal w m c ≤ 17
+pub code-le : (w : Parameters) (m : Machine) (c : Command) → refusal w m c ≤ 19
 unfolding refusal
 code-le w m c =
     let t = codeTable w m (callOf c) in
-    lowest-le 17 t (all-bool (λ (r : Row). leb (r .code) 17) (λ r e. leb-true (r .code) 17 e) t refl)
+    lowest-le 19 t (all-bool (λ (r : Row). leb (r .code) 19) (λ r e. leb-true (r .code) 19 e) t refl)
 
 -- ---- numbers
 
@@ -139,6 +139,8 @@ module _ (w : Parameters) (m : Machine) (k : Limits w) (i : Invariant w m) where
   number-fits (History (Between a b)) = omega (arith, between-le w m i a b, k .few-changes)
   number-fits (History Standing) = omega (arith, standing-le (m .marks))
   number-fits (History Free) = omega (arith, free-le w m, k .few-changes)
+  number-fits (History (NameMark n b c)) = omega arith
+  number-fits (History (GoToName b c)) = omega (arith, moved-le w m i (holderOf (name b c) m), k .few-changes)
   number-fits (Ask q) = question-fits q
   number-fits (Quote (Range a b)) = omega (arith, two-way-range (boundsIn w) (present m) ranges a b)
   number-fits (Quote (Grade a b c)) = omega (arith, grade-range (boundsIn w) (present m) ranges a b c)

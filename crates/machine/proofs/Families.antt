@@ -15,10 +15,10 @@ use Rattle.graph.specs.declared.Change.the-variants.{CreateVertex, DeleteVertex
 use Rattle.graph.specs.Changes.{cost}
 use Rattle.graph.specs.Same.{alters}
 use Rattle.history.specs.Machine.{Step, stepOf, Machine, present}
-use Rattle.machine.specs.HistoryCodes.{tooDear, historyTable}
-use Rattle.machine.specs.Rules.{Effect, steps, marks, unmarks, goes, clears, nothing, deed, changeDeed, historyDeed, firstCode, changeRule, historyRule}
+use Rattle.machine.specs.HistoryCodes.{tooDear, historyTable, nameTable}
+use Rattle.machine.specs.Rules.{Effect, steps, marks, unmarks, goes, names, clears, nothing, deed, changeDeed, historyDeed, firstCode, changeRule, historyRule}
 use Rattle.commands.specs.declared.HistoryCall.{HistoryCall}
-use Rattle.commands.specs.declared.HistoryCall.the-variants.{SetMark, DropMark, Undo, Redo, GoTo, Commit, Between, Standing, Free}
+use Rattle.commands.specs.declared.HistoryCall.the-variants.{SetMark, DropMark, Undo, Redo, GoTo, Commit, Between, Standing, Free, NameMark, GoToName}
 use Rattle.commands.specs.declared.Question.{Question}
 use Rattle.commands.specs.declared.Question.the-variants.{FirstVertex, NextVertex, FirstEdge, NextEdge, FirstWord, NextWord, Alpha, Omega, This, That, VertexType, EdgeType, Value, ReadingKind, Decimetres, Degree, VertexOrder, EdgeOrder, WordOrder, Below}
 use Rattle.commands.specs.declared.PriceCall.{PriceCall}
@@ -53,7 +53,7 @@ both-zero r t e = go (r == 0) refl t e
 module _ (w : Parameters) (m : Machine) where
   -- ---- changes: 2 to 9, then 10
 
-  room-only : (c : Change) → lowest (historyTable (w .changes) m (changeCall c) ++ lastTable (present m) (changeCall c)) ≡ (tooDear (w .changes) m c ⇒ 10 else 0)
+  room-only : (c : Change) → lowest (historyTable (w .changes) m (changeCall c) ++ (lastTable (present m) (changeCall c) ++ nameTable m (changeCall c))) ≡ (tooDear (w .changes) m c ⇒ 10 else 0)
   unfolding changeOf
   room-only (CreateVertex n t x) = refl
   room-only (DeleteVertex a) = refl
@@ -76,7 +76,7 @@ module _ (w : Parameters) (m : Machine) where
   unfolding refusal
   change-refusal c =
       let t = chartTable (boundsIn w) (present m) (changeCall c) in
-      lowest-both t (historyTable (w .changes) m (changeCall c) ++ lastTable (present m) (changeCall c)) (all-bool (λ (r : Row). leb 1 (r .code)) (λ r e. leb-true 1 (r .code) e) t refl)
+      lowest-both t (historyTable (w .changes) m (changeCall c) ++ (lastTable (present m) (changeCall c) ++ nameTable m (changeCall c))) (all-bool (λ (r : Row). leb 1 (r .code)) (λ r e. leb-true 1 (r .code) e) t refl)
       ∙ ap (firstCode (lowest t)) (room-only c)
 
   -- what an accepted change has passed
@@ -96,6 +96,8 @@ module _ (w : Parameters) (m : Machine) where
   history-refusal (Between j k) = refl
   history-refusal Standing = refl
   history-refusal Free = refl
+  history-refusal (NameMark k b c) = refl
+  history-refusal (GoToName b c) = refl
 
   pub question-refusal : (q : Question) → refusal w m (Ask q) ≡ questionCode (length (w .rows)) (present m) q
   unfolding refusal
@@ -133,6 +135,7 @@ Makes P (steps s) = P s
 Makes P (marks n) = Unit {0}
 Makes P (unmarks n) = Unit {0}
 Makes P (goes p) = Unit {0}
+Makes P (names k n) = Unit {0}
 Makes P clears = Unit {0}
 Makes P nothing = Unit {0}
 
@@ -154,3 +157,5 @@ history-makes P capacity Commit m = tt
 history-makes P capacity (Between j k) m = tt
 history-makes P capacity Standing m = tt
 history-makes P capacity Free m = tt
+history-makes P capacity (NameMark k b c) m = tt
+history-makes P capacity (GoToName b c) m = tt

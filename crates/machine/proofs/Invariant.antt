@@ -11,7 +11,7 @@ use Rattle.lists.proofs.Members.{keep-length}
 use Rattle.graph.specs.Graph.{Graph}
 use Rattle.history.specs.Machine.{Step, Machine, MarkPlace, gone, at, stands, placeOr, costs, distance, countStanding, fresh, present}
 use Rattle.history.specs.Machine.{stepOf}
-use Rattle.machine.specs.Rules.{Effect, steps, marks, unmarks, goes, clears, nothing, effected}
+use Rattle.machine.specs.Rules.{Effect, steps, marks, unmarks, goes, names, clears, nothing, effected}
 use Rattle.commands.specs.declared.Command.{Command}
 use Rattle.commands.specs.declared.Command.the-variants.{Alter, History, Ask, Quote, Unknown}
 use Rattle.commands.specs.Calls.{Call}
@@ -50,6 +50,7 @@ costed-next (steps s) m h a = costed-cut (m .line .place) s a h
 costed-next (marks n) m h a = a
 costed-next (unmarks n) m h a = a
 costed-next (goes p) m h a = a
+costed-next (names k n) m h a = a
 costed-next clears m h a = done
 costed-next nothing m h a = a
 

@@ -2,6 +2,7 @@ pub mod Accepts
 pub mod MarkCalls
 pub mod Stands
 pub mod MarkLaws
+pub mod NameLaws
 pub mod PriceLaws
 pub mod Families
 pub mod CostsFit

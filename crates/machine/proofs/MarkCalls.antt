@@ -1,26 +1,27 @@
--- The calls that set and end marks, by their kinds and answers, are those whose effect does.
+-- The calls that set, end and name marks, by their kinds and answers, are those whose effect does.
 use Prim.Native.Nat.{ℕ, suc, _≤_, _<_}
 use mathlib.Core.Path.{_≡_, refl, sym, ap, _∙_}
-use mathlib.Core.Logic.{_⊎_, inl, inr}
-use mathlib.Core.Bool.{Bool, true, false, not, _&&_}
+use mathlib.Core.Logic.{_⊎_, inl, inr, _≢_}
+use mathlib.Core.Bool.{Bool, true, false, not, _&&_, _||_}
 use native.Mathlib.Omega.{arith}
 use lib.Dec.{leb, ltb}
 use borrow.Author.Tests.{eqb-true, eqb-false, ne-eqb, leb-false, le-leb, lt-leb}
 use Rattle.lists.specs.Choice.{_⇒_else_, _==_, within}
-use Rattle.lists.proofs.Bools.{or-true, or-none, within-range}
+use Rattle.lists.proofs.Bools.{tf, or-true, or-none, within-range}
 use Rattle.graph.specs.declared.Change.{Change}
 use Rattle.graph.specs.Changes.{cost}
 use Rattle.graph.specs.Same.{alters}
-use Rattle.history.specs.Machine.{Machine, present}
+use Rattle.history.specs.Machine.{Machine, Name, sameName, present}
 use Rattle.commands.specs.declared.Command.{Command}
 use Rattle.commands.specs.declared.Command.the-variants.{Alter}
 use Rattle.commands.specs.Calls.{Call}
 use Rattle.commands.specs.Commands.{changeOf, commandOf}
-use Rattle.machine.specs.Rules.{Effect, steps, marks, unmarks, goes, clears, nothing, changeDeed}
+use Rattle.machine.specs.Rules.{Effect, steps, marks, unmarks, goes, names, clears, nothing, changeDeed}
 use Rattle.machine.specs.Calls.{Parameters, known}
 use Rattle.machine.specs.Codes.{refusal}
 use Rattle.machine.specs.Machine.{deedOf, answerTo, answer}
 use Rattle.machine.specs.Marks.{eventOf, callSets, setsMark, callEnds, endsMark}
+use Rattle.machine.specs.Names.{callNames, callGives, namesMark, givesName}
 use Rattle.machine.proofs.Accepts.{code-is, number-is}
 use Rattle.machine.proofs.Families.{change-effect}
 use Rattle.machine.proofs.GraphBounds.{cost-real}
@@ -33,6 +34,7 @@ setsBy (marks n) k = k == n
 setsBy (steps s) k = false
 setsBy (unmarks n) k = false
 setsBy (goes p) k = false
+setsBy (names j n) k = false
 setsBy clears k = false
 setsBy nothing k = false
 
@@ -42,7 +44,26 @@ endsBy (marks n) k q p = k == n
 endsBy (unmarks n) k q p = k == n
 endsBy clears k q p = true
 endsBy (goes r) k q p = false
+endsBy (names j n) k q p = false
 endsBy nothing k q p = false
+
+abbrev pub renamesBy : Effect → ℕ → Bool
+renamesBy (names j n) k = k == j
+renamesBy (steps s) k = false
+renamesBy (marks j) k = false
+renamesBy (unmarks j) k = false
+renamesBy (goes p) k = false
+renamesBy clears k = false
+renamesBy nothing k = false
+
+abbrev pub namesBy : Effect → ℕ → Name → Bool
+namesBy (names j o) k n = (k == j) && sameName o n
+namesBy (steps s) k n = false
+namesBy (marks j) k n = false
+namesBy (unmarks j) k n = false
+namesBy (goes p) k n = false
+namesBy clears k n = false
+namesBy nothing k n = false
 
 -- ---- by the kind
 
@@ -57,11 +78,14 @@ change-ends c m k q p = go (alters c (present m)) refl
     go true e = rw (e, ne-eqb (cost c (present m)) 0 (λ z. omega (arith, z, cost-real c (present m))))
     go false e = rw e
 
--- what is to be shown of a call: whether it sets mark k, and whether it ends mark k, which stands at q
+-- what is to be shown of a call: whether it sets mark k, whether it ends mark k, which stands at q, and whether it names
+-- mark k
 abbrev ByKind : Parameters → Machine → ℕ → ℕ → Call → Type 0
 ByKind w m k q x =
     (callSets k x ≡ setsBy (deedOf w (commandOf x) m .effect) k)
     × (callEnds k q (m .line .place) (deedOf w (commandOf x) m .number) x ≡ endsBy (deedOf w (commandOf x) m .effect) k q (m .line .place))
+    × (callNames k x ≡ renamesBy (deedOf w (commandOf x) m .effect) k)
+    × ((n : Name) → callGives k n x ≡ namesBy (deedOf w (commandOf x) m .effect) k n)
 
 module _ (w : Parameters) (m : Machine) (k q : ℕ) (x : Call) where
   change-kind : within 1 16 (x .kind) ≡ true → ByKind w m k q x
@@ -70,6 +94,8 @@ module _ (w : Parameters) (m : Machine) (k q : ℕ) (x : Call) where
         rw (is-change x h, ne-eqb (x .kind) 17 (omega arith)) (change-effect (λ e. false ≡ setsBy e k) (changeOf x) m (λ _. refl) refl),
         rw (is-change x h, ne-eqb 17 (x .kind) (omega arith), ne-eqb 18 (x .kind) (omega arith), ne-eqb (x .kind) 22 (omega arith), h)
             (change-ends (changeOf x) m k q (m .line .place)),
+        rw (is-change x h, ne-eqb (x .kind) 56 (omega arith)) (change-effect (λ e. false ≡ renamesBy e k) (changeOf x) m (λ _. refl) refl),
+        λ n. rw (is-change x h, ne-eqb (x .kind) 56 (omega arith)) (change-effect (λ e. false ≡ namesBy e k n) (changeOf x) m (λ _. refl) refl),
       )
 
   next : (n : ℕ) → ByKind w m k q (ofKind n x) → (suc n ≤ x .kind → ByKind w m k q x) → n ≤ x .kind → ByKind w m k q x
@@ -77,27 +103,38 @@ module _ (w : Parameters) (m : Machine) (k q : ℕ) (x : Call) where
 
   history-kind : x .kind ≤ 22 → 17 ≤ x .kind → ByKind w m k q x
   unfolding commandOf
-  history-kind top = next 17 (refl, refl) (next 18 (refl, refl) (next 19 (refl, refl) (next 20 (refl, refl) (next 21 (refl, refl) (next 22 (refl, refl) (λ h. absurd (omega arith)))))))
+  history-kind top = next 17 (refl, refl, refl, λ n. refl) (next 18 (refl, refl, refl, λ n. refl) (next 19 (refl, refl, refl, λ n. refl) (next 20 (refl, refl, refl, λ n. refl) (next 21 (refl, refl, refl, λ n. refl) (next 22 (refl, refl, refl, λ n. refl) (λ h. absurd (omega arith)))))))
 
   late-kind : x .kind ≤ 54 → 30 ≤ x .kind → ByKind w m k q x
   unfolding commandOf
-  late-kind top = next 30 (refl, refl) (next 31 (refl, refl) (next 32 (refl, refl) (next 33 (refl, refl) (next 34 (refl, refl) (next 35 (refl, refl) (next 36 (refl, refl) (next 37 (refl, refl) (next 38 (refl, refl) (next 39 (refl, refl) (next 40 (refl, refl) (next 41 (refl, refl) (next 42 (refl, refl) (next 43 (refl, refl) (next 44 (refl, refl) (next 45 (refl, refl) (next 46 (refl, refl) (next 47 (refl, refl) (next 48 (refl, refl) (next 49 (refl, refl) (next 50 (refl, refl) (next 51 (refl, refl) (next 52 (refl, refl) (next 53 (refl, refl) (next 54 (refl, refl) (λ h. absurd (omega arith))))))))))))))))))))))))))
+  late-kind top = next 30 (refl, refl, refl, λ n. refl) (next 31 (refl, refl, refl, λ n. refl) (next 32 (refl, refl, refl, λ n. refl) (next 33 (refl, refl, refl, λ n. refl) (next 34 (refl, refl, refl, λ n. refl) (next 35 (refl, refl, refl, λ n. refl) (next 36 (refl, refl, refl, λ n. refl) (next 37 (refl, refl, refl, λ n. refl) (next 38 (refl, refl, refl, λ n. refl) (next 39 (refl, refl, refl, λ n. refl) (next 40 (refl, refl, refl, λ n. refl) (next 41 (refl, refl, refl, λ n. refl) (next 42 (refl, refl, refl, λ n. refl) (next 43 (refl, refl, refl, λ n. refl) (next 44 (refl, refl, refl, λ n. refl) (next 45 (refl, refl, refl, λ n. refl) (next 46 (refl, refl, refl, λ n. refl) (next 47 (refl, refl, refl, λ n. refl) (next 48 (refl, refl, refl, λ n. refl) (next 49 (refl, refl, refl, λ n. refl) (next 50 (refl, refl, refl, λ n. refl) (next 51 (refl, refl, refl, λ n. refl) (next 52 (refl, refl, refl, λ n. refl) (next 53 (refl, refl, refl, λ n. refl) (next 54 (refl, refl, refl, λ n. refl) (λ h. absurd (omega arith))))))))))))))))))))))))))
+
+  latest-kind : x .kind ≤ 57 → 56 ≤ x .kind → ByKind w m k q x
+  unfolding commandOf
+  latest-kind top = next 56 (refl, refl, refl, λ n. refl) (next 57 (refl, refl, refl, λ n. refl) (λ h. absurd (omega arith)))
 
   -- a kind that is not named
   other-kind : known (x .kind) ≡ false → ByKind w m k q x
   other-kind e = rw (unknown x e) (quiet (x .kind == 0) refl)
     where
-      quiet : (t : Bool) → (x .kind == 0) ≡ t → (callSets k x ≡ false) × (callEnds k q (m .line .place) 0 x ≡ false)
+      unlike : (n : ℕ) → known n ≡ true → x .kind ≢ n
+      unlike n h i = tf (sym h ∙ sym (ap known i) ∙ e)
+
+      quiet : (t : Bool) → (x .kind == 0) ≡ t → (callSets k x ≡ false) × (callEnds k q (m .line .place) 0 x ≡ false) × (callNames k x ≡ false) × ((n : Name) → callGives k n x ≡ false)
       quiet true z =
           let i = eqb-true (x .kind) 0 z in (
             rw (ne-eqb (x .kind) 17 (omega (arith, i))),
             rw (ne-eqb 17 (x .kind) (omega (arith, i)), ne-eqb 18 (x .kind) (omega (arith, i)), ne-eqb (x .kind) 22 (omega (arith, i)), lt-leb 1 (x .kind) (omega (arith, i))),
+            rw (ne-eqb (x .kind) 56 (omega (arith, i))),
+            λ n. rw (ne-eqb (x .kind) 56 (omega (arith, i))),
           )
       quiet false z =
           let i = eqb-false (x .kind) 0 z in
-          let j : 22 < x .kind = leb-false (x .kind) 22 (sym (ap (λ (t : Bool). t && leb (x .kind) 22) (le-leb 1 (x .kind) (omega arith))) ∙ or-none (within 1 22 (x .kind)) (within 30 54 (x .kind)) e .0) in (
+          let j : 22 < x .kind = leb-false (x .kind) 22 (sym (ap (λ (t : Bool). t && leb (x .kind) 22) (le-leb 1 (x .kind) (omega arith))) ∙ or-none (within 1 22 (x .kind)) (within 30 54 (x .kind) || within 56 57 (x .kind)) e .0) in (
             rw (ne-eqb (x .kind) 17 (omega arith)),
             rw (ne-eqb 17 (x .kind) (omega arith), ne-eqb 18 (x .kind) (omega arith), ne-eqb (x .kind) 22 (omega arith), le-leb 1 (x .kind) (omega arith), lt-leb (x .kind) 16 (omega arith)),
+            rw (ne-eqb (x .kind) 56 (unlike 56 refl)),
+            λ n. rw (ne-eqb (x .kind) 56 (unlike 56 refl)),
           )
 
   by-kind : ByKind w m k q x
@@ -107,12 +144,16 @@ module _ (w : Parameters) (m : Machine) (k q : ℕ) (x : Call) where
       first true e l h = change-kind (rw (le-leb 1 (x .kind) l, e))
       first false e l h = let i = leb-false (x .kind) 16 e in history-kind h (omega arith)
 
-      either : (within 1 22 (x .kind) ≡ true) ⊎ (within 30 54 (x .kind) ≡ true) → ByKind w m k q x
+      later : (within 30 54 (x .kind) ≡ true) ⊎ (within 56 57 (x .kind) ≡ true) → ByKind w m k q x
+      later (inl h) = let r = within-range 30 54 (x .kind) h in late-kind (r .1) (r .0)
+      later (inr h) = let r = within-range 56 57 (x .kind) h in latest-kind (r .1) (r .0)
+
+      either : (within 1 22 (x .kind) ≡ true) ⊎ ((within 30 54 (x .kind) || within 56 57 (x .kind)) ≡ true) → ByKind w m k q x
       either (inl h) = let r = within-range 1 22 (x .kind) h in first (leb (x .kind) 16) refl (r .0) (r .1)
-      either (inr h) = let r = within-range 30 54 (x .kind) h in late-kind (r .1) (r .0)
+      either (inr h) = later (or-true (within 30 54 (x .kind)) (within 56 57 (x .kind)) h)
 
       go : (t : Bool) → known (x .kind) ≡ t → ByKind w m k q x
-      go true e = either (or-true (within 1 22 (x .kind)) (within 30 54 (x .kind)) e)
+      go true e = either (or-true (within 1 22 (x .kind)) _ e)
       go false e = other-kind e
 
   -- ---- events
@@ -129,3 +170,9 @@ module _ (w : Parameters) (m : Machine) (k q : ℕ) (x : Call) where
           ap (λ (n : ℕ). (answer w m x .code == 0) && callEnds k q (m .line .place) n x) (number-is w m (commandOf x) f)
           ∙ ap (λ (t : Bool). (answer w m x .code == 0) && t) (by-kind .1)
       go false f = rw (code-is w m (commandOf x) false f)
+
+  pub renames-is : namesMark k (eventOf w m x) ≡ ((answer w m x .code == 0) && renamesBy (deedOf w (commandOf x) m .effect) k)
+  renames-is = ap (λ (t : Bool). (answer w m x .code == 0) && t) (by-kind .2)
+
+  pub gives-is : (n : Name) → givesName k n (eventOf w m x) ≡ ((answer w m x .code == 0) && namesBy (deedOf w (commandOf x) m .effect) k n)
+  gives-is n = ap (λ (t : Bool). (answer w m x .code == 0) && t) (by-kind .3 n)

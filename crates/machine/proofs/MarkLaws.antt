@@ -12,10 +12,10 @@ use Rattle.lists.specs.Choice.{_==_, within}
 use Rattle.lists.specs.Lists.{any}
 use Rattle.lists.proofs.Bools.{tf, ft, and-true, or-none}
 use Rattle.graph.specs.Graph.{Graph}
-use Rattle.history.specs.Machine.{Machine, MarkPlace, gone, at, placeOr, graphAt, distance, fresh, present}
+use Rattle.history.specs.Machine.{Machine, MarkPlace, gone, at, placeOr, graphAt, distance, fresh, present, name, holderOf}
 use Rattle.history.proofs.Timelines.{length-cut, graph-kept}
-use Rattle.machine.specs.Rules.{Effect, steps, marks, unmarks, goes, clears, nothing, effected}
-use Rattle.commands.specs.declared.HistoryCall.the-variants.{SetMark, DropMark, Undo, Redo, GoTo, Commit, Between, Standing as StandingMarks, Free}
+use Rattle.machine.specs.Rules.{Effect, steps, marks, unmarks, goes, names, clears, nothing, effected}
+use Rattle.commands.specs.declared.HistoryCall.the-variants.{SetMark, DropMark, Undo, Redo, GoTo, Commit, Between, Standing as StandingMarks, Free, NameMark, GoToName}
 use Rattle.commands.specs.declared.Command.{Command}
 use Rattle.commands.specs.declared.Command.the-variants.{Alter, History, Ask, Quote, Unknown}
 use Rattle.commands.specs.Calls.{Call}
@@ -48,7 +48,7 @@ redo-room w m f = go (m .line .place == length (m .line .steps)) refl
     go false e = refl
 
 -- code 11
-set-range : (w : Parameters) (m : Machine) (k : ℕ) → (refusal w m (History (SetMark k)) == 0) ≡ true → within 1 64 k ≡ true
+pub set-range : (w : Parameters) (m : Machine) (k : ℕ) → (refusal w m (History (SetMark k)) == 0) ≡ true → within 1 64 k ≡ true
 unfolding refusal
 set-range w m k f = go (within 1 64 k) refl
   where
@@ -61,9 +61,17 @@ Inside : Effect → Machine → Type 0
 Inside (goes p) m = p ≤ length (m .line .steps)
 Inside (steps s) m = Unit {0}
 Inside (marks n) m = Unit {0}
+Inside (names k n) m = Unit {0}
 Inside (unmarks n) m = Unit {0}
 Inside clears m = Unit {0}
 Inside nothing m = Unit {0}
+
+place-inside : (m : Machine) (k : ℕ) → PlacesInRange m → placeOr (m .line .place) (m .marks k) ≤ length (m .line .steps)
+place-inside m k h = go (m .marks k) refl
+  where
+    go : (s : MarkPlace) → m .marks k ≡ s → placeOr (m .line .place) s ≤ length (m .line .steps)
+    go gone e = h .place-in
+    go (at q) e = h .marks-in k q e
 
 inside : (w : Parameters) (m : Machine) (c : Command) → PlacesInRange m → (refusal w m c == 0) ≡ true → Inside (deedOf w c m .effect) m
 unfolding Inside
@@ -72,15 +80,13 @@ inside w m (History (SetMark k)) h f = tt
 inside w m (History (DropMark k)) h f = tt
 inside w m (History Undo) h f = omega (arith, h .place-in)
 inside w m (History Redo) h f = let n = eqb-false (m .line .place) (length (m .line .steps)) (redo-room w m f) in omega (arith, h .place-in, n)
-inside w m (History (GoTo k)) h f = go (m .marks k) refl
-  where
-    go : (s : MarkPlace) → m .marks k ≡ s → placeOr (m .line .place) s ≤ length (m .line .steps)
-    go gone e = h .place-in
-    go (at q) e = h .marks-in k q e
+inside w m (History (GoTo k)) h f = place-inside m k h
 inside w m (History Commit) h f = tt
 inside w m (History (Between j k)) h f = tt
 inside w m (History StandingMarks) h f = tt
 inside w m (History Free) h f = tt
+inside w m (History (NameMark k b c)) h f = tt
+inside w m (History (GoToName b c)) h f = place-inside m (holderOf (name b c) m) h
 inside w m (Ask q) h f = tt
 inside w m (Quote p) h f = tt
 inside w m Unknown h f = tt
@@ -106,6 +112,7 @@ places-next (unmarks n) m h r = record {
   marks-in = λ k q e. h .marks-in k q (drop-to (k == n) q (m .marks k) e .0);
 }
 places-next (goes p) m h r = record { place-in = r; marks-in = h .marks-in }
+places-next (names k n) m h r = record { place-in = h .place-in; marks-in = h .marks-in }
 places-next clears m h r = fresh-places (present m)
 places-next nothing m h r = h
 
@@ -123,6 +130,7 @@ loses clears q p = true
 loses (marks n) q p = false
 loses (unmarks n) q p = false
 loses (goes r) q p = false
+loses (names k n) q p = false
 loses nothing q p = false
 
 ends-loses : (e : Effect) (k q p : ℕ) → endsBy e k q p ≡ false → loses e q p ≡ false
@@ -131,6 +139,7 @@ ends-loses (steps s) k q p e = e
 ends-loses (marks n) k q p e = refl
 ends-loses (unmarks n) k q p e = refl
 ends-loses (goes r) k q p e = refl
+ends-loses (names j n) k q p e = refl
 ends-loses clears k q p e = e
 ends-loses nothing k q p e = refl
 
@@ -140,11 +149,12 @@ sets-loses (steps s) k q p e = ft e
 sets-loses (marks n) k q p e = refl
 sets-loses (unmarks n) k q p e = refl
 sets-loses (goes r) k q p e = refl
+sets-loses (names j n) k q p e = refl
 sets-loses clears k q p e = ft e
 sets-loses nothing k q p e = refl
 
 -- Gq is there, and is g
-Holds : Machine → ℕ → Graph → Type 0
+unfoldable pub Holds : Machine → ℕ → Graph → Type 0
 Holds m q g = (q ≤ length (m .line .steps)) × (graphAt q (m .line .start) (m .line .steps) ≡ g)
 
 holds-next : (e : Effect) (m : Machine) (q : ℕ) (g : Graph) → PlacesInRange m → Holds m q g → loses e q (m .line .place) ≡ false → Holds (effected e m) q g
@@ -155,6 +165,7 @@ holds-next (steps s) m q g h i e =
 holds-next (marks n) m q g h i e = i
 holds-next (unmarks n) m q g h i e = i
 holds-next (goes p) m q g h i e = i
+holds-next (names k n) m q g h i e = i
 holds-next clears m q g h i e = tf e
 holds-next nothing m q g h i e = i
 
@@ -184,7 +195,7 @@ stay-graph w m (x ∷ xs) k q g h i e =
     (holds-ends w m x k q g h i (or-none (endsMark k q (eventOf w m x)) _ e .0))
     (or-none (endsMark k q (eventOf w m x)) _ e .1)
 
-kept-graph : (w : Parameters) (m : Machine) (xs : List Call) (k q : ℕ) (g : Graph) → PlacesInRange m → Kept k q g (events w m xs) → Holds (last w m xs) q g
+pub kept-graph : (w : Parameters) (m : Machine) (xs : List Call) (k q : ℕ) (g : Graph) → PlacesInRange m → Kept k q g (events w m xs) → Holds (last w m xs) q g
 unfolding last events Holds
 kept-graph w m (x ∷ xs) k q g h (set-here s p c nz) =
     stay-graph w (step w m x) xs k q g (places-step w m x h)
@@ -201,12 +212,14 @@ sets-range w m (History Commit) k f e = ft e
 sets-range w m (History (Between i j)) k f e = ft e
 sets-range w m (History StandingMarks) k f e = ft e
 sets-range w m (History Free) k f e = ft e
+sets-range w m (History (NameMark j b c)) k f e = ft e
+sets-range w m (History (GoToName b c)) k f e = ft e
 sets-range w m (Alter c) k f e = change-effect (λ i. setsBy i k ≡ true → within 1 64 k ≡ true) c m (λ _ j. ft j) (λ j. ft j) e
 sets-range w m (Ask q) k f e = ft e
 sets-range w m (Quote p) k f e = ft e
 sets-range w m Unknown k f e = ft e
 
-kept-range : (w : Parameters) (m : Machine) (xs : List Call) (k q : ℕ) (g : Graph) → Kept k q g (events w m xs) → within 1 64 k ≡ true
+pub kept-range : (w : Parameters) (m : Machine) (xs : List Call) (k q : ℕ) (g : Graph) → Kept k q g (events w m xs) → within 1 64 k ≡ true
 unfolding events
 kept-range w m (x ∷ xs) k q g (set-here s p c nz) =
     let a = and-true _ _ (sym (sets-is w m k q x) ∙ s) in

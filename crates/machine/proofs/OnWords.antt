@@ -2,17 +2,17 @@
 use Prim.Native.Nat.{ℕ, suc, _≤_, _<_}
 use mathlib.Core.Path.{_≡_, refl, sym, ap, _∙_, subst}
 use mathlib.Core.Logic.{_⊎_, inl, inr}
-use mathlib.Core.Bool.{Bool, true, false, _&&_}
+use mathlib.Core.Bool.{Bool, true, false, _&&_, _||_}
 use native.Mathlib.Omega.{arith}
 use lib.Dec.{leb}
 use borrow.Author.Tests.{eqb-true, eqb-false, leb-false, lt-leb, le-leb, ne-eqb}
-use Rattle.lists.specs.Choice.{_==_, within}
+use Rattle.lists.specs.Choice.{_⇒_else_, _==_, within}
 use Rattle.lists.proofs.Bools.{or-true, within-range, or-none}
 use Rattle.history.specs.Machine.{Machine}
-use Rattle.commands.specs.declared.Command.the-variants.{Unknown}
+use Rattle.commands.specs.declared.Command.the-variants.{History, Unknown}
 use Rattle.commands.specs.Calls.{Call, five}
 use Rattle.commands.specs.Tables.{lowest}
-use Rattle.commands.specs.Commands.{commandOf}
+use Rattle.commands.specs.Commands.{historyOf, commandOf}
 use Rattle.machine.specs.Calls.{Parameters, known}
 use Rattle.machine.specs.Codes.{codeTable, refusal}
 
@@ -31,8 +31,18 @@ module _ (x : Call) where
       out : (lo hi : ℕ) → within lo hi (x .kind) ≡ false → lo ≤ x .kind → hi < x .kind
       out lo hi f h = leb-false (x .kind) hi (sym (ap (λ (t : Bool). t && leb (x .kind) hi) (le-leb lo (x .kind) h)) ∙ f)
 
-      ranges : (within 1 22 (x .kind) ≡ false) × (within 30 54 (x .kind) ≡ false)
-      ranges = or-none (within 1 22 (x .kind)) (within 30 54 (x .kind)) e
+      ranges : (within 1 22 (x .kind) ≡ false) × (within 30 54 (x .kind) ≡ false) × (within 56 57 (x .kind) ≡ false)
+      ranges =
+          let r = or-none (within 1 22 (x .kind)) _ e in
+          let s = or-none (within 30 54 (x .kind)) (within 56 57 (x .kind)) (r .1) in
+          (r .0, s .0, s .1)
+
+      last : (t : Bool) → (x .kind == 55) ≡ t → 54 < x .kind → ((x .kind == 55) ⇒ Unknown else leb (x .kind) 57 ⇒ History (historyOf (x .kind) (x .a) (x .b) (x .c)) else Unknown) ≡ Unknown
+      last true f h = rw f
+      last false f h =
+          let n = eqb-false (x .kind) 55 f in
+          let o : 57 < x .kind = out 56 57 (ranges .2) (omega arith) in
+          rw (f, lt-leb (x .kind) 57 o)
 
       high : (t : Bool) → leb (x .kind) 29 ≡ t → (x .kind == 0) ≡ false → leb (x .kind) 16 ≡ false → leb (x .kind) 22 ≡ false → commandOf x ≡ Unknown
       high true f z a b = rw (z, a, b, f)
@@ -48,7 +58,7 @@ module _ (x : Call) where
             ne-eqb (x .kind) 52 (omega arith),
             ne-eqb (x .kind) 53 (omega arith),
             ne-eqb (x .kind) 54 (omega arith),
-          )
+          ) (last (x .kind == 55) refl h)
 
       low : (t : Bool) → (x .kind == 0) ≡ t → commandOf x ≡ Unknown
       low true f = rw f
@@ -80,6 +90,10 @@ module _ (w : Parameters) (m : Machine) (x : Call) where
   unfolding refusal commandOf
   late top = next 30 refl (next 31 refl (next 32 refl (next 33 refl (next 34 refl (next 35 refl (next 36 refl (next 37 refl (next 38 refl (next 39 refl (next 40 refl (next 41 refl (next 42 refl (next 43 refl (next 44 refl (next 45 refl (next 46 refl (next 47 refl (next 48 refl (next 49 refl (next 50 refl (next 51 refl (next 52 refl (next 53 refl (next 54 refl (λ h. absurd (omega arith))))))))))))))))))))))))))
 
+  latest : x .kind ≤ 57 → 56 ≤ x .kind → OnWords w m x
+  unfolding refusal commandOf
+  latest top = next 56 refl (next 57 refl (λ h. absurd (omega arith)))
+
   -- a kind that is not named
   other : known (x .kind) ≡ false → OnWords w m x
   unfolding refusal
@@ -88,10 +102,14 @@ module _ (w : Parameters) (m : Machine) (x : Call) where
   pub on-words : OnWords w m x
   on-words = go (known (x .kind)) refl
     where
-      either : (within 1 22 (x .kind) ≡ true) ⊎ (within 30 54 (x .kind) ≡ true) → OnWords w m x
+      later : (within 30 54 (x .kind) ≡ true) ⊎ (within 56 57 (x .kind) ≡ true) → OnWords w m x
+      later (inl h) = let r = within-range 30 54 (x .kind) h in late (r .1) (r .0)
+      later (inr h) = let r = within-range 56 57 (x .kind) h in latest (r .1) (r .0)
+
+      either : (within 1 22 (x .kind) ≡ true) ⊎ ((within 30 54 (x .kind) || within 56 57 (x .kind)) ≡ true) → OnWords w m x
       either (inl h) = let r = within-range 1 22 (x .kind) h in early (r .1) (r .0)
-      either (inr h) = let r = within-range 30 54 (x .kind) h in late (r .1) (r .0)
+      either (inr h) = later (or-true (within 30 54 (x .kind)) (within 56 57 (x .kind)) h)
 
       go : (t : Bool) → known (x .kind) ≡ t → OnWords w m x
-      go true e = either (or-true (within 1 22 (x .kind)) (within 30 54 (x .kind)) e)
+      go true e = either (or-true (within 1 22 (x .kind)) _ e)
       go false e = other e

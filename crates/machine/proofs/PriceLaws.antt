@@ -11,7 +11,7 @@ use Rattle.lists.proofs.Bools.{ft}
 use Rattle.lists.specs.Choice.{_⇒_else_, _==_}
 use Rattle.lists.specs.Lists.{any}
 use Rattle.graph.specs.Graph.{Graph}
-use Rattle.history.specs.Machine.{Machine, fresh, present}
+use Rattle.history.specs.Machine.{Machine, Name, fresh, present}
 use Rattle.commands.specs.declared.PriceCall.{PriceCall}
 use Rattle.commands.specs.declared.PriceCall.the-variants.{Range, Grade}
 use Rattle.commands.specs.declared.Command.the-variants.{Quote}
@@ -23,8 +23,10 @@ use Rattle.machine.specs.Codes.{lacksVertex, priceCode}
 use Rattle.commands.specs.declared.Answer.{Answer}
 use Rattle.machine.specs.Machine.{priceOn, answerTo, answer, step, last}
 use Rattle.machine.specs.Marks.{eventOf, events, setsMark, endsMark, Kept, set-here, set-later, goTo}
+use Rattle.machine.specs.Names.{HasName, goBy}
 use Rattle.machine.proofs.Families.{price-refusal}
 use Rattle.machine.proofs.MarkLaws.{mark-sentence}
+use Rattle.machine.proofs.NameLaws.{name-sentence}
 
 pub price-of-present : (w : Parameters) (m : Machine) (p : PriceCall) → answerTo w m (Quote p) ≡ priceOn (present m) p
 unfolding answerTo
@@ -49,14 +51,20 @@ price-list-code g a b c =
 
 -- ---- marks
 
--- at every point, after a call that goes to a standing mark: what is answered on the graph h, held as the mark was last set
+price-on : (w : Parameters) (m : Machine) (h : Graph) → present m ≡ h → (x : Call) (p : PriceCall) → commandOf x ≡ Quote p → answer w m x ≡ priceOn h p
+price-on w m h i x p e = ap (answerTo w m) e ∙ price-of-present w m p ∙ ap (λ (y : Graph). priceOn y p) i
+
+-- at every point, after a call that goes to a standing mark by its number or its name: what is answered on the graph h,
+-- held as the mark was last set
 pub price-comes-back : (w : Parameters) (g : Graph) (xs : List Call) (k q : ℕ) (h : Graph) (b c d : ℕ) →
     Kept k q h (events w (fresh g) xs) → (x : Call) (p : PriceCall) → commandOf x ≡ Quote p →
     answer w (step w (last w (fresh g) xs) (goTo k b c d)) x ≡ priceOn h p
-price-comes-back w g xs k q h b c d r x p e =
-    ap (answerTo w (step w (last w (fresh g) xs) (goTo k b c d))) e
-    ∙ price-of-present w (step w (last w (fresh g) xs) (goTo k b c d)) p
-    ∙ ap (λ (y : Graph). priceOn y p) (mark-sentence w g xs .going k q h b c d r .1)
+price-comes-back w g xs k q h b c d r = price-on w (step w (last w (fresh g) xs) (goTo k b c d)) h (mark-sentence w g xs .going k q h b c d r .1)
+
+pub price-by-name : (w : Parameters) (g : Graph) (xs : List Call) (k q : ℕ) (h : Graph) (n : Name) (c d : ℕ) →
+    HasName k q h n (events w (fresh g) xs) → (x : Call) (p : PriceCall) → commandOf x ≡ Quote p →
+    answer w (step w (last w (fresh g) xs) (goBy n c d)) x ≡ priceOn h p
+price-by-name w g xs k q h n c d r = price-on w (step w (last w (fresh g) xs) (goBy n c d)) h (name-sentence w g xs .going k q h n c d r .1)
 
 -- a mark that call s sets and none of the calls vs ends
 kept-at : (w : Parameters) (m : Machine) (us vs : List Call) (s : Call) (k : ℕ) → setsMark k (eventOf w (last w m us) s) ≡ true →

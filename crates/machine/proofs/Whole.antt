@@ -16,6 +16,7 @@ use Rattle.machine.specs.Marks.{Event, events}
 use Rattle.machine.specs.Run.{Lent, AfterRun, parametersOf, listRefusal, answerWords, accepted, run}
 use Rattle.machine.specs.Demand.{begins, after, Demand3}
 use Rattle.machine.proofs.MarkLaws.{mark-sentence}
+use Rattle.machine.proofs.NameLaws.{name-sentence}
 use Rattle.machine.proofs.ListRows.{passed}
 use Rattle.machine.proofs.StepsAlter.{steps-alter}
 use Rattle.machine.proofs.Ends.{run-end-fits}
@@ -54,6 +55,7 @@ demand-3 l e = record {
   events-are = λ xs. (events-called (parametersOf l) (begins l) xs, events-answered (parametersOf l) (begins l) xs);
   every-point = λ xs ys c. mark-sentence (parametersOf l) (load (l .start)) xs;
   steps-alter = λ xs ys c. steps-alter (parametersOf l) (load (l .start)) xs;
+  names = λ xs ys c. name-sentence (parametersOf l) (load (l .start)) xs;
 }
 
 -- ---- the slices keep their lengths

@@ -11,6 +11,7 @@ use Rattle.commands.specs.Calls.{Call, callsOf}
 use Rattle.commands.specs.declared.Answer.{Answer}
 use Rattle.machine.specs.Machine.{answer, answers, step, last}
 use Rattle.machine.specs.Marks.{Event, events, MarkSentence}
+use Rattle.machine.specs.Names.{NameSentence}
 use Rattle.machine.specs.Run.{Lent, AfterRun, parametersOf, answerWords}
 
 -- the plain machine as the list begins
@@ -57,3 +58,6 @@ pub record Demand3 (l : Lent) (r : AfterRun) : Type 0 where
       → MarkSentence (parametersOf l) (load (l .start)) xs
   -- and the steps between two marks altered something
   pub steps-alter : (xs ys : List Call) → xs ++ ys ≡ callsOf (l .calls) → Altering (after l xs .line)
+  -- and the names of the marks
+  pub names : (xs ys : List Call) → xs ++ ys ≡ callsOf (l .calls)
+      → NameSentence (parametersOf l) (load (l .start)) xs

@@ -1,6 +1,6 @@
--- Rows 10 to 14 of the table of codes, read on a call's words and the machine as the call begins.
+-- Rows 10 to 14, 18 and 19 of the table of codes, read on a call's words and the machine as the call begins.
 use Prim.Native.Nat.{ℕ}
-use mathlib.Core.Bool.{Bool, false, not, _&&_}
+use mathlib.Core.Bool.{Bool, false, not, _&&_, _||_}
 use mathlib.Core.List.{List, [], _∷_}
 use lib.ListN.{length}
 use lib.Dec.{ltb}
@@ -12,14 +12,14 @@ use Rattle.graph.specs.Same.{alters}
 use Rattle.commands.specs.Calls.{Call}
 use Rattle.commands.specs.Tables.{Row, row, some}
 use Rattle.commands.specs.Commands.{changeOf}
-use Rattle.history.specs.Machine.{Machine, freeOf, stands, present, isMark}
+use Rattle.history.specs.Machine.{Machine, freeOf, stands, present, isMark, name, isName, holderBut, holderOf}
 
 abbrev pub isChange : ℕ → Bool
 isChange k = within 1 16 k
 
 abbrev pub marksNamed : Call → List ℕ
 marksNamed x =
-    (x .kind is (17 ∷ 18 ∷ 21 ∷ [])) ⇒ (x .a ∷ []) else
+    (x .kind is (17 ∷ 18 ∷ 21 ∷ 56 ∷ [])) ⇒ (x .a ∷ []) else
     (x .kind == 49) ⇒ (x .a ∷ x .b ∷ []) else
     []
 
@@ -58,4 +58,21 @@ historyTable capacity m x =
     row 12 (markStands m x) ∷
     row 13 (markMissing m x) ∷
     row 14 (atAnEnd m x) ∷
+    []
+
+-- REFERENCE 7.18: zeros, or the name of another standing mark
+abbrev pub nameTaken : Machine → ℕ → ℕ → ℕ → Bool
+nameTaken m a b c = not (isName (name b c)) || not (holderBut a (name b c) m == 0)
+
+abbrev pub nameRefused : Machine → Call → Bool
+nameRefused m x = (x .kind == 56) && nameTaken m (x .a) (x .b) (x .c)
+
+-- REFERENCE 7.19: no standing mark has the name
+abbrev pub nameMissing : Machine → Call → Bool
+nameMissing m x = (x .kind == 57) && (holderOf (name (x .a) (x .b)) m == 0)
+
+abbrev pub nameTable : Machine → Call → List Row
+nameTable m x =
+    row 18 (nameRefused m x) ∷
+    row 19 (nameMissing m x) ∷
     []

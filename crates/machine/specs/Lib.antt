@@ -4,6 +4,7 @@ pub mod Rules
 pub mod Codes
 pub mod Machine
 pub mod Marks
+pub mod Names
 pub mod Run
 pub mod Demand
 pub mod Demands

@@ -17,14 +17,19 @@ use Rattle.commands.specs.declared.HistoryCall.the-variants.{
   Between,
   Standing,
   Free,
+  NameMark,
+  GoToName,
 }
 use Rattle.commands.specs.declared.Answer.{Answer}
 use Rattle.commands.specs.Answers.{answerOf}
+use mathlib.Core.List.{_++_}
 use Rattle.commands.specs.Tables.{lowest}
 use Rattle.commands.specs.Commands.{historyCall}
 use Rattle.history.specs.Machine.{
   Step,
   stepOf,
+  Name,
+  name,
   Machine,
   freeOf,
   distance,
@@ -35,15 +40,18 @@ use Rattle.history.specs.Machine.{
   movedTo,
   withMarkSet,
   withMarkDropped,
+  withName,
   afterCommit,
+  holderOf,
 }
-use Rattle.machine.specs.HistoryCodes.{tooDear, historyTable}
+use Rattle.machine.specs.HistoryCodes.{tooDear, historyTable, nameTable}
 use Rattle.machine.specs.Codes.{changeCode}
 
--- what an accepted call does: a step, a mark set or dropped, another place, a commit, or nothing
+-- what an accepted call does: a step, a mark set, dropped or named, another place, a commit, or nothing
 pub data Effect : Type 0 where
   steps : Step → Effect
   marks unmarks goes : ℕ → Effect
+  names : ℕ → Name → Effect
   clears nothing : Effect
 
 abbrev pub effected : Effect → Machine → Machine
@@ -51,6 +59,7 @@ effected (steps s) m = afterChange s m
 effected (marks n) m = withMarkSet n m
 effected (unmarks n) m = withMarkDropped n m
 effected (goes p) m = movedTo p m
+effected (names k n) m = withName k n m
 effected clears m = afterCommit m
 effected nothing m = m
 
@@ -66,19 +75,25 @@ deed n e = record { number = n; effect = e }
 abbrev pub changeDeed : Change → Machine → Deed
 changeDeed c m = alters c (present m) ⇒ deed (cost c (present m)) (steps (stepOf c (present m))) else deed 0 nothing
 
+-- to the place of mark k
+abbrev pub goingTo : ℕ → Machine → Deed
+goingTo k m =
+    deed (distance (m .line .place) (placeOr (m .line .place) (m .marks k)))
+    (goes (placeOr (m .line .place) (m .marks k)))
+
 -- REFERENCE 4.5 to 4.10
 abbrev pub historyDeed : ℕ → HistoryCall → Machine → Deed
 historyDeed capacity (SetMark k) m = deed 0 (marks k)
 historyDeed capacity (DropMark k) m = deed 0 (unmarks k)
 historyDeed capacity Undo m = deed 1 (goes (m .line .place - 1))
 historyDeed capacity Redo m = deed 1 (goes (suc (m .line .place)))
-historyDeed capacity (GoTo k) m =
-    deed (distance (m .line .place) (placeOr (m .line .place) (m .marks k)))
-    (goes (placeOr (m .line .place) (m .marks k)))
+historyDeed capacity (GoTo k) m = goingTo k m
 historyDeed capacity Commit m = deed (m .line .place) clears
 historyDeed capacity (Between j k) m = deed (distance (placeOr 0 (m .marks j)) (placeOr 0 (m .marks k))) nothing
 historyDeed capacity Standing m = deed (countStanding (m .marks)) nothing
 historyDeed capacity Free m = deed (freeOf capacity (m .line)) nothing
+historyDeed capacity (NameMark k b c) m = deed 0 (names k (name b c))
+historyDeed capacity (GoToName b c) m = goingTo (holderOf (name b c) m) m
 
 -- ---- rules
 
@@ -109,6 +124,6 @@ changeRule b capacity c = record {
 abbrev pub historyRule : ℕ → HistoryCall → Rule
 historyRule capacity h = record {
   code = λ m. lowest
-      (historyTable capacity m (historyCall h));
+      (historyTable capacity m (historyCall h) ++ nameTable m (historyCall h));
   deed = historyDeed capacity h;
 }

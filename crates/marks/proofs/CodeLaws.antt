@@ -1,4 +1,4 @@
--- The codes 11, 12 and 13 read off the set of marks.
+-- The codes 11, 12, 13 and 18 read off the set and the words of the marks.
 use Prim.Native.Nat.{ℕ, _≤_, _<_}
 use mathlib.Core.Path.{_≡_, refl, sym, ap, _∙_}
 use mathlib.Core.Logic.{_≢_}
@@ -6,12 +6,14 @@ use mathlib.Core.Bool.{Bool, true, false, not, _||_}
 use mathlib.Core.List.{List}
 use native.Mathlib.Omega.{arith}
 use borrow.Author.Tests.{le-leb, lt-leb}
-use Rattle.lists.specs.Choice.{_⇒_else_, within}
+use Rattle.lists.specs.Choice.{_⇒_else_, _==_, within}
 use Rattle.lists.proofs.Bools.{tf, within-range}
-use Rattle.history.specs.Machine.{Machine, stands}
+use Rattle.history.specs.Machine.{Machine, stands, Name, isName, holderBut}
 use Rattle.marks.specs.Marked.{inSet, Marked}
-use Rattle.marks.proofs.MarkLaws.{in-set}
-use Rattle.marks.specs.Codes.{noMark, standingCode, newCode, bothCode}
+use Rattle.marks.specs.Named.{holderIn, Named}
+use Rattle.marks.specs.Codes.{noMark, standingCode, newCode, bothCode, nameCode}
+use Rattle.marks.proofs.MarkLaws.{in-set, in-range as in-marks-of}
+use Rattle.marks.proofs.NameLaws.{holder-same, holder-bears}
 
 -- ---- 1 to 64
 
@@ -117,3 +119,50 @@ both-none set a b e = go (noMark a) (noMark b) (not (inSet set a)) (not (inSet s
 
 pub both-by : (set a b c d code : ℕ) → code ≡ bothCode c d → c ≡ standingCode set a → d ≡ standingCode set b → code ≡ bothCode (standingCode set a) (standingCode set b)
 both-by set a b c d code e f g = e ∙ ap (λ (x : ℕ). bothCode x d) f ∙ ap (bothCode (standingCode set a)) g
+
+-- ---- 18
+
+pub name-codes : (m : Machine) (set : ℕ) (words : List ℕ) → Marked (m .marks) set words → Named (m .marks) (m .names) words → (a : ℕ) (n : Name)
+    → nameCode set words a n ≡ (noMark a ⇒ 11 else not (stands (m .marks a)) ⇒ 13 else (not (isName n) || not (holderBut a n m == 0)) ⇒ 18 else 0)
+name-codes m set words h f a n =
+    set-says m set words h a (λ t. not t ⇒ 13 else (not (isName n) || not (holderIn set words a n == 0)) ⇒ 18 else 0)
+    ∙ ap (λ (k : ℕ). noMark a ⇒ 11 else not (stands (m .marks a)) ⇒ 13 else (not (isName n) || not (k == 0)) ⇒ 18 else 0) (holder-same m set words a n h f)
+
+pub name-none : (set : ℕ) (words : List ℕ) (a : ℕ) (n : Name) → nameCode set words a n ≡ 0 → Mark set a true
+name-none set words a n z = go (noMark a) (inSet set a) (not (isName n) || not (holderIn set words a n == 0)) refl refl z
+  where
+    go : (s t u : Bool) → noMark a ≡ s → inSet set a ≡ t → _≡_ {A = ℕ} (s ⇒ 11 else not t ⇒ 13 else u ⇒ 18 else 0) 0 → Mark set a true
+    go true t u f g h = absurd (omega (arith, h))
+    go false false u f g h = absurd (omega (arith, h))
+    go false true u f g h = let r = range-of a f in record { low = r .0; high = r .1; stands = g }
+
+-- ---- the ways out of `name_code`
+
+module _ (set : ℕ) (words : List ℕ) (a : ℕ) (n : Name) where
+  pub name-stands : (code : ℕ) → code ≡ standingCode set a → code ≢ 0 → code ≡ nameCode set words a n
+  name-stands code e z = e ∙ go (noMark a) (inSet set a) (λ i. z (e ∙ i))
+    where
+      go : (s t : Bool) → _≢_ {A = ℕ} (s ⇒ 11 else not t ⇒ 13 else 0) 0 → _≡_ {A = ℕ} (s ⇒ 11 else not t ⇒ 13 else 0) (s ⇒ 11 else not t ⇒ 13 else (not (isName n) || not (holderIn set words a n == 0)) ⇒ 18 else 0)
+      go true t h = refl
+      go false false h = refl
+      go false true h = absurd (h refl)
+
+  -- behind 11 and 13
+  pub name-rest : (u : Bool) (code : ℕ) → standingCode set a ≡ 0 → (not (isName n) || not (holderIn set words a n == 0)) ≡ u → code ≡ (u ⇒ 18 else 0) → code ≡ nameCode set words a n
+  name-rest u code e f g = g ∙ ap (λ (v : Bool). v ⇒ 18 else 0) (sym f) ∙ go (noMark a) (inSet set a) e
+    where
+      rest : ℕ
+      rest = (not (isName n) || not (holderIn set words a n == 0)) ⇒ 18 else 0
+
+      go : (s t : Bool) → _≡_ {A = ℕ} (s ⇒ 11 else not t ⇒ 13 else 0) 0 → rest ≡ (s ⇒ 11 else not t ⇒ 13 else rest)
+      go true t h = absurd (omega (arith, h))
+      go false false h = absurd (omega (arith, h))
+      go false true h = refl
+
+-- ---- the holder of a name stands
+
+pub holder-stands : (set : ℕ) (words : List ℕ) (n : Name) → holderIn set words 0 n ≢ 0 → standingCode set (holderIn set words 0 n) ≡ 0
+holder-stands set words n d = in-code (holderIn set words 0 n) (holder-bears set words n d)
+  where
+    in-code : (a : ℕ) → inSet set a ≡ true → standingCode set a ≡ 0
+    in-code a e = let r = in-marks-of set a e in rw (in-range a (r .0) (r .1), e)

@@ -1,3 +1,4 @@
 pub mod Digits
 pub mod MarkLaws
+pub mod NameLaws
 pub mod CodeLaws

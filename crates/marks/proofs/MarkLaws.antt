@@ -17,7 +17,7 @@ use Rattle.lists.specs.Choice.{_==_, _⇒_else_, toBit, within}
 use Rattle.lists.proofs.Bools.{ft, and-true, within-range}
 use Rattle.lists.proofs.Picks.{Same, same, differ, same?}
 use Rattle.history.specs.Machine.{MarkPlace, gone, at, noMarks, stands, placeOr, marked, cut, cutMarks, countStanding}
-use Rattle.marks.specs.Marked.{binary, inSet, placeIn, withMark, withoutMark, cutSet, Marked}
+use Rattle.marks.specs.Marked.{markWords, binary, inSet, placeIn, withMark, withoutMark, cutSet, Marked}
 use Rattle.marks.proofs.Digits.{digits-at, digits-agree, digits-more, digits-of, digit-past, ones-count, one-shl, or-bit, or-same, xor-bit}
 
 -- ---- one mark is another
@@ -246,7 +246,7 @@ cut-end s left a p t places e z g = g ∙ digits-agree 64 1 (λ j. inSet s j && 
 
 -- ---- none, and how many
 
-pub none-marked : (places : List ℕ) → length places ≡ 64 → Marked noMarks 0 places
+pub none-marked : (places : List ℕ) → length places ≡ markWords → Marked noMarks 0 places
 unfolding binary
 none-marked places e = record { room = e; bits = none 64 1; known = λ k q f. absurd (gone-not gone q refl f) }
   where

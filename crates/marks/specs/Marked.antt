@@ -9,9 +9,9 @@ use Rattle.lists.specs.Choice.{_==_, _⇒_else_, toBit}
 use Rattle.graph.specs.Limits.{mostMarks}
 use Rattle.history.specs.Machine.{MarkPlace, at, stands, isMark}
 
--- the words lent for the marks: a place each
+-- the words lent for the marks: a place each, then the two words of the name of each
 abbrev pub markWords : ℕ
-markWords = mostMarks
+markWords = 3 * mostMarks
 
 -- the number of n binary digits that are b k, b (k + 1), .., the lowest first
 unfoldable pub binary : ℕ → ℕ → (ℕ → Bool) → ℕ

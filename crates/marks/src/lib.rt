@@ -1,21 +1,22 @@
-// The standing marks: one 64-bit set, and the place of each.
+// The standing marks: one 64-bit set, and the place and the name of each.
 pub mod codes;
 
 use graph::MOST_MARKS;
 ghost use mathlib.Core.Path.{_≡_};
-ghost use mathlib.Core.Bool.{true, false, _&&_};
+ghost use mathlib.Core.Bool.{true, false, not, _&&_};
 ghost use mathlib.Core.List.{List};
 ghost use Prim.Native.Nat.{ℕ, _-_, _%_};
 ghost use lib.Count.{ones};
 ghost use lib.Dec.{ltb};
-ghost use lib.ListN.{length, set as setAt};
+ghost use lib.ListN.{length};
 ghost use Rattle.lists.specs.Choice.{_==_, _⇒_else_};
-ghost use Rattle.history.specs.Machine.{MarkPlace, isMark, gone, at, noMarks};
+ghost use Rattle.history.specs.Machine.{MarkPlace, isMark, gone, at, noMarks, name, isName};
 ghost use Rattle.history.specs.Machine.{marked, cutMarks, countStanding, distance};
 ghost use Rattle.marks.specs.Marked.{markWords, inSet, placeIn, withMark, withoutMark, cutSet, Marked};
+ghost use Rattle.marks.specs.Named.{nameAt, nameSet, markPut, bearsIn, holderIn};
 
-// The words lent for the marks: a place each.
-pub const WORDS: usize = MOST_MARKS as usize;
+// The words lent for the marks: a place each, then the two words of the name of each.
+pub const WORDS: usize = 3 * (MOST_MARKS as usize);
 
 // Is it the number of a mark?
 fn is_mark(a: u32) -> bool
@@ -50,12 +51,80 @@ pub fn place_of(places: &[u32], a: u32) -> u32
     places[k as usize]
 }
 
-// Kind 17: mark a at place p. Where a is no mark, nothing changes.
+// Where the two words of the name of mark a begin.
+fn name_at(a: u32) -> usize
+    requires { ⌜ isMark a ≡ true ⌝ }
+    ensures { λ r. ⌜ r ≡ nameAt a ⌝ }
+{
+    let k = a - 1;
+    (MOST_MARKS + 2 * k) as usize
+}
+
+// Mark a has the name b, c; 0, 0 is none. Where a is no mark, nothing changes.
+pub fn name_mark(words: &mut [u32], a: u32, b: u32, c: u32)
+    requires { ⌜ length (now words) ≡ markWords ⌝ }
+    ensures { λ _. ⌜ now (words .exit) ≡ nameSet a (name b c) (now (words .entry)) ⌝ }
+{
+    if !is_mark(a) {
+        return;
+    }
+    let i = name_at(a);
+    words[i] = b;
+    words[i + 1] = c;
+}
+
+// Are the two words a name?
+pub fn is_name(b: u32, c: u32) -> bool
+    ensures { λ r. ⌜ r ≡ isName (name b c) ⌝ }
+{
+    if b != 0 {
+        return true;
+    }
+    c != 0
+}
+
+// Does mark a, which is not `but`, stand and have the name b, c?
+fn bears(set: u64, words: &[u32], but: u32, b: u32, c: u32, a: u32) -> bool
+    requires { ⌜ length (now words) ≡ markWords ⌝ }
+    ensures { λ r. ⌜ r ≡ (not (a == but) && bearsIn set (now (words .entry)) (name b c) a) ⌝ }
+{
+    if a == but {
+        return false;
+    }
+    if !stands(set, a) {
+        return false;
+    }
+    if !is_name(b, c) {
+        return false;
+    }
+    let i = name_at(a);
+    if words[i] != b {
+        return false;
+    }
+    words[i + 1] == c
+}
+
+// The standing mark, other than `but`, that has the name b, c; 0 where none has.
+pub fn holder(set: u64, words: &[u32], but: u32, b: u32, c: u32) -> u32
+    requires { ⌜ length (now words) ≡ markWords ⌝ }
+    ensures { λ r. ⌜ r ≡ holderIn set (now (words .entry)) but (name b c) ⌝ }
+{
+    let mut a: u32 = 1;
+    while a <= MOST_MARKS {
+        if bears(set, words, but, b, c, a) {
+            return a;
+        }
+        a += 1;
+    }
+    0
+}
+
+// Kind 17: mark a at place p, with no name. Where a is no mark, nothing changes.
 pub fn set_mark(set: u64, places: &mut [u32], a: u32, p: u32) -> u64
     requires { ⌜ length (now places) ≡ markWords ⌝ }
     ensures { λ r. ⌜ r ≡ withMark a set ⌝ }
     ensures { λ r. ⌜ now (places .exit)
-        ≡ (isMark a ⇒ setAt (now (places .entry)) (a - 1) p else now (places .entry)) ⌝ }
+        ≡ (isMark a ⇒ markPut a p (now (places .entry)) else now (places .entry)) ⌝ }
     ensures { λ r. ⌜ ((ms : ℕ → MarkPlace) → isMark a ≡ true → inSet set a ≡ false
         → Marked ms set (now (places .entry)) → Marked (marked a (at p) ms) r (now (places .exit))) ⌝ }
 {
@@ -64,6 +133,7 @@ pub fn set_mark(set: u64, places: &mut [u32], a: u32, p: u32) -> u64
     }
     let k = a - 1;
     places[k as usize] = p;
+    name_mark(places, a, 0, 0);
     set | (1u64 << k)
 }
 

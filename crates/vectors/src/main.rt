@@ -237,7 +237,7 @@ fn first(line: &[u8]) -> u32 {
 }
 
 fn main() {
-    let mut bytes = io::large_buffer();
+    let mut bytes = [0u8; 400000];
     let count = io::read_full(STDIN_FILENO, &mut bytes);
     cases(between(&bytes, 0, count));
 }

@@ -81,7 +81,7 @@ fn then_walk(name: &'static str, before: &[(Call, (u32, u32))], vertex: u32, lis
     e
 }
 
-/// The rows of the table for single calls, codes 1 to 17.
+/// The rows of the table for single calls, codes 1 to 19.
 pub fn codes() -> Vec<Example> {
     // Fifteen changes of cost 1 leave 5 free: deleting vertex 1 costs 6.
     let mut fifteen: Vec<Call> = (1..=15).map(|value| [7, 1, value, 0, 0]).collect();
@@ -106,6 +106,8 @@ pub fn codes() -> Vec<Example> {
         example("code 15", &[[45, 1, 0, 3, 0]], &[(15, 0)]),
         example("code 16", &[[53, 1, 2, 0, 0]], &[(16, 0)]),
         example("code 17", &[[8, 1, 2, 0, 0], [54, 1, 1, 3, 0]], &[(0, 1), (17, 0)]),
+        example("code 18", &[[17, 5, 0, 0, 0], [56, 5, 0, 0, 0]], &[(0, 0), (18, 0)]),
+        example("code 19", &[[17, 5, 0, 0, 0], [57, 0, 0, 0, 0]], &[(0, 0), (19, 0)]),
     ]
 }
 
@@ -194,6 +196,22 @@ pub fn slips() -> Vec<Example> {
     ]
 }
 
+/// Marks with names.
+pub fn names() -> Vec<Example> {
+    vec![
+        example(
+            "a name is held by one mark, and free when it is replaced",
+            &[[17, 5, 0, 0, 0], [56, 5, 7, 0, 0], [17, 6, 0, 0, 0], [56, 6, 7, 0, 0], [56, 5, 0, 9, 0], [56, 6, 7, 0, 0], [57, 7, 0, 0, 0], [57, 0, 0, 0, 0]],
+            &[(0, 0), (0, 0), (0, 0), (18, 0), (0, 0), (0, 0), (0, 0), (19, 0)],
+        ),
+        example(
+            "a name goes when its mark is cut, and is not back when the mark is set again",
+            &[[7, 1, 1, 0, 0], [17, 5, 0, 0, 0], [56, 5, 1, 2, 0], [19, 0, 0, 0, 0], [7, 1, 2, 0, 0], [57, 1, 2, 0, 0], [17, 5, 0, 0, 0], [57, 1, 2, 0, 0]],
+            &[(0, 1), (0, 0), (0, 0), (0, 1), (0, 1), (19, 0), (0, 0), (19, 0)],
+        ),
+    ]
+}
+
 /// Every range, on a loop, and its grade by each price list.
 pub fn every_grade() -> Case {
     let mut calls = vec![[1, 1, 0, 0, 0], [3, 1, 1, 1, 0]];
@@ -235,7 +253,7 @@ mod tests {
 
     #[test]
     fn every_code_of_a_call() {
-        assert_eq!(codes().len(), 17);
+        assert_eq!(codes().len(), 19);
         for e in codes() {
             assert_eq!(answers(&e.case()), e.answers, "{}", e.name);
         }
@@ -259,6 +277,13 @@ mod tests {
     #[test]
     fn named_slips() {
         for e in slips() {
+            assert_eq!(answers(&e.case()), e.answers, "{}", e.name);
+        }
+    }
+
+    #[test]
+    fn marks_with_names() {
+        for e in names() {
             assert_eq!(answers(&e.case()), e.answers, "{}", e.name);
         }
     }

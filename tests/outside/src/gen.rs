@@ -5,7 +5,7 @@ mod pages;
 pub use images::words;
 pub use pages::{image_text, page};
 
-use crate::machine::{is_change, Call, Capacities, Edge, Graph, Machine, Reading, Types, Vertex};
+use crate::machine::{is_change, Call, Capacities, Edge, Graph, Machine, Name, Reading, Types, Vertex};
 use crate::run::{image_room, Case};
 use crate::text;
 use images::{damage_image, saved};
@@ -215,7 +215,10 @@ fn calls(r: &mut Random, mut machine: Machine, count: usize, long: bool) -> Vec<
         if is_change(kind) && machine.place < machine.costs.len() && !r.once_in(seldom_cut) {
             // Forward again, to the last mark or by a redo.
             call = match machine.marks.iter().max_by_key(|mark| mark.1) {
-                Some((mark, place)) if *place > machine.place => [21, *mark, 0, 0, 0],
+                Some((mark, place)) if *place > machine.place => match machine.names.get(mark) {
+                    Some([one, two]) if r.once_in(2) => [57, *one, *two, 0, 0],
+                    _ => [21, *mark, 0, 0, 0],
+                },
                 _ => [20, 0, 0, 0, 0],
             };
         } else if long && is_change(kind) && r.once_in(30) {
@@ -234,10 +237,10 @@ fn kind(r: &mut Random, machine: &Machine, mood: usize, commits: usize) -> u32 {
         return 22;
     }
     if r.once_in(60) {
-        return r.one_of(&[0, 23, 29, 55, 56, 1_000, u32::MAX]);
+        return r.one_of(&[0, 23, 29, 55, 58, 60, 1_000, u32::MAX]);
     }
     let question = |r: &mut Random| r.one_of(&[30, 31, 32, 33, 34, 35, 36, 37, 38, 39, 40, 41, 42, 43, 44, 45, 45, 46, 47, 48, 48, 52, 53, 54, 54]);
-    let history = |r: &mut Random| r.one_of(&[17, 17, 17, 17, 18, 19, 19, 19, 20, 20, 20, 21, 21, 21, 49, 49, 50, 51]);
+    let history = |r: &mut Random| r.one_of(&[17, 17, 17, 17, 18, 19, 19, 19, 20, 20, 20, 21, 21, 49, 49, 50, 51, 56, 56, 56, 57, 57]);
     let change = |r: &mut Random| {
         let g = machine.present();
         let half = |limit: u32| limit.min(100) as usize / 2;
@@ -302,6 +305,16 @@ fn call(r: &mut Random, machine: &Machine, kind: u32) -> Call {
             1 => r.one_of(&[1, 32, 33, 64]),
             _ if kind != 17 && !standing.is_empty() => r.one_of(&standing),
             _ => r.between(1, 64) as u32,
+        }
+    };
+    // The name of a standing mark, or one of few, also with a word 0 or with two.
+    let name = |r: &mut Random| -> Name {
+        let held: Vec<Name> = machine.names.values().copied().collect();
+        match r.under(12) {
+            0 => [0, 0],
+            1 => [r.word(), r.word()],
+            2..=5 if !held.is_empty() => r.one_of(&held),
+            _ => [r.one_of(&[0, 1, 7, u32::MAX]), r.one_of(&[0, 0, 1, 7])],
         }
     };
     let fresh = |r: &mut Random, limit: u32, used: &dyn Fn(u32) -> bool| {
@@ -381,6 +394,17 @@ fn call(r: &mut Random, machine: &Machine, kind: u32) -> Call {
         17 | 18 | 21 => [kind, mark(r), junk(r), junk(r), d],
         49 => [49, mark(r), mark(r), junk(r), d],
         52 => [52, ty(r), ty(r), junk(r), d],
+        56 => {
+            let a = mark(r);
+            // Now and then the name that it has.
+            let own = machine.names.get(&a).filter(|_| r.once_in(5)).copied();
+            let [b, c] = own.unwrap_or_else(|| name(r));
+            [56, a, b, c, d]
+        }
+        57 => {
+            let [a, b] = name(r);
+            [57, a, b, junk(r), d]
+        }
         _ => [kind, junk(r), junk(r), junk(r), d],
     }
 }

@@ -234,8 +234,11 @@ pub struct Capacities {
 /// Kind, a, b, c, d.
 pub type Call = [u32; 5];
 
+/// The two words of a mark's name.
+pub type Name = [u32; 2];
+
 pub fn is_kind(kind: u32) -> bool {
-    (1..=22).contains(&kind) || (30..=54).contains(&kind)
+    (1..=22).contains(&kind) || (30..=54).contains(&kind) || (56..=57).contains(&kind)
 }
 
 pub fn is_change(kind: u32) -> bool {
@@ -276,7 +279,7 @@ fn types_named([kind, a, b, _, d]: Call) -> Vec<u32> {
 
 fn marks_named([kind, a, b, _, _]: Call) -> Vec<u32> {
     match kind {
-        17 | 18 | 21 => vec![a],
+        17 | 18 | 21 | 56 => vec![a],
         49 => vec![a, b],
         _ => vec![],
     }
@@ -293,16 +296,29 @@ pub struct Machine {
     pub place: usize,
     /// The place of each standing mark.
     pub marks: BTreeMap<u32, usize>,
+    /// The name of each standing mark that has one.
+    pub names: BTreeMap<u32, Name>,
 }
 
 impl Machine {
     pub fn new(capacities: Capacities, types: Types, start: Graph) -> Machine {
-        Machine { capacities, types, graphs: vec![start], costs: vec![], place: 0, marks: BTreeMap::new() }
+        Machine { capacities, types, graphs: vec![start], costs: vec![], place: 0, marks: BTreeMap::new(), names: BTreeMap::new() }
     }
 
     /// Gp
     pub fn present(&self) -> &Graph {
         &self.graphs[self.place]
+    }
+
+    /// The standing mark with this name.
+    pub fn named(&self, name: Name) -> Option<u32> {
+        self.names.iter().find(|held| *held.1 == name).map(|held| *held.0)
+    }
+
+    /// Names go with their marks.
+    fn forget_names(&mut self) {
+        let marks = &self.marks;
+        self.names.retain(|mark, _| marks.contains_key(mark));
     }
 
     /// REFERENCE 4.4.
@@ -359,6 +375,9 @@ impl Machine {
         test(15, kind == 45 && c > 2);
         test(16, matches!(kind, 53 | 54) && g.two_way(a, b).is_none());
         test(17, kind == 54 && c > 2);
+        test(18, kind == 56 && [b, c] == [0, 0]);
+        test(18, kind == 56 && self.named([b, c]).is_some_and(|holder| holder != a));
+        test(19, kind == 57 && self.named([a, b]).is_none());
         codes.into_iter().min()
     }
 
@@ -367,7 +386,7 @@ impl Machine {
         if let Some(code) = self.refusal(call) {
             return (code, 0);
         }
-        let [kind, a, b, _, _] = call;
+        let [kind, a, b, c, _] = call;
         let number = match kind {
             1..=16 => {
                 let cost = self.cost(call);
@@ -379,6 +398,7 @@ impl Machine {
                 self.costs.truncate(self.place);
                 let place = self.place;
                 self.marks.retain(|_, at| *at <= place);
+                self.forget_names();
                 self.graphs.push(changed);
                 self.costs.push(cost);
                 self.place += 1;
@@ -390,6 +410,7 @@ impl Machine {
             }
             18 => {
                 self.marks.remove(&a);
+                self.forget_names();
                 0
             }
             19 => {
@@ -400,9 +421,10 @@ impl Machine {
                 self.place += 1;
                 1
             }
-            21 => {
-                let moved = self.place.abs_diff(self.marks[&a]);
-                self.place = self.marks[&a];
+            21 | 57 => {
+                let mark = if kind == 21 { a } else { self.named([a, b]).unwrap() };
+                let moved = self.place.abs_diff(self.marks[&mark]);
+                self.place = self.marks[&mark];
                 moved as u32
             }
             22 => {
@@ -411,11 +433,16 @@ impl Machine {
                 self.costs.clear();
                 self.place = 0;
                 self.marks.clear();
+                self.forget_names();
                 place as u32
             }
             49 => self.marks[&a].abs_diff(self.marks[&b]) as u32,
             50 => self.marks.len() as u32,
             51 => self.free(),
+            56 => {
+                self.names.insert(a, [b, c]);
+                0
+            }
             _ => self.asked(call),
         };
         (0, number)

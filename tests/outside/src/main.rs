@@ -12,7 +12,7 @@
 use outside::cases;
 use outside::gen;
 use outside::image;
-use outside::machine::{is_change, Call, Capacities, Graph};
+use outside::machine::{is_change, Call, Capacities, Graph, Machine, Name};
 use outside::page;
 use outside::run::{Case, Outcome};
 use outside::text;
@@ -88,7 +88,7 @@ fn fail(message: String) -> ! {
     exit(1)
 }
 
-/// The plain machine alone, held to REFERENCE 4.11 and 4.12 call by call.
+/// The plain machine alone, held to REFERENCE 4.11, 4.12, 4.16 and 4.17 call by call.
 fn run_alone(options: &Options) {
     let begun = Instant::now();
     let mut reached = Reached::default();
@@ -137,52 +137,81 @@ fn judges(seed: u64, words: &[u32], capacities: Capacities, types: u32) {
     fail(format!("seed {seed}: words {wrong}: {words:?}"));
 }
 
-/// REFERENCE 4.11 and 4.12 on the plain machine, by a record of its own of what each mark stood for.
+/// What is remembered of a standing mark, by kinds and answers alone.
+struct Mark {
+    place: usize,
+    graph: Graph,
+    name: Option<Name>,
+}
+
+/// REFERENCE 4.11, 4.12, 4.16 and 4.17 on the plain machine, by a record of its own of what each mark stood for.
 fn demands(case: &Case, outcome: &Outcome, reached: &mut Reached) -> Result<(), String> {
     let Ok(mut machine) = case.machine() else { return Ok(()) };
     let Outcome::Done { answers, image: end } = outcome else { return Err("refused and not refused".into()) };
     let types = case.rows.len() as u32;
-    let mut set: BTreeMap<u32, (usize, Graph)> = BTreeMap::new();
+    let mut set: BTreeMap<u32, Mark> = BTreeMap::new();
     for (i, call) in case.calls.chunks(5).enumerate() {
         let call: Call = call.try_into().unwrap();
-        let [kind, a, ..] = call;
-        let (place, steps, marks) = (machine.place, machine.costs.len(), machine.marks.len());
-        let before = (machine.present().clone(), machine.free());
+        let [kind, a, b, c, _] = call;
+        let state = |m: &Machine| (m.place, m.costs.len(), m.marks.clone(), m.names.clone(), m.free());
+        let (place, free) = (machine.place, machine.free());
+        let (before, graph) = (state(&machine), machine.present().clone());
         let (code, number) = machine.call(call);
         let wrong = |what: &str| Err(format!("call {i}, {call:?}: {what}"));
         if answers[2 * i..2 * i + 2] != [code, number] {
             return wrong("two answers");
         }
-        if code != 0 {
-            let after = (machine.place, machine.costs.len(), machine.marks.len());
-            if number != 0 || after != (place, steps, marks) || before != (machine.present().clone(), machine.free()) {
-                return wrong("refused and changed something");
+        let named = |name: Name| set.iter().find(|mark| mark.1.name == Some(name)).map(|mark| *mark.0);
+        let found = match kind {
+            21 => Some(a),
+            57 => named([a, b]),
+            _ => None,
+        };
+        if kind == 57 && code != if found.is_some() { 0 } else { 19 } {
+            return wrong("a name is found that no mark has, or is not found");
+        }
+        let taken = [b, c] == [0, 0] || named([b, c]).is_some_and(|holder| holder != a);
+        if kind == 56 && set.contains_key(&a) && code != if taken { 18 } else { 0 } {
+            return wrong("a name is given that is taken, or refused that is free");
+        }
+        let nothing = code != 0 || (is_change(kind) && number == 0);
+        if nothing && (number != 0 || state(&machine) != before || *machine.present() != graph) {
+            return wrong("refused, or answered 0, and changed something");
+        }
+        match kind {
+            _ if nothing => {}
+            1..=16 => {
+                set.retain(|_, mark| mark.place <= place);
+                if *machine.present() == graph
+                    || machine.place != place + 1
+                    || machine.free() + number != free
+                    || !image::is_chart(machine.present(), case.capacities(), types)
+                {
+                    return wrong("not a step");
+                }
             }
-        } else if is_change(kind) && number == 0 {
-            let after = (machine.place, machine.costs.len(), machine.marks.len());
-            if after != (place, steps, marks) || before != (machine.present().clone(), machine.free()) {
-                return wrong("answered 0 and changed something");
+            17 => {
+                set.insert(a, Mark { place, graph, name: None });
             }
-        } else if is_change(kind) {
-            set.retain(|_, mark| mark.0 <= place);
-            if *machine.present() == before.0
-                || machine.place != place + 1
-                || machine.free() + number != before.1
-                || !image::is_chart(machine.present(), case.capacities(), types)
-            {
-                return wrong("not a step");
+            18 => {
+                set.remove(&a);
             }
-        } else if kind == 17 {
-            set.insert(a, (place, before.0));
-        } else if kind == 18 {
-            set.remove(&a);
-        } else if kind == 22 {
-            set.clear();
-        } else if kind == 21 && (number as usize != place.abs_diff(set[&a].0) || *machine.present() != set[&a].1) {
-            return wrong("not the graph of the mark");
+            21 | 57 => {
+                let mark = &set[&found.unwrap()];
+                if number as usize != place.abs_diff(mark.place) || *machine.present() != mark.graph {
+                    return wrong("not the graph of the mark");
+                }
+            }
+            22 => set.clear(),
+            56 => set.get_mut(&a).unwrap().name = Some([b, c]),
+            _ => {}
         }
         if !set.keys().eq(machine.marks.keys()) {
             return wrong("other marks stand");
+        }
+        let told = set.iter().filter_map(|(mark, told)| told.name.map(|name| (*mark, name)));
+        if !told.eq(machine.names.iter().map(|(mark, name)| (*mark, *name))) {
+            return wrong("other names stand");
         }
         reached.longest = reached.longest.max(machine.costs.len());
     }
@@ -279,7 +308,7 @@ mod compare {
     }
 
     fn run_examples() {
-        for e in examples::codes().iter().chain(&examples::letters()).chain(&examples::slips()) {
+        for e in examples::codes().iter().chain(&examples::letters()).chain(&examples::slips()).chain(&examples::names()) {
             let case = e.case();
             let outcome = case.run();
             let flat: Vec<u32> = e.answers.iter().flat_map(|a| [a.0, a.1]).collect();

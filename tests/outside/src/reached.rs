@@ -62,7 +62,7 @@ impl Reached {
     /// Kinds never accepted, changes that never altered nothing, and codes never given.
     pub fn missing(&self) -> Vec<String> {
         let kinds = (0..100).filter(|k| is_kind(*k) && !self.kinds.contains_key(k)).map(|k| format!("kind {k}"));
-        let codes = (1..=17).chain(101..=106).chain(108..=109).filter(|c| !self.codes.contains_key(c)).map(|c| format!("code {c}"));
+        let codes = (1..=19).chain(101..=106).chain(108..=109).filter(|c| !self.codes.contains_key(c)).map(|c| format!("code {c}"));
         let idle = (5..=16).filter(|k| !self.idle.contains_key(k)).map(|k| format!("kind {k} that alters nothing"));
         let pages = [0, 105, 107, 108, 109].into_iter().filter(|c| !self.pages.contains_key(c)).map(|c| format!("page with code {c}"));
         let new = ["loaded", "106", "108", "a degree", "109"].map(|came| (image::RECORD, came));

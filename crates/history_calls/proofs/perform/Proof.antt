@@ -1,10 +1,11 @@
 -- `history_calls::perform` meets its contract.
 use mathlib.Core.Path.{refl, ap}
+use Rattle.history.specs.Machine.{name}
 use Rattle.history_calls.specs.declared.Called.{Called}
 use Rattle.history_calls.specs.Memory.{Memory, memory}
 use Rattle.history_calls.proofs.Following.{follows-by}
-use Rattle.history_calls.proofs.Calls.{set-follows, drop-follows, commit-follows, between-follows, count-follows, free-follows}
-use Rattle.history_calls.proofs.OutcomeLaws.{leaves-set, leaves-drop}
+use Rattle.history_calls.proofs.Calls.{set-follows, drop-follows, commit-follows, between-follows, count-follows, free-follows, name-follows}
+use Rattle.history_calls.proofs.OutcomeLaws.{leaves-set, leaves-drop, leaves-name}
 use Rattle.history_calls.proofs.Ways.{leads-by}
 use borrow.Author.Needs.{needs}
 use Rattle.history_calls.proofs.perform.Statement.{statement}
@@ -15,7 +16,7 @@ abbrev given : tie.Start → Memory
 given s = memory (s .args .vertices .now) (s .args .edges .now) (s .args .journal .now) (s .args .marks .now)
 
 go-requires : tie.Need-go-requires
-go-requires c κs = let s = c .before .before .before .before .before .before .before .before in (leads-by (s .args .call) (c .before .before .before .match .keys7), s .pre)
+go-requires c κs = let s = c .before .before .before .before .before .before .before .before in (leads-by (s .args .call) (c .before .before .before .match .keys8), s .pre)
 
 returns : tie.Need-returns
 returns c =
@@ -68,6 +69,15 @@ returns-6 c =
       λ b m n h f. rw (c .before .enum-told3 .given .1) (follows-by _ m b _ e (free-follows b (s .args .store) (given s) m h n (s .args .free) f)),
     )
 
+returns-7 : tie.Need-returns-7
+returns-7 c =
+    let s = c .before .before .before .before .before .before .before .before .before .before .before in
+    let k = c .before .before .before .before .before .call4 .given in
+    let e = c .before .before .name-mark .ensures in (
+      leaves-name (s .args .store) (k .0 .0) _ _ _ _ (s .args .marks .now) (name (k .0 .1 .0) (k .0 .1 .1 .0)) _ (e .0) (e .1),
+      λ b m n h f. rw (k .1, e .1) (follows-by _ m b _ (e .0) (name-follows b (s .args .store) (given s) m h n (k .0 .0) (k .0 .1 .0) (k .0 .1 .1 .0))),
+    )
+
 pub perform-spec : {M : Type 1} → statement M
 perform-spec =
     tie.close
@@ -84,6 +94,8 @@ perform-spec =
     (λ c κs. search needs)
     (λ c. search needs)
     (λ c κs. search needs)
+    (λ c. search needs)
+    (λ c κs. c .before .before .before .before .before .before .before .before .pre .2 .marks .room)
     go-requires
     (λ c. search needs)
     returns
@@ -93,6 +105,8 @@ perform-spec =
     returns-4
     returns-5
     returns-6
+    (λ c. search needs)
+    returns-7
     (λ c. search needs)
     (λ c. search needs)
     (λ c. search needs)

@@ -1,8 +1,9 @@
 -- `history_calls::way_of` meets its contract.
 use mathlib.Core.Bool.{true, false}
 use mathlib.Core.Path.{ap, _∙_}
-use lib.Dec.{ltb}
-use Rattle.history.specs.Machine.{distance}
+use Prim.Native.Nat.{ℕ}
+use Rattle.lists.specs.Choice.{_⇒_else_, _==_}
+use Rattle.history_calls.specs.Outcomes.{wayTo}
 use Rattle.history_calls.proofs.Ways.{no-way}
 use borrow.Author.Needs.{needs}
 use Rattle.history_calls.proofs.way_of.Statement.{statement}
@@ -16,13 +17,19 @@ returns-2 c = rw (c .before .enum-told2 .given .1) (λ i. record { code = c .end
 
 returns-3 : tie.Need-returns-3
 returns-3 c =
-    let p = c .before .before .before .before .before .before .before .args .store .current .position .place in
-    let q = c .before .place-of .ensures in
-    let n = c .between .ensures ∙ ap (distance p) q in
-    rw (c .before .before .before .before .call .given .1) (λ i. record { code = c .before .before .standing-code .ensures i; back = ltb (q i) p; steps = n i })
+    let a = c .before .before .before .before .before .before .args in
+    let e = c .before .standing-code .ensures in
+    rw (c .before .before .before .call .given .1) (c .to-mark .ensures ∙ ap (λ (k : ℕ). wayTo (a .marks .now) (a .store .current .position .place) k (c .before .before .before .call .given .0 .0)) e)
 
 returns-4 : tie.Need-returns-4
-returns-4 c = let a = c .before .before .args in no-way (a .store) (a .marks .now) (a .call) (c .match .keys4)
+returns-4 c =
+    let a = c .before .before .before .before .before .before .before .args in
+    let e = c .before .before .holder .ensures in
+    let f = c .before .found-code .ensures ∙ ap (λ (k : ℕ). (k == 0) ⇒ 19 else 0) e in
+    rw (c .before .before .before .before .call2 .given .1) (c .to-mark2 .ensures ∙ (λ i. wayTo (a .marks .now) (a .store .current .position .place) (f i) (e i)))
+
+returns-5 : tie.Need-returns-5
+returns-5 c = let a = c .before .before .args in no-way (a .store) (a .marks .now) (a .call) (c .match .keys5)
 
 pub way-of-spec : {M : Type 1} → statement M
 way-of-spec =
@@ -35,8 +42,12 @@ way-of-spec =
     (λ c. search needs)
     (λ c κs. search needs)
     (λ c κs. search needs)
+    (λ c. search needs)
+    (λ c κs. search needs)
+    (λ c κs. search needs)
     (λ c κs. search needs)
     returns
     returns-2
     returns-3
-    returns-4)
+    returns-4
+    returns-5)
