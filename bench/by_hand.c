@@ -20,7 +20,7 @@ enum { V_LIVE, V_TYPE, V_VALUE, V_FIRST, V_LAST, V_SPARE, V_PREV, V_NEXT };
 /* Words of an edge row: the half of the out word, then the half of the in word. */
 enum { W_PREV, W_NEXT, W_THIS };
 enum { E_ALPHA = 2, E_LIVE, E_TYPE, E_KIND, E_OMEGA = 8, E_DECIMETRES, E_PREV, E_NEXT };
-/* Edits of the journal. A row is edit, rows of its step, then the edit's own words. */
+/* Edits of the journal. A row is edit, rows of its step, then the edit's own words; word 11 is the bench. */
 enum { INSERT_VERTEX, REMOVE_VERTEX, INSERT_EDGE, REMOVE_EDGE, SET_VERTEX, SET_EDGE, MOVE_VERTEX, MOVE_EDGE, MOVE_WORD };
 
 struct store {
@@ -30,6 +30,7 @@ struct store {
     u32 vertex_capacity, edge_capacity, change_capacity, types;
     u32 vertex_first, vertex_last, edge_first, edge_last, vertex_count, edge_count;
     u32 place, steps, used; /* used: rows of steps 1 to place */
+    u32 bench;              /* of later steps */
     u64 marks;
     u32 places[64];
     u32 names[64][2]; /* of standing marks; 0 0 is none */
@@ -190,6 +191,14 @@ static inline u32 go_to(struct store *s, u32 to) {
     return from > to ? from - to : to - from;
 }
 
+/* How many of the steps from place p on, up to place q, the bench made. */
+static inline u32 made_by(const struct store *s, u32 p, u32 q, u32 bench) {
+    const u32 *r = s->journal;
+    u32 count = 0;
+    for (u32 i = 0; i < q; i++, r += 12 * (size_t)r[1]) count += i >= p && r[11] == bench;
+    return count;
+}
+
 /* The standing mark that has the name, or 0. */
 static inline u32 holder(const struct store *s, u32 first, u32 second) {
     if (!(first | second)) return 0;
@@ -216,6 +225,7 @@ static inline u32 *new_row(struct store *s, u32 edit, u32 cost) {
     u32 *r = s->journal + 12 * (size_t)s->used++;
     r[0] = edit;
     r[1] = cost;
+    r[11] = s->bench;
     return r;
 }
 
@@ -543,6 +553,18 @@ static inline void step(struct store *s, const u32 *call, u32 *answer) {
         u32 mark = holder(s, a, b);
         if (!mark) REFUSE(19);
         ANSWER(go_to(s, s->places[mark - 1]));
+    }
+    case 58:
+        if (a > 99) REFUSE(20);
+        s->bench = a;
+        ANSWER(0);
+    case 59: {
+        NEED_MARK(a);
+        NEED_MARK(b);
+        if (!STANDS(a) || !STANDS(b)) REFUSE(13);
+        if (c > 99) REFUSE(20);
+        u32 p = s->places[a - 1], q = s->places[b - 1];
+        ANSWER(p < q ? made_by(s, p, q, c) : made_by(s, q, p, c));
     }
     default: REFUSE(1);
     }

@@ -25,6 +25,8 @@
  *   A standing mark may have a name, two words that are not both 0. No two standing marks have the same, and a name goes
  *   when its mark goes. A name may be any words; as text it is up to eight bytes, the first lowest in the first word,
  *   with zeros behind (FUTTOCKFIG_NAME_WORD).
+ *   Each step carries the bench, 0 to 99, that was set when it was made, and keeps it as long as it is remembered, also
+ *   when it is undone and redone. The bench that is set stays at a commit.
  */
 #ifndef FUTTOCKFIG_H
 #define FUTTOCKFIG_H
@@ -37,7 +39,7 @@ extern "C" {
 #endif
 
 /* What a caller sees; raised with every change to it (docs/CHANGES.md). */
-#define FUTTOCKFIG_VERSION 10
+#define FUTTOCKFIG_VERSION 11
 
 /* Words a row in each table, and the most rows that a table may have. The fewest is 1. */
 #define FUTTOCKFIG_VERTEX_WORDS 8
@@ -125,7 +127,11 @@ enum futtockfig_kind {
                                           above the range, counted from 0 */
     /* Names of marks. Naming is no step: it cuts nothing, and undo does not take it back. */
     FUTTOCKFIG_NAME_MARK = 56,         /* a standing mark, b and c its name; one that it had is free then; answers 0 */
-    FUTTOCKFIG_GO_TO_NAME = 57         /* a and b a name; as kind 21 to the mark that has it; answers the steps moved */
+    FUTTOCKFIG_GO_TO_NAME = 57,        /* a and b a name; as kind 21 to the mark that has it; answers the steps moved */
+    /* Benches. Setting one is no step either. */
+    FUTTOCKFIG_SET_BENCH = 58,         /* a bench, 0 to 99, of the steps made from now on; 0 at first; answers 0 */
+    FUTTOCKFIG_STEPS_MADE_BY = 59      /* a, b marks, c bench; how many of the steps that kind 49 counts the bench
+                                          made. Over all benches these add up to the number of kind 49 */
 };
 
 /*
@@ -147,13 +153,14 @@ enum futtockfig_code {
     FUTTOCKFIG_NO_ROOM = 10,           /* a change that would alter the graph: its cost is above the free changes */
     FUTTOCKFIG_BAD_MARK = 11,          /* a mark named is not 1 to 64 */
     FUTTOCKFIG_MARK_STANDS = 12,       /* kind 17 */
-    FUTTOCKFIG_NO_SUCH_MARK = 13,      /* kinds 18, 21, 49, 56: some mark that is named is not standing */
+    FUTTOCKFIG_NO_SUCH_MARK = 13,      /* kinds 18, 21, 49, 56, 59: some mark that is named is not standing */
     FUTTOCKFIG_NO_STEP = 14,           /* nothing to undo or redo */
     FUTTOCKFIG_BAD_SIDE = 15,          /* kind 45: c above 2 */
     FUTTOCKFIG_NOTHING_HEARD = 16,     /* kinds 53, 54: a way's last tested edge is silent, or it has none */
     FUTTOCKFIG_BAD_PRICE_LIST = 17,    /* kind 54: c above 2 */
     FUTTOCKFIG_BAD_NAME = 18,          /* kind 56: both words of the name are 0, or another standing mark has it */
     FUTTOCKFIG_NO_SUCH_NAME = 19,      /* kind 57: no standing mark has that name; two zeros are no mark's */
+    FUTTOCKFIG_BAD_BENCH = 20,         /* kinds 58, 59: a bench above 99 */
     /* Of the whole list. Nothing is run and nothing is written, tables included. */
     FUTTOCKFIG_BAD_CALLS = 101,        /* calls_len is not a multiple of 5 */
     FUTTOCKFIG_SHORT_ANSWERS = 102,    /* answers_len is under 2 a call */

@@ -36,7 +36,7 @@ use core::ops::Range;
 use raw::{futtockfig_page, futtockfig_part, futtockfig_run};
 
 /// The version of what a caller sees, that of `include/futtockfig.h`.
-pub const VERSION: u32 = 10;
+pub const VERSION: u32 = 11;
 
 /// Kind, a, b, c, d.
 pub type Call = [u32; 5];
@@ -112,6 +112,8 @@ pub mod kind {
     pub const GRADE: u32 = 54;
     pub const NAME_MARK: u32 = 56;
     pub const GO_TO_NAME: u32 = 57;
+    pub const SET_BENCH: u32 = 58;
+    pub const STEPS_MADE_BY: u32 = 59;
 }
 
 /// The two words of a mark's name for [`kind::NAME_MARK`] and [`kind::GO_TO_NAME`]: up to eight bytes of text, the first
@@ -273,7 +275,7 @@ pub fn run<'a>(start: &[u32], rows: &[u64], calls: &[u32], lent: Lent<'a>) -> Re
     }
 }
 
-/// The answers one by one: the number of an accepted call, or the code (1 to 19) of a refused one.
+/// The answers one by one: the number of an accepted call, or the code (1 to 20) of a refused one.
 pub fn answers(words: &[u32]) -> impl Iterator<Item = Result<u32, u32>> + '_ {
     words.chunks_exact(2).map(|answer| match answer[0] {
         0 => Ok(answer[1]),

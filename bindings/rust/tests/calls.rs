@@ -119,6 +119,30 @@ fn marks_by_name() {
 }
 
 #[test]
+fn steps_by_bench() {
+    let made_by = |bench| [kind::STEPS_MADE_BY, 2, 1, bench, 0];
+    let calls = [
+        [kind::SET_MARK, 1, 0, 0, 0],
+        [kind::SET_VALUE, 2, 5, 0, 0],
+        [kind::SET_BENCH, 7, 0, 0, 0],
+        [kind::DELETE_VERTEX, 1, 0, 0, 0],
+        [kind::SET_VALUE, 2, 6, 0, 0],
+        [kind::SET_MARK, 2, 0, 0, 0],
+        [kind::GO_TO_MARK, 1, 0, 0, 0],
+        [kind::SET_BENCH, 100, 0, 0, 0],
+        made_by(0),
+        made_by(7),
+        made_by(99),
+        made_by(100),
+        [kind::STEPS_BETWEEN, 1, 2, 0, 0],
+    ];
+    with(&calls.concat(), &seven(), |done| {
+        let wanted = [Ok(0), Ok(1), Ok(0), Ok(6), Ok(1), Ok(0), Ok(3), Err(20), Ok(1), Ok(2), Ok(0), Err(20), Ok(3)];
+        assert!(answers(done.unwrap().answers).eq(wanted));
+    });
+}
+
+#[test]
 fn grades_by_both_price_lists() {
     let grade = |list| [kind::GRADE, 1, 1, list, 0];
     let calls = [[kind::SET_READING, 1, 2, 400, 0], grade(0), grade(1), grade(2), grade(3)].concat();

@@ -22,6 +22,7 @@ use Rattle.machine.specs.HistoryCodes.{tooDear}
 use Rattle.machine.specs.Rules.{firstCode, changeRule}
 use Rattle.machine.specs.Codes.{changeCode}
 use Rattle.machine.proofs.Allows.{allows}
+use Rattle.journal.specs.Rows.{signed}
 use Rattle.graph_tables.specs.Tables.{State}
 use Rattle.graph_tables.specs.Holds.{Holds}
 use Rattle.graph_tables.specs.Capacities.{boundsOf}
@@ -38,12 +39,12 @@ use Rattle.change_calls.proofs.SingleStep.{single-step}
 
 -- ---- what a change comes to, on tables and journal
 
--- the change altered the graph, and is the next step
+-- the change altered the graph, and is the next step once a bench signs it
 pub record StepMade (c : Change) (b : Bounds) (m : Machine) (j : Position) (n : ℕ) (s′ : State)
     (t′ : List ℕ) : Type 0 where
   pub alters-graph : alters c (present m) ≡ true
   pub costs : n ≡ cost c (present m)
-  pub steps : Journal b (afterStep j (s′ .head) n .position) s′ t′ (extended (stepOf c (present m)) (m .line))
+  pub steps : (bench : ℕ) → Journal b (afterStep j (s′ .head) n .position) s′ (signed (j .used) bench t′) (extended (stepOf bench c (present m)) (m .line))
 
 -- of one machine: the code of the change's rule; cost 0 says that it is refused or alters nothing
 pub record Comes (c : Change) (b : Bounds) (m : Machine) (j : Position) (free code n : ℕ) (s′ : State)

@@ -1,5 +1,5 @@
 -- A change that wrote nothing, and one that is a step: what is represented then.
-use Prim.Native.Nat.{ℕ, _+_, _^_, _≤_, _<_}
+use Prim.Native.Nat.{ℕ, _+_, _*_, _^_, _≤_, _<_}
 use mathlib.Core.Path.{_≡_, refl, sym, ap, subst, _∙_}
 use mathlib.Core.Logic.{_≢_}
 use mathlib.Core.Bool.{Bool, true, false}
@@ -7,17 +7,21 @@ use mathlib.Core.List.{List}
 use native.Mathlib.Omega.{arith}
 use borrow.Author.Tests.{le-ltb, ltb-false}
 use lib.Dec.{ltb}
+use lib.ListN.{length}
 use Rattle.lists.specs.Choice.{_⇒_else_}
 use Rattle.lists.proofs.Picks.{same, differ, same?}
 use Rattle.graph.specs.declared.Change.{Change}
 use Rattle.graph.specs.WellFormed.{Bounds}
 use Rattle.graph.specs.Changes.{cost}
-use Rattle.history.specs.Machine.{MarkPlace, gone, at, Machine, freeOf, cut, cutMarks, present, stepOf}
+use Rattle.history.specs.Machine.{MarkPlace, gone, at, Machine, freeOf, cut, cutMarks, present, stepOf, extended}
 use Rattle.history.proofs.Timelines.{length-cut}
 use Rattle.machine.specs.Rules.{steps, nothing, effected, Deed, deed, changeDeed, changeRule}
 use Rattle.marks.specs.Marked.{Marked}
 use Rattle.marks.proofs.NameLaws.{cut-named}
 use Rattle.graph_tables.specs.Tables.{State}
+use Rattle.journal.specs.Rows.{signed}
+use Rattle.journal.proofs.RowLaws.{signed-length}
+use Rattle.timeline.specs.Steps.{Journal}
 use Rattle.timeline.specs.Current.{afterStep}
 use Rattle.timeline.proofs.Steps.{place-short, at-record}
 use Rattle.history_calls.specs.declared.Store.{Store}
@@ -64,6 +68,10 @@ module _ (c : Change) (types free : ℕ) (x : Store) (mem : Memory) (code n : �
   abbrev after : Memory
   after = memory (s′ .vertices) (s′ .edges) t′ (mem .marks)
 
+  -- with the bench of the step
+  abbrev stepAfter : Memory
+  stepAfter = memory (s′ .vertices) (s′ .edges) (signed (x .current .position .used) (x .bench) t′) (mem .marks)
+
   words-stay : n ≡ 0 → after ≡ mem
   words-stay y = let p = r .stays y in λ i. memory (p .0 i .vertices) (p .0 i .edges) (p .1 i) (mem .marks)
 
@@ -73,7 +81,7 @@ module _ (c : Change) (types free : ℕ) (x : Store) (mem : Memory) (code n : �
 
     -- what the change does, by whether it alters the graph
     abbrev deedBy : Bool → Deed
-    deedBy p = p ⇒ deed (cost c (present m)) (steps (stepOf c (present m))) else deed 0 nothing
+    deedBy p = p ⇒ deed (cost c (present m)) (steps (stepOf (m .bench) c (present m))) else deed 0 nothing
 
     kept-follows : (capacity : ℕ) → free ≡ freeOf capacity (m .line) → n ≡ 0 → ByRule capacity x code 0 after
     kept-follows capacity q y =
@@ -95,31 +103,37 @@ module _ (c : Change) (types free : ℕ) (x : Store) (mem : Memory) (code n : �
       pub step-fits : (x .current .position .place + 1 < 2 ^ 32) × (x .current .position .used + n < 2 ^ 32)
       step-fits = (
         omega (arith, place-short b (x .current .position) (tablesOf x mem) (mem .journal) (m .line) (h .journal), h .journal .rows .short),
-        omega (arith, step .steps .rows .within, step .steps .rows .upto, step .steps .rows .short),
+        omega (arith, step .steps 0 .rows .within, step .steps 0 .rows .upto, step .steps 0 .rows .short),
       )
 
-      step-follows : (capacity : ℕ) → free ≡ freeOf capacity (m .line) → (x′ : Store) → x′ .current ≡ afterStep (x .current .position) (s′ .head) n
-          → Marked (cutMarks (x .current .position .place) (m .marks)) (x′ .set) (mem .marks) → ByRule capacity x′ 0 n after
-      step-follows capacity q x′ f k =
-          let u : deed (cost c (present m)) (steps (stepOf c (present m))) ≡ changeDeed c m = sym (ap deedBy (step .alters-graph)) in
-          accepted (changeRule b capacity c) m b x′ after n (sym (r .comes b m e (h .journal) .coded capacity q) ∙ r .accepts y) (step .costs ∙ ap (λ (d : Deed). d .number) u)
-          (subst (λ (d : Deed). Represents b x′ after (effected (d .effect) m)) u (record {
-            journal = at-record b (x′ .current) _ (s′ .vertices) (s′ .edges) t′ _ f (step .steps);
+      -- its first row is there to be signed
+      pub sign-fits : 12 * x .current .position .used + 12 ≤ length t′
+      sign-fits = omega (arith, step .steps 0 .rows .within, step .steps 0 .rows .upto, signed-length (x .current .position .used) 0 t′, y)
+
+      step-follows : (capacity : ℕ) → free ≡ freeOf capacity (m .line) → (x′ : Store) → x′ .current ≡ afterStep (x .current .position) (s′ .head) n → x′ .bench ≡ x .bench
+          → Marked (cutMarks (x .current .position .place) (m .marks)) (x′ .set) (mem .marks) → ByRule capacity x′ 0 n stepAfter
+      step-follows capacity q x′ f w k =
+          let u : deed (cost c (present m)) (steps (stepOf (m .bench) c (present m))) ≡ changeDeed c m = sym (ap deedBy (step .alters-graph)) in
+          accepted (changeRule b capacity c) m b x′ stepAfter n (sym (r .comes b m e (h .journal) .coded capacity q) ∙ r .accepts y) (step .costs ∙ ap (λ (d : Deed). d .number) u)
+          (subst (λ (d : Deed). Represents b x′ stepAfter (effected (d .effect) m)) u (record {
+            journal = at-record b (x′ .current) _ (s′ .vertices) (s′ .edges) (signed (x .current .position .used) (x .bench) t′) _ f
+                (subst (λ (i : ℕ). Journal b (afterStep (x .current .position) (s′ .head) n .position) s′ (signed (x .current .position .used) (x .bench) t′) (extended (stepOf i c (present m)) (m .line))) (h .bench) (step .steps (x .bench)));
+            bench = w ∙ h .bench;
             marks = subst (λ (p : ℕ). Marked (cutMarks p (m .marks)) (x′ .set) (mem .marks)) (h .journal .place) k;
             names = cut-named (m .marks) (m .names) (mem .marks) (m .line .place) (h .names);
-            inside = λ i p z. omega (arith, left-low (m .line .place) p (m .marks i) z, length-cut (m .line .place) (m .line .steps) (stepOf c (present m)) (h .journal .inside));
+            inside = λ i p z. omega (arith, left-low (m .line .place) p (m .marks i) z, length-cut (m .line .place) (m .line .steps) (stepOf (m .bench) c (present m)) (h .journal .inside));
           }))
 
   -- nothing was written
   pub change-kept : n ≡ 0 → DoesChange c types free x mem (done x code 0) after
   change-kept y = record { follows = λ b m n e h q. kept-follows b m e h n q y; leaves = λ z. (refl, words-stay y); idle = λ z. (refl, words-stay y) }
 
-  -- the change is a step, and the marks are cut
-  pub change-made : n ≢ 0 → (x′ : Store) → x′ .current ≡ afterStep (x .current .position) (s′ .head) n
+  -- the change is a step, signed, and the marks are cut
+  pub change-made : n ≢ 0 → (x′ : Store) → x′ .current ≡ afterStep (x .current .position) (s′ .head) n → x′ .bench ≡ x .bench
       → ((ms : ℕ → MarkPlace) → Marked ms (x .set) (mem .marks) → ((k q : ℕ) → ms k ≡ at q → q ≤ x .current .position .steps) → Marked (cutMarks (x .current .position .place) ms) (x′ .set) (mem .marks))
-      → DoesChange c types free x mem (done x′ 0 n) after
-  change-made y x′ f cuts = record {
-    follows = λ b m n e h q. step-follows b m e h y n q x′ f (cuts (m .marks) (h .marks) (mark-steps b x mem m h));
+      → (t″ : List ℕ) → t″ ≡ signed (x .current .position .used) (x .bench) t′ → DoesChange c types free x mem (done x′ 0 n) (memory (s′ .vertices) (s′ .edges) t″ (mem .marks))
+  change-made y x′ f w cuts t″ v = subst (λ (t : List ℕ). DoesChange c types free x mem (done x′ 0 n) (memory (s′ .vertices) (s′ .edges) t (mem .marks))) (sym v) (record {
+    follows = λ b m n e h q. step-follows b m e h y n q x′ f w (cuts (m .marks) (h .marks) (mark-steps b x mem m h));
     leaves = λ z. absurd (z refl);
     idle = λ z. absurd (y z);
-  }
+  })

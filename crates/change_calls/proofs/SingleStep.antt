@@ -10,7 +10,7 @@ use Rattle.graph.specs.WellFormed.{Bounds}
 use Rattle.graph.specs.Changes.{cost, Allowed}
 use Rattle.history.specs.Machine.{Timeline, presentIn, extended}
 use Rattle.history.specs.Machine.{stepOf}
-use Rattle.journal.specs.Rows.{costing}
+use Rattle.journal.specs.Rows.{costing, signed}
 use Rattle.journal.specs.Written.{Written}
 use Rattle.graph_tables.specs.Tables.{State}
 use Rattle.queries.specs.Plans.{planS, OneEdit}
@@ -21,12 +21,12 @@ use Rattle.vertex_deletion.proofs.Rows.{first-plan, making-start, allowed-now, 
 
 pub single-step : (x : Change) (b : Bounds) (j : Position) (s : State) (t : List ℕ) (l : Timeline) → Journal b j s t l → Allowed b (presentIn l) x → OneEdit x
     → 12 * j .used + 12 ≤ length t → (s′ : State) (t′ : List ℕ) → Written (planS x s) (costing 1) (j .used) s t s′ t′
-    → (j′ : Position) → j′ .place ≡ j .place + 1 → j′ .steps ≡ j .place + 1 → j′ .used ≡ j .used + 1 → Journal b j′ s′ t′ (extended (stepOf x (presentIn l)) l)
-single-step x b j s t l k a o r s′ t′ w j′ p q u =
+    → (j′ : Position) → j′ .place ≡ j .place + 1 → j′ .steps ≡ j .place + 1 → j′ .used ≡ j .used + 1 → (bench : ℕ) → Journal b j′ s′ (signed (j .used) bench t′) (extended (stepOf bench x (presentIn l)) l)
+single-step x b j s t l k a o r s′ t′ w j′ p q u bench =
     let one : 1 ≡ cost x (presentIn l) = sym (one-edit x o (presentIn l) .1) in
     let m = making-start x b j s t l 1 (j .used) refl k a in
     let n : j .used ≢ j .used + 1 = λ e. omega arith in
     let i = allowed-now x b j s t l 1 s t (j .used) m one n in
     let f = first-plan b s (m .graph) (m .holds) x i (one-edit x o (m .graph) .0) in
     let d = making-turn x b j s t l 1 s t (j .used) m one n (planS x s) f r s′ t′ (suc (j .used)) w refl in
-    making-end x b j s t l 1 s′ t′ (suc (j .used)) d one (omega arith) j′ p q u
+    making-end x b j s t l 1 s′ t′ (suc (j .used)) d one (omega arith) j′ p q u bench

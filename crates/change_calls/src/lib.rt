@@ -1,4 +1,4 @@
-// A change as a call: its codes, the step that it is, and the marks that it cuts.
+// A change as a call: its codes, the step that it is, its bench, and the marks that it cuts.
 // A caller has a store and lent words that stand for a machine with so many types; any change may be asked for.
 use commands::Answer;
 use graph::Change;
@@ -60,10 +60,15 @@ fn single(
     if made.cost == 0 {
         return stay(store, made.code, 0);
     }
+    journal::put_bench(journal, used, store.bench);
     let current = timeline::lent::stepped(old, made.head, made.cost);
     let set = cut(store.set, old.position, marks);
     Called {
-        store: Store { current, set },
+        store: Store {
+            current,
+            set,
+            bench: store.bench,
+        },
         answer: Answer {
             code: 0,
             number: made.cost,
@@ -93,10 +98,16 @@ fn delete_vertex(
     if removed.cost == 0 {
         return stay(store, removed.code, 0);
     }
+    let used = old.position.used;
+    journal::put_bench(journal, used, store.bench);
     let current = timeline::lent::stepped(old, removed.head, removed.cost);
     let set = cut(store.set, old.position, marks);
     Called {
-        store: Store { current, set },
+        store: Store {
+            current,
+            set,
+            bench: store.bench,
+        },
         answer: Answer {
             code: 0,
             number: removed.cost,

@@ -43,4 +43,4 @@ module _ (x : Call) (f : Words x) where
       (pick CommandFits (x .kind == 53) _ _ tt
       (pick CommandFits (x .kind == 54) _ _ tt
       (pick CommandFits (x .kind == 55) _ _ tt
-      (pick CommandFits (leb (x .kind) 57) _ _ tt tt))))))))))
+      (pick CommandFits (leb (x .kind) 59) _ _ tt tt))))))))))

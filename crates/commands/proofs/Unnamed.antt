@@ -15,17 +15,17 @@ pub above : {n k : ℕ} → n ≤ k → (k ≡ n → ⊥) → n + 1 ≤ k
 above h i = omega (arith, h, i)
 
 module _ (x : Call) where
-  past : (x .kind ≡ 0 → ⊥) → 55 ≤ x .kind → (56 ≤ x .kind → 58 ≤ x .kind) → commandOf x ≡ Unknown
+  past : (x .kind ≡ 0 → ⊥) → 55 ≤ x .kind → (56 ≤ x .kind → 60 ≤ x .kind) → commandOf x ≡ Unknown
   unfolding commandOf
   past z h top =
       rw (ne-eqb (x .kind) 0 z, lt-leb (x .kind) 16 (omega (arith, h)), lt-leb (x .kind) 22 (omega (arith, h)), lt-leb (x .kind) 29 (omega (arith, h)), lt-leb (x .kind) 48 (omega (arith, h)), lt-leb (x .kind) 51 (omega (arith, h)), ne-eqb (x .kind) 52 (λ i. omega (arith, h, i)), ne-eqb (x .kind) 53 (λ i. omega (arith, h, i)), ne-eqb (x .kind) 54 (λ i. omega (arith, h, i))) (last (x .kind == 55) refl)
     where
-      last : (b : Bool) → (x .kind == 55) ≡ b → ((x .kind == 55) ⇒ Unknown else leb (x .kind) 57 ⇒ History (historyOf (x .kind) (x .a) (x .b) (x .c)) else Unknown) ≡ Unknown
+      last : (b : Bool) → (x .kind == 55) ≡ b → ((x .kind == 55) ⇒ Unknown else leb (x .kind) 59 ⇒ History (historyOf (x .kind) (x .a) (x .b) (x .c)) else Unknown) ≡ Unknown
       last true r = rw r refl
-      last false r = let n = eqb-false (x .kind) 55 r in rw (r, lt-leb (x .kind) 57 (omega (arith, top (omega (arith, h, n))))) refl
+      last false r = let n = eqb-false (x .kind) 55 r in rw (r, lt-leb (x .kind) 59 (omega (arith, top (omega (arith, h, n))))) refl
 
   -- kinds below 30 and above 54 have no more to show than that they are not the named ones
-  pub unnamed : ((x .kind ≡ 0 → ⊥) → 23 ≤ x .kind) → (30 ≤ x .kind → 55 ≤ x .kind) → (56 ≤ x .kind → 58 ≤ x .kind) → commandOf x ≡ Unknown
+  pub unnamed : ((x .kind ≡ 0 → ⊥) → 23 ≤ x .kind) → (30 ≤ x .kind → 55 ≤ x .kind) → (56 ≤ x .kind → 60 ≤ x .kind) → commandOf x ≡ Unknown
   unfolding commandOf
   unnamed low high top = first (x .kind == 0) refl
     where

@@ -35,6 +35,8 @@ use Rattle.commands.specs.declared.HistoryCall.the-variants.{
   Free,
   NameMark,
   GoToName,
+  SetBench,
+  MadeBy,
 }
 use Rattle.commands.specs.declared.Question.{Question}
 use Rattle.commands.specs.declared.Question.the-variants.{
@@ -111,6 +113,8 @@ historyOf k a b c =
     (k == 50) ⇒ Standing else
     (k == 56) ⇒ NameMark a b c else
     (k == 57) ⇒ GoToName a b else
+    (k == 58) ⇒ SetBench a else
+    (k == 59) ⇒ MadeBy a b c else
     Free
 
 unfoldable pub questionOf : ℕ → ℕ → ℕ → ℕ → Question
@@ -149,7 +153,7 @@ commandOf x =
     (k == 53) ⇒ Quote (Range (x .a) (x .b)) else
     (k == 54) ⇒ Quote (Grade (x .a) (x .b) (x .c)) else
     (k == 55) ⇒ Unknown else
-    leb k 57 ⇒ History (historyOf k (x .a) (x .b) (x .c)) else
+    leb k 59 ⇒ History (historyOf k (x .a) (x .b) (x .c)) else
     Unknown
   where
     k : ℕ
@@ -187,6 +191,8 @@ historyCall Standing = five 50 0 0 0 0
 historyCall Free = five 51 0 0 0 0
 historyCall (NameMark a b c) = five 56 a b c 0
 historyCall (GoToName a b) = five 57 a b 0 0
+historyCall (SetBench a) = five 58 a 0 0 0
+historyCall (MadeBy a b c) = five 59 a b c 0
 
 abbrev pub questionCall : Question → Call
 questionCall FirstVertex = five 30 0 0 0 0

@@ -6,7 +6,7 @@ ghost use Rattle.commands.specs.Calls.{callAt, five};
 ghost use Rattle.commands.specs.Answers.{accepts, refuses};
 ghost use Rattle.commands.specs.Commands.{commandOf};
 
-// Kinds 17 to 22, 49 to 51, 56 and 57; a name is two words.
+// Kinds 17 to 22, 49 to 51 and 56 to 59; a name is two words.
 pub enum HistoryCall {
     SetMark(u32),
     DropMark(u32),
@@ -19,6 +19,8 @@ pub enum HistoryCall {
     Free,
     NameMark(u32, u32, u32),
     GoToName(u32, u32),
+    SetBench(u32),
+    MadeBy(u32, u32, u32),
 }
 
 // Kinds 30 to 48 and 52.
@@ -122,6 +124,8 @@ fn command_of(k: u32, a: u32, b: u32, c: u32, d: u32) -> Command
         54 => Command::Quote(PriceCall::Grade(a, b, c)),
         56 => Command::History(HistoryCall::NameMark(a, b, c)),
         57 => Command::History(HistoryCall::GoToName(a, b)),
+        58 => Command::History(HistoryCall::SetBench(a)),
+        59 => Command::History(HistoryCall::MadeBy(a, b, c)),
         _ => Command::Unknown,
     }
 }

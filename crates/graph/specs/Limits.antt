@@ -1,4 +1,4 @@
--- The most that a run is lent for (REFERENCE 12.1), types among it, and how many marks there are.
+-- The most that a run is lent for (REFERENCE 12.1), types among it, and how many marks and benches there are.
 use Prim.Native.Nat.{ℕ}
 
 abbrev pub mostVertices : ℕ
@@ -15,3 +15,7 @@ mostTypes = 64
 
 abbrev pub mostMarks : ℕ
 mostMarks = 64
+
+-- numbered from 0
+abbrev pub mostBenches : ℕ
+mostBenches = 100

@@ -1,4 +1,5 @@
-// The most that a run is lent for, types among it, and how many marks there are.
+// The most that a run is lent for, types among it, and how many marks and benches there are; benches have the numbers
+// from 0 on.
 pub const MOST_VERTICES: u32 = 1000;
 
 pub const MOST_EDGES: u32 = 4000;
@@ -8,6 +9,8 @@ pub const MOST_CHANGES: u32 = 20000;
 pub const MOST_TYPES: u32 = 64;
 
 pub const MOST_MARKS: u32 = 64;
+
+pub const MOST_BENCHES: u32 = 100;
 
 // The reading of an edge: untested, silent, or heard at some decimetres.
 pub enum Reading {

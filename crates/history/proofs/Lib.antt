@@ -1,2 +1,3 @@
 pub mod Timelines
 pub mod Seeking
+pub mod Benches

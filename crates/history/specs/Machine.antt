@@ -2,19 +2,20 @@
 use Prim.Native.Nat.{ℕ, zero, suc, _+_, _-_}
 use mathlib.Core.Bool.{Bool, true, false, not, _&&_}
 use mathlib.Core.List.{List, [], _∷_, _++_}
-use lib.ListN.{length, take}
+use lib.ListN.{length, take, drop}
 use lib.Dec.{ltb}
-use Rattle.lists.specs.Choice.{_⇒_else_, _==_, within}
+use Rattle.lists.specs.Choice.{_⇒_else_, _==_, within, toBit}
 use Rattle.lists.specs.Lists.{filter, sumOf, range}
 use Rattle.graph.specs.declared.Change.{Change}
 use Rattle.graph.specs.Graph.{Graph}
 use Rattle.graph.specs.Limits.{mostMarks}
 use Rattle.graph.specs.Changes.{changed, cost}
 
--- a graph after the first, and what it cost to make
+-- a graph after the first, what it cost to make, and the bench that made it
 pub record Step : Type 0 where
   pub cost : ℕ
   pub graph : Graph
+  pub bench : ℕ
 
 -- G0, then the steps G1 to Gm, and the place among them
 pub record Timeline : Type 0 where
@@ -37,13 +38,14 @@ pub record Machine : Type 0 where
   pub line : Timeline
   pub marks : ℕ → MarkPlace
   pub names : ℕ → Name
+  pub bench : ℕ
 
 -- ---- the timeline
 
--- the step that a change makes
-unfoldable pub stepOf : Change → Graph → Step
+-- the step that a change makes, by this bench
+unfoldable pub stepOf : ℕ → Change → Graph → Step
 unfolding changed
-stepOf c g = record { cost = cost c g; graph = changed c g }
+stepOf b c g = record { cost = cost c g; graph = changed c g; bench = b }
 
 abbrev pub begun : Graph → Timeline
 begun g = record { start = g; steps = []; place = 0 }
@@ -76,6 +78,14 @@ freeOf capacity t = capacity - costs (take (t .place) (t .steps))
 -- how many steps lie between two places
 abbrev pub distance : ℕ → ℕ → ℕ
 distance p q = (p - q) + (q - p)
+
+-- the steps between two places, in either order
+abbrev pub stepsBetween : ℕ → ℕ → List Step → List Step
+stepsBetween p q ss = take (q - p) (drop p ss) ++ take (p - q) (drop q ss)
+
+-- how many of them a bench made
+abbrev pub madeBy : ℕ → List Step → ℕ
+madeBy b ss = sumOf (λ (s : Step). toBit (s .bench == b)) ss
 
 -- ---- marks
 
@@ -141,9 +151,13 @@ seek (suc n) k p = p k ⇒ k else seek n (suc k) p
 
 -- ---- the machine
 
+-- one graph, no step and no mark, at this bench
+abbrev pub freshAt : ℕ → Graph → Machine
+freshAt b g = record { line = begun g; marks = noMarks; names = noNames; bench = b }
+
 -- REFERENCE 4.2
 abbrev pub fresh : Graph → Machine
-fresh g = record { line = begun g; marks = noMarks; names = noNames }
+fresh g = freshAt 0 g
 
 abbrev pub present : Machine → Graph
 present m = presentIn (m .line)
@@ -154,10 +168,11 @@ afterChange s m = record {
   line = extended s (m .line);
   marks = cutMarks (m .line .place) (m .marks);
   names = keptNames (cutMarks (m .line .place) (m .marks)) (m .names);
+  bench = m .bench;
 }
 
 abbrev pub movedTo : ℕ → Machine → Machine
-movedTo p m = record { line = placed p (m .line); marks = m .marks; names = m .names }
+movedTo p m = record { line = placed p (m .line); marks = m .marks; names = m .names; bench = m .bench }
 
 -- mark n stands at the present place, and has no name
 abbrev pub withMarkSet : ℕ → Machine → Machine
@@ -165,6 +180,7 @@ withMarkSet n m = record {
   line = m .line;
   marks = marked n (at (m .line .place)) (m .marks);
   names = named n noName (m .names);
+  bench = m .bench;
 }
 
 abbrev pub withMarkDropped : ℕ → Machine → Machine
@@ -172,15 +188,20 @@ withMarkDropped n m = record {
   line = m .line;
   marks = marked n gone (m .marks);
   names = named n noName (m .names);
+  bench = m .bench;
 }
 
 -- mark k has the name n, and no other
 abbrev pub withName : ℕ → Name → Machine → Machine
-withName k n m = record { line = m .line; marks = m .marks; names = named k n (m .names) }
+withName k n m = record { line = m .line; marks = m .marks; names = named k n (m .names); bench = m .bench }
 
--- REFERENCE 4.9
+-- later steps are made by bench b
+abbrev pub withBench : ℕ → Machine → Machine
+withBench b m = record { line = m .line; marks = m .marks; names = m .names; bench = b }
+
+-- REFERENCE 4.9; the bench stays
 abbrev pub afterCommit : Machine → Machine
-afterCommit m = record { line = begun (present m); marks = noMarks; names = noNames }
+afterCommit m = freshAt (m .bench) (present m)
 
 -- mark k stands and has the name n
 abbrev pub bears : Machine → Name → ℕ → Bool

@@ -11,9 +11,9 @@ use Rattle.marks.specs.Marked.{placeIn, withMark, withoutMark}
 use Rattle.marks.specs.Named.{markPut}
 use Rattle.history_calls.specs.declared.Store.{Store}
 use Rattle.history_calls.specs.declared.Called.{Called}
-use Rattle.history_calls.specs.Memory.{memory}
+use Rattle.history_calls.specs.Memory.{Memory, memory}
 use Rattle.marks.specs.Codes.{standingCode, newCode, nameCode}
-use Rattle.history_calls.specs.Outcomes.{pairCode, done, markSet, placesSet, markDropped, betweenMarks, markNamed, namesSet, Leaves}
+use Rattle.history_calls.specs.Outcomes.{pairCode, done, markSet, placesSet, markDropped, betweenMarks, markNamed, namesSet, benchCode, benchSet, Leaves}
 
 -- ---- a mark that is refused
 
@@ -39,12 +39,12 @@ module _ (x : Store) (a code : ℕ) (r : Called) where
   pub set-left : r ≡ done x code 0 → code ≡ newCode (x .set) a → code ≢ 0 → r ≡ markSet x a
   set-left e f n =
       let k = with-kept (x .set) a (λ z. n (f ∙ z)) in
-      e ∙ (λ i. done (record { current = x .current; set = sym k i }) (f i) 0)
+      e ∙ (λ i. done (record { current = x .current; set = sym k i; bench = x .bench }) (f i) 0)
 
   pub drop-left : r ≡ done x code 0 → code ≡ standingCode (x .set) a → code ≢ 0 → r ≡ markDropped x a
   drop-left e f n =
       let k = without-kept (x .set) a (λ z. n (f ∙ z)) in
-      e ∙ (λ i. done (record { current = x .current; set = sym k i }) (f i) 0)
+      e ∙ (λ i. done (record { current = x .current; set = sym k i; bench = x .bench }) (f i) 0)
 
 pub places-left : (x : Store) (a code : ℕ) (places : List ℕ) → code ≡ newCode (x .set) a → code ≢ 0 → places ≡ placesSet x a places
 places-left x a code places f n = rw (ne-eqb (newCode (x .set) a) 0 (λ z. n (f ∙ z)))
@@ -76,16 +76,21 @@ module _ (x : Store) (a : ℕ) (r : Called) (vertices edges t places : List ℕ)
   pub leaves-drop : r ≡ markDropped x a → Leaves x (memory vertices edges t places) r (memory vertices edges t places)
   leaves-drop e n =
       let k = without-kept (x .set) a (λ z. n (ap codeIn e ∙ z)) in
-      (ap (λ (d : Called). d .store) e ∙ (λ i. record { current = x .current; set = k i }), refl)
+      (ap (λ (d : Called). d .store) e ∙ (λ i. record { current = x .current; set = k i; bench = x .bench }), refl)
 
   pub leaves-set : (places′ : List ℕ) → r ≡ markSet x a → places′ ≡ placesSet x a places → Leaves x (memory vertices edges t places) r (memory vertices edges t places′)
   leaves-set places′ e f n =
       let z : newCode (x .set) a ≢ 0 = λ z. n (ap codeIn e ∙ z) in
       let k = with-kept (x .set) a z in
       let l : places′ ≡ places = rw (ne-eqb (newCode (x .set) a) 0 z) at f in
-      (ap (λ (d : Called). d .store) e ∙ (λ i. record { current = x .current; set = k i }), λ i. memory vertices edges t (l i))
+      (ap (λ (d : Called). d .store) e ∙ (λ i. record { current = x .current; set = k i; bench = x .bench }), λ i. memory vertices edges t (l i))
 
   pub leaves-name : (n : Name) (places′ : List ℕ) → r ≡ markNamed x places a n → places′ ≡ namesSet x a n places → Leaves x (memory vertices edges t places) r (memory vertices edges t places′)
   leaves-name n places′ e f z =
       let l : places′ ≡ places = rw (ne-eqb (nameCode (x .set) places a n) 0 (λ i. z (ap codeIn e ∙ i))) at f in
       (ap (λ (d : Called). d .store) e, λ i. memory vertices edges t (l i))
+
+pub leaves-bench : (x : Store) (k : ℕ) (r : Called) (mem : Memory) → r ≡ benchSet x k → Leaves x mem r mem
+leaves-bench x k r mem e n =
+    let f : ((benchCode k == 0) ⇒ k else x .bench) ≡ x .bench = ap (λ (t : Bool). t ⇒ k else x .bench) (ne-eqb (benchCode k) 0 (λ z. n (ap codeIn e ∙ z))) in
+    (ap (λ (d : Called). d .store) e ∙ (λ i. record { current = x .current; set = x .set; bench = f i }), refl)

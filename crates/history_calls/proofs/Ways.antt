@@ -14,7 +14,7 @@ use Rattle.graph.specs.WellFormed.{Bounds}
 use Rattle.history.specs.Machine.{Machine, placed, placeOr, distance, name}
 use Rattle.commands.proofs.HistoryCall.{the-type}
 use Rattle.commands.specs.declared.HistoryCall.{HistoryCall}
-use Rattle.commands.specs.declared.HistoryCall.the-variants.{SetMark, DropMark, Undo, Redo, GoTo, Commit, Between, Standing, Free, NameMark, GoToName}
+use Rattle.commands.specs.declared.HistoryCall.the-variants.{SetMark, DropMark, Undo, Redo, GoTo, Commit, Between, Standing, Free, NameMark, GoToName, SetBench, MadeBy}
 use Rattle.machine.specs.Rules.{goes, effected, Deed, deed, goingTo, historyDeed, historyRule}
 use Rattle.marks.specs.Marked.{placeIn}
 use Rattle.marks.specs.Named.{holderIn}
@@ -46,9 +46,11 @@ leads-by Standing i = miss (2 ∷ 3 ∷ 4 ∷ 10 ∷ []) 7 tt i
 leads-by Free i = miss (2 ∷ 3 ∷ 4 ∷ 10 ∷ []) 8 tt i
 leads-by (NameMark a d e) i = miss (2 ∷ 3 ∷ 4 ∷ 10 ∷ []) 9 tt i
 leads-by (GoToName a d) i = tt
+leads-by (SetBench a) i = miss (2 ∷ 3 ∷ 4 ∷ 10 ∷ []) 11 tt i
+leads-by (MadeBy a d e) i = miss (2 ∷ 3 ∷ 4 ∷ 10 ∷ []) 12 tt i
 
 abbrev pub others : List ℕ
-others = 0 ∷ 1 ∷ 5 ∷ 6 ∷ 7 ∷ 8 ∷ 9 ∷ []
+others = 0 ∷ 1 ∷ 5 ∷ 6 ∷ 7 ∷ 8 ∷ 9 ∷ 11 ∷ 12 ∷ []
 
 pub no-way : (x : Store) (places : List ℕ) (c : HistoryCall) → OneOf others (tagOf the-type c) → nowhere ≡ wayOf x places c
 no-way x places (SetMark a) i = refl
@@ -62,6 +64,8 @@ no-way x places Standing i = refl
 no-way x places Free i = refl
 no-way x places (NameMark a d e) i = refl
 no-way x places (GoToName a d) i = absurd (miss others 10 tt i)
+no-way x places (SetBench a) i = refl
+no-way x places (MadeBy a d e) i = refl
 
 -- ---- numbers
 
@@ -151,6 +155,8 @@ module _ (b : Bounds) (x : Store) (mem : Memory) (m : Machine) (h : Represents b
   led Standing l = absurd l
   led Free l = absurd l
   led (NameMark a d e) l = absurd l
+  led (SetBench a) l = absurd l
+  led (MadeBy a d e) l = absurd l
   led (GoToName a d) l =
       let k = holderIn (x .set) (mem .marks) 0 (name a d) in
       let e = holder-same m (x .set) (mem .marks) 0 (name a d) (h .marks) (h .names) in
@@ -170,11 +176,11 @@ module _ (b : Bounds) (x : Store) (mem : Memory) (m : Machine) (h : Represents b
     pub way-reach : w .code ≡ 0 → Reach (w .back) (w .steps) (x .current .position .place) (x .current .position .steps)
     way-reach z = this .reach z
 
-    pub way-done : w .code ≡ 0 → (x′ : Store) (vertices′ edges′ : List ℕ) → x′ .set ≡ x .set
+    pub way-done : w .code ≡ 0 → (x′ : Store) (vertices′ edges′ : List ℕ) → x′ .set ≡ x .set → x′ .bench ≡ x .bench
         → Journal b (x′ .current .position) (state (x′ .current .head) vertices′ edges′) (mem .journal) (placed (shifted (w .back) (w .steps) (m .line .place)) (m .line))
         → Follows (historyRule capacity c) m b (done x′ 0 (w .steps)) (memory vertices′ edges′ (mem .journal) (mem .marks))
-    way-done z x′ vertices′ edges′ s j =
+    way-done z x′ vertices′ edges′ s f j =
         let d = this .deeds z in
         accepted (historyRule capacity c) m b x′ (memory vertices′ edges′ (mem .journal) (mem .marks)) (w .steps) (sym (this .coded) ∙ z) (sym (ap (λ (y : Deed). y .number) d))
         (subst (λ (y : Deed). Represents b x′ (memory vertices′ edges′ (mem .journal) (mem .marks)) (effected (y .effect) m)) (sym d)
-        (moved-to b x mem m h x′ vertices′ edges′ _ s j))
+        (moved-to b x mem m h x′ vertices′ edges′ _ s f j))

@@ -20,12 +20,16 @@ use Rattle.commands.specs.declared.HistoryCall.the-variants.{
   Free,
   NameMark,
   GoToName,
+  SetBench,
+  MadeBy,
 }
 use Rattle.commands.specs.Answers.{answerOf}
 use Rattle.history.specs.Machine.{distance, Name, name}
 use Rattle.marks.specs.Marked.{placeIn, withMark, withoutMark}
 use Rattle.marks.specs.Named.{nameSet, markPut, holderIn}
 use Rattle.marks.specs.Codes.{standingCode, newCode, bothCode, nameCode}
+use Rattle.machine.specs.HistoryCodes.{noBench}
+use Rattle.machine.specs.Rules.{firstCode}
 use Rattle.graph_tables.specs.declared.Head.{Head}
 use Rattle.timeline.specs.Current.{noSteps}
 use Rattle.history_calls.specs.declared.Store.{Store}
@@ -44,23 +48,27 @@ pairCode x a c = bothCode (standingCode (x .set) a) (standingCode (x .set) c)
 abbrev pub done : Store → ℕ → ℕ → Called
 done x code number = record { store = x; answer = record { code = code; number = number } }
 
--- a graph with this head, no step and no mark
+-- a graph with this head, no step and no mark, at this bench
+abbrev pub begunBy : ℕ → Head → Store
+begunBy b h = record { current = record { head = h; position = noSteps }; set = 0; bench = b }
+
 abbrev pub begunAt : Head → Store
-begunAt h = record { current = record { head = h; position = noSteps }; set = 0 }
+begunAt h = begunBy 0 h
 
 -- mark a is set, with its place and no name; a mark that stands, or that is no mark, is refused and changes neither
 abbrev pub markSet : Store → ℕ → Called
-markSet x a = done (record { current = x .current; set = withMark a (x .set) }) (newCode (x .set) a) 0
+markSet x a = done (record { current = x .current; set = withMark a (x .set); bench = x .bench }) (newCode (x .set) a) 0
 
 abbrev pub placesSet : Store → ℕ → List ℕ → List ℕ
 placesSet x a marks = (newCode (x .set) a == 0) ⇒ markPut a (x .current .position .place) marks else marks
 
 -- mark a is dropped; one that does not stand is refused
 abbrev pub markDropped : Store → ℕ → Called
-markDropped x a = done (record { current = x .current; set = withoutMark a (x .set) }) (standingCode (x .set) a) 0
+markDropped x a =
+    done (record { current = x .current; set = withoutMark a (x .set); bench = x .bench }) (standingCode (x .set) a) 0
 
 abbrev pub committed : Store → Called
-committed x = done (begunAt (x .current .head)) 0 (x .current .position .place)
+committed x = done (begunBy (x .bench) (x .current .head)) 0 (x .current .position .place)
 
 -- the code of marks a and c, and the steps between their places
 abbrev pub betweenMarks : Store → List ℕ → ℕ → ℕ → Called
@@ -82,6 +90,19 @@ markNamed x marks a n = done x (nameCode (x .set) marks a n) 0
 abbrev pub namesSet : Store → ℕ → Name → List ℕ → List ℕ
 namesSet x a n marks = (nameCode (x .set) marks a n == 0) ⇒ nameSet a n marks else marks
 
+-- 20
+abbrev pub benchCode : ℕ → ℕ
+benchCode b = noBench b ⇒ 20 else 0
+
+-- 11, 13, 20
+abbrev pub madeCode : ℕ → ℕ → ℕ → ℕ → ℕ
+madeCode set a c b = firstCode (bothCode (standingCode set a) (standingCode set c)) (benchCode b)
+
+-- later steps are made by bench b; refused, it stays
+abbrev pub benchSet : Store → ℕ → Called
+benchSet x b =
+    done (record { current = x .current; set = x .set; bench = (benchCode b == 0) ⇒ b else x .bench }) (benchCode b) 0
+
 -- ---- the calls that lead to another place
 
 abbrev pub Leads : HistoryCall → Type 0
@@ -95,6 +116,8 @@ Leads (Between a c) = ⊥
 Leads Standing = ⊥
 Leads Free = ⊥
 Leads (NameMark a b c) = ⊥
+Leads (SetBench b) = ⊥
+Leads (MadeBy a c b) = ⊥
 Leads (GoToName b c) = Unit {0}
 
 abbrev pub nowhere : Way
@@ -128,6 +151,8 @@ wayOf x marks (Between a c) = nowhere
 wayOf x marks Standing = nowhere
 wayOf x marks Free = nowhere
 wayOf x marks (NameMark a b c) = nowhere
+wayOf x marks (SetBench b) = nowhere
+wayOf x marks (MadeBy a c b) = nowhere
 
 -- ---- what a refused call leaves
 

@@ -19,6 +19,7 @@ pub record Represents (b : Bounds) (x : Store) (mem : Memory) (m : Machine) : Ty
   pub marks : Marked (m .marks) (x .set) (mem .marks)
   pub inside : (k q : ℕ) → m .marks k ≡ at q → q ≤ length (m .line .steps)
   pub names : Named (m .marks) (m .names) (mem .marks)
+  pub bench : x .bench ≡ m .bench
 
 -- a call by this rule: the answer is the machine's, and so is what is represented afterwards
 pub record Follows (r : Rule) (m : Machine) (b : Bounds) (d : Called) (mem : Memory) : Type 0 where

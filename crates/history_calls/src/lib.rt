@@ -2,6 +2,7 @@
 // A caller has a store and lent words that stand for a machine; any call may be asked for.
 use commands::Answer;
 use commands::HistoryCall;
+use graph::MOST_BENCHES;
 use graph_tables::Head;
 use marks::codes::both_code;
 use marks::codes::name_code;
@@ -11,10 +12,12 @@ use timeline::Current;
 use timeline::Position;
 ghost use mathlib.Core.Path.{_≡_};
 ghost use Prim.Native.Nat.{ℕ, _^_, _<_};
+ghost use mathlib.Core.List.{List};
 ghost use lib.ListN.{length};
 ghost use Rattle.graph.specs.Graph.{Graph};
 ghost use Rattle.graph.specs.WellFormed.{Bounds, Within};
-ghost use Rattle.history.specs.Machine.{fresh, name};
+ghost use Rattle.history.specs.Machine.{fresh, name, Step, stepsBetween, madeBy};
+ghost use Rattle.timeline.specs.Steps.{Behind};
 ghost use Rattle.marks.specs.Marked.{markWords};
 ghost use Rattle.graph_tables.specs.Holds.{Holds};
 ghost use Rattle.graph_tables.specs.Capacities.{Sized};
@@ -33,16 +36,20 @@ ghost use Rattle.history_calls.specs.Outcomes.{
   changesFree,
   markNamed,
   namesSet,
+  benchCode,
+  benchSet,
+  madeCode,
   Leads,
   wayTo,
   wayOf,
   Leaves,
 };
 
-// The record that every change updates, and the set of standing marks.
+// The record that every change updates, the set of standing marks, and the bench of later steps.
 pub struct Store {
     pub current: Current,
     pub set: u64,
+    pub bench: u32,
 }
 
 // The store after a call, and the answer to it.
@@ -66,6 +73,7 @@ pub fn same(store: Store) -> Store
             },
         },
         set: store.set,
+        bench: store.bench,
     }
 }
 
@@ -80,7 +88,7 @@ pub fn stay(store: Store, code: u32, number: u32) -> Called
     }
 }
 
-// No step yet, and no mark.
+// No step yet, no mark, and bench 0.
 pub fn start(head: Head) -> Store
     ensures { λ r. ⌜ r ≡ begunAt head ⌝ }
     ensures { λ r. ⌜ ((b : Bounds) → (mem : Memory) → (g : Graph) → Sized b (tablesOf r mem) → Within b g
@@ -92,6 +100,7 @@ pub fn start(head: Head) -> Store
     Store {
         current: Current { head, position },
         set,
+        bench: 0,
     }
 }
 
@@ -203,6 +212,7 @@ fn go(
             store: Store {
                 current,
                 set: store.set,
+                bench: store.bench,
             },
             answer: Answer {
                 code: 0,
@@ -215,6 +225,7 @@ fn go(
         store: Store {
             current,
             set: store.set,
+            bench: store.bench,
         },
         answer: Answer {
             code: 0,
@@ -236,7 +247,11 @@ pub fn set_mark(store: Store, marks: &mut [u32], a: u32) -> Called
     }
     let set = marks::set_mark(store.set, marks, a, current.position.place);
     Called {
-        store: Store { current, set },
+        store: Store {
+            current,
+            set,
+            bench: store.bench,
+        },
         answer: Answer { code: 0, number: 0 },
     }
 }
@@ -266,12 +281,16 @@ pub fn drop_mark(store: Store, a: u32) -> Called
     }
     let set = marks::drop_mark(store.set, a);
     Called {
-        store: Store { current, set },
+        store: Store {
+            current,
+            set,
+            bench: store.bench,
+        },
         answer: Answer { code: 0, number: 0 },
     }
 }
 
-// Kind 22: the present graph is the start, and no mark stands.
+// Kind 22: the present graph is the start, and no mark stands; the bench stays.
 pub fn commit(store: Store) -> Called
     ensures { λ r. ⌜ r ≡ committed store ⌝ }
 {
@@ -282,6 +301,7 @@ pub fn commit(store: Store) -> Called
         store: Store {
             current: Current { head, position },
             set,
+            bench: store.bench,
         },
         answer: Answer {
             code: 0,
@@ -322,6 +342,79 @@ fn free_changes(store: Store, free: u32) -> Called
     stay(store, 0, free)
 }
 
+// Code 20 or 0.
+fn bench_code(bench: u32) -> u32
+    ensures { λ r. ⌜ r ≡ benchCode bench ⌝ }
+{
+    if MOST_BENCHES <= bench {
+        return 20;
+    }
+    0
+}
+
+// Kind 58: later steps are made by this bench.
+pub fn set_bench(store: Store, bench: u32) -> Called
+    ensures { λ r. ⌜ r ≡ benchSet store bench ⌝ }
+{
+    let current = store.current;
+    let code = bench_code(bench);
+    if code != 0 {
+        return stay(store, code, 0);
+    }
+    Called {
+        store: Store {
+            current,
+            set: store.set,
+            bench,
+        },
+        answer: Answer { code: 0, number: 0 },
+    }
+}
+
+// The steps that a bench made between two places, in either order.
+fn made_between(journal: &[u32], p: u32, q: u32, bench: u32) -> u32
+    requires { ⌜ ((g : Graph) × (ss : List Step) × (u : ℕ) × (v : ℕ) × Behind (now journal) g ss p u
+        × Behind (now journal) g ss q v) ⌝ }
+    ensures { λ r. ⌜ ((g : Graph) → (ss : List Step) → (u v : ℕ) → Behind (now (journal .entry)) g ss p u
+        → Behind (now (journal .entry)) g ss q v → r ≡ madeBy bench (stepsBetween p q ss)) ⌝ }
+{
+    if q < p {
+        return timeline::made_by(journal, q, p, bench);
+    }
+    timeline::made_by(journal, p, q, bench)
+}
+
+// Code 11, 13, 20 or 0 of kind 59.
+fn made_code(set: u64, a: u32, b: u32, bench: u32) -> u32
+    ensures { λ r. ⌜ r ≡ madeCode set a b bench ⌝ }
+{
+    let c = standing_code(set, a);
+    let d = standing_code(set, b);
+    let code = both_code(c, d);
+    if code != 0 {
+        return code;
+    }
+    bench_code(bench)
+}
+
+// Kind 59: of the steps that lie between two marks, how many a bench made.
+pub fn made_by(store: Store, journal: &[u32], marks: &[u32], a: u32, b: u32, bench: u32) -> Called
+    requires { ⌜ ((vertices edges : List ℕ) × Stands store (memory vertices edges (now journal) (now marks))) ⌝ }
+    ensures { λ r. ⌜ ((vertices edges : List ℕ) → (free : ℕ) → Performs (HistoryCall.MadeBy a b bench) free store
+        (memory vertices edges (now (journal .entry)) (now (marks .entry))) r
+        (memory vertices edges (now (journal .entry)) (now (marks .entry)))) ⌝ }
+    ensures { λ r. ⌜ r .store ≡ store ⌝ }
+{
+    let code = made_code(store.set, a, b, bench);
+    if code != 0 {
+        return stay(store, code, 0);
+    }
+    let p = marks::place_of(marks, a);
+    let q = marks::place_of(marks, b);
+    let number = made_between(journal, p, q, bench);
+    stay(store, 0, number)
+}
+
 // Any history call, where so many changes are free. A refused one leaves every lent word; else those of the tables and
 // marks are left open, but for the machine that they stand for.
 pub fn perform(
@@ -347,6 +440,8 @@ pub fn perform(
         HistoryCall::Standing => standing(store),
         HistoryCall::Free => free_changes(store, free),
         HistoryCall::NameMark(a, b, c) => name_mark(store, marks, a, b, c),
+        HistoryCall::SetBench(bench) => set_bench(store, bench),
+        HistoryCall::MadeBy(a, b, bench) => made_by(store, journal, marks, a, b, bench),
         _ => go(store, vertices, edges, journal, marks, call),
     }
 }

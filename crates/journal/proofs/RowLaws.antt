@@ -16,7 +16,8 @@ use Rattle.graph.proofs.Readings.{reading-back}
 use Rattle.graph_tables.specs.Tables.{State, removeEdgeS}
 use Rattle.journal.specs.declared.removal.EdgeWords.{EdgeWords}
 use Rattle.journal.specs.Written.{Written, edgeWords, removalOf}
-use Rattle.journal.specs.Rows.{rowWords, editOf, editAt, storeFrom, RowStep, costing, rowAt, stepAt, rowed, SameBelow, turned}
+use Rattle.journal.proofs.Stamps.{stamped-row, stamped-cost}
+use Rattle.journal.specs.Rows.{rowWords, editOf, editAt, storeFrom, RowStep, costing, rowAt, stepAt, rowed, benchAt, signed, SameBelow, turned}
 
 -- ---- words stored one after another
 
@@ -138,7 +139,42 @@ module _ (u : ℕ) (e : Edit) (x : RowStep) (t t′ : List ℕ) (q : t′ ≡ ro
       ∙ store-at (12 * u) (rowWords e) t i (omega (arith, words-length e)) (omega (arith, words-length e))))
       ∙ listed-words e
 
+-- ---- the bench of the step that begins with row u
+
+pub benchAt-agree : (u i : ℕ) (t t′ : List ℕ) → SameBelow u t t′ → i < u → benchAt t′ i ≡ benchAt t i
+unfolding benchAt
+benchAt-agree u i t t′ b h = b (12 * i + 11) (omega arith)
+
+module _ (u x : ℕ) (t : List ℕ) where
+  pub signed-length : length (signed u x t) ≡ length t
+  unfolding signed
+  signed-length = length-set t (12 * u + 11) x
+
+  pub signed-below : SameBelow u t (signed u x t)
+  unfolding signed
+  signed-below j l = getD-set-other t (12 * u + 11) j x 0 (λ p. omega arith)
+
+  pub signed-row : (i : ℕ) → rowAt (signed u x t) i ≡ rowAt t i
+  unfolding signed
+  signed-row i = stamped-row t u i x
+
+  pub signed-step : (i : ℕ) → stepAt (signed u x t) i ≡ stepAt t i
+  unfolding signed
+  signed-step i = stamped-cost t u i x
+
+  pub signed-bench : 12 * u + 12 ≤ length t → benchAt (signed u x t) u ≡ x
+  unfolding signed benchAt
+  signed-bench h = getD-set-same t (12 * u + 11) x 0 (omega arith)
+
 -- ---- the calls
+
+pub bench-read : (t : List ℕ) (i w c : ℕ) → c ≡ getD t (12 * w + 11) 0 → w ≡ i → c ≡ benchAt t i
+unfolding benchAt
+bench-read t i w c a b = a ∙ ap (λ (x : ℕ). getD t (12 * x + 11) 0) b
+
+pub bench-written : (t : List ℕ) (i w c : ℕ) → w ≡ i → set t (12 * w + 11) c ≡ signed i c t
+unfolding signed
+bench-written t i w c b = ap (λ (x : ℕ). set t (12 * x + 11) c) b
 
 pub row-read : (t : List ℕ) (i w : ℕ) (e : Edit) (back : Bool) → e ≡ turned back (editAt t (12 * w)) → w ≡ i → e ≡ turned back (rowAt t i)
 unfolding rowAt

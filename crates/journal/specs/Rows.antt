@@ -1,4 +1,5 @@
--- A row of the journal: an edit as ten words of twelve, word 10 the cost of its step, word 11 spare.
+-- A row of the journal: an edit as ten words of twelve, word 10 the cost of its step, word 11 of a step's first row
+-- its bench.
 use Prim.Native.Nat.{ℕ, _+_, _*_, _<_}
 use mathlib.Core.Path.{_≡_}
 use mathlib.Core.Bool.{Bool, true, false}
@@ -81,6 +82,14 @@ stepAt t i = costing (getD t (12 * i + 10) 0)
 -- the words with row i written
 unfoldable pub rowed : ℕ → Edit → RowStep → List ℕ → List ℕ
 rowed i e x t = set (storeFrom (12 * i) (rowWords e) t) (12 * i + 10) (x .cost)
+
+-- the bench of the step that begins with row i
+unfoldable pub benchAt : List ℕ → ℕ → ℕ
+benchAt t i = getD t (12 * i + 11) 0
+
+-- the words with the bench of the step that begins with row i
+unfoldable pub signed : ℕ → ℕ → List ℕ → List ℕ
+signed i b t = set t (12 * i + 11) b
 
 -- the words below row u are as they were
 abbrev pub SameBelow : ℕ → List ℕ → List ℕ → Type 0

@@ -1,4 +1,5 @@
-// The journal's rows: twelve words each, of which ten are an edit and one is the cost of the edit's step.
+// The journal's rows: twelve words each, of which ten are an edit, one is the cost of the edit's step, and one, in a
+// step's first row, the bench that made it.
 // A caller has room for the row, or rows that the run wrote.
 use graph::Edit;
 use graph_tables::rows::reading_of;
@@ -7,7 +8,7 @@ ghost use mathlib.Core.List.{[], _∷_};
 ghost use Prim.Native.Nat.{_+_, _*_, _≤_};
 ghost use lib.ListN.{length, set};
 ghost use Rattle.graph.specs.Edits.{inverse};
-ghost use Rattle.journal.specs.Rows.{editOf, turned, editAt, storeFrom, rowAt, stepAt};
+ghost use Rattle.journal.specs.Rows.{editOf, turned, editAt, storeFrom, rowAt, stepAt, benchAt, signed};
 
 pub mod removal; // the words of an edge that goes
 
@@ -132,6 +133,22 @@ pub fn cost_at(journal: &[u32], row: u32) -> u32
     ensures { λ r. ⌜ r ≡ stepAt (now (journal .entry)) row .cost ⌝ }
 {
     journal[12 * wide(row) + 10]
+}
+
+// The bench of the step that begins with a row.
+pub fn bench_at(journal: &[u32], row: u32) -> u32
+    requires { ⌜ 12 * row + 12 ≤ length (now journal) ⌝ }
+    ensures { λ r. ⌜ r ≡ benchAt (now (journal .entry)) row ⌝ }
+{
+    journal[12 * wide(row) + 11]
+}
+
+// The step that begins with a row was made by this bench.
+pub fn put_bench(journal: &mut [u32], row: u32, bench: u32)
+    requires { ⌜ 12 * row + 12 ≤ length (now journal) ⌝ }
+    ensures { λ _. ⌜ now (journal .exit) ≡ signed row bench (now (journal .entry)) ⌝ }
+{
+    journal[12 * wide(row) + 11] = bench;
 }
 
 // Ten words and the cost of their step as one row: the writer of every row. Which words an edit is, `rowWords` says.

@@ -19,7 +19,7 @@ use Rattle.prices.proofs.Ranges.{two-way-range, grade-range}
 use Rattle.image.specs.Image.{load}
 use Rattle.image.proofs.WordSize.{Word}
 use Rattle.history.specs.Machine.{Machine, present, name, holderOf}
-use Rattle.commands.specs.declared.HistoryCall.the-variants.{SetMark, DropMark, Undo, Redo, GoTo, Commit, Between, Standing, Free, NameMark, GoToName}
+use Rattle.commands.specs.declared.HistoryCall.the-variants.{SetMark, DropMark, Undo, Redo, GoTo, Commit, Between, Standing, Free, NameMark, GoToName, SetBench, MadeBy}
 use Rattle.commands.specs.declared.Question.{Question}
 use Rattle.commands.specs.declared.Question.the-variants.{
   FirstVertex,
@@ -61,7 +61,7 @@ use Rattle.machine.specs.Run.{Lent, parametersOf, Limits, listRefusal, a
 use Rattle.machine.specs.Demand.{begins}
 use Rattle.machine.proofs.Graphs.{Formed, present-formed}
 use Rattle.machine.proofs.GraphBounds.{vertex-numbers-le, edge-numbers-le, alpha-le, omega-le, this-le, that-le, vertex-type-le, edge-type-le, value-lt, reading-kind-le, decimetres-le, list-words, degree-le, cost-le}
-use Rattle.machine.proofs.Invariant.{Invariant, fresh-invariant, step-invariant, place-le, moved-le, between-le, free-le, standing-le}
+use Rattle.machine.proofs.Invariant.{Invariant, fresh-invariant, step-invariant, place-le, moved-le, between-le, made-le, free-le, standing-le}
 use Rattle.machine.proofs.ListRows.{passed, start-formed}
 
 -- ---- codes
@@ -74,11 +74,11 @@ lowest-le n (r ∷ rs) (more h hs) = go (r .applies) (lowest-le n rs hs)
     go true i = h
     go false i = i
 
-pub code-le : (w : Parameters) (m : Machine) (c : Command) → refusal w m c ≤ 19
+pub code-le : (w : Parameters) (m : Machine) (c : Command) → refusal w m c ≤ 20
 unfolding refusal
 code-le w m c =
     let t = codeTable w m (callOf c) in
-    lowest-le 19 t (all-bool (λ (r : Row). leb (r .code) 19) (λ r e. leb-true (r .code) 19 e) t refl)
+    lowest-le 20 t (all-bool (λ (r : Row). leb (r .code) 20) (λ r e. leb-true (r .code) 20 e) t refl)
 
 -- ---- numbers
 
@@ -127,7 +127,7 @@ module _ (w : Parameters) (m : Machine) (k : Limits w) (i : Invariant w m) where
   unfolding free
   number-fits (Alter c) = go (alters c (present m))
     where
-      go : (t : Bool) → (t ⇒ deed (cost c (present m)) (steps (stepOf c (present m))) else deed 0 nothing) .number < 2 ^ 32
+      go : (t : Bool) → (t ⇒ deed (cost c (present m)) (steps (stepOf (m .bench) c (present m))) else deed 0 nothing) .number < 2 ^ 32
       go true = omega (arith, cost-le (boundsIn w) (present m) here c, k .few-edges)
       go false = omega arith
   number-fits (History (SetMark n)) = omega arith
@@ -141,6 +141,8 @@ module _ (w : Parameters) (m : Machine) (k : Limits w) (i : Invariant w m) where
   number-fits (History Free) = omega (arith, free-le w m, k .few-changes)
   number-fits (History (NameMark n b c)) = omega arith
   number-fits (History (GoToName b c)) = omega (arith, moved-le w m i (holderOf (name b c) m), k .few-changes)
+  number-fits (History (SetBench b)) = omega arith
+  number-fits (History (MadeBy a b c)) = omega (arith, made-le w m i a b c, k .few-changes)
   number-fits (Ask q) = question-fits q
   number-fits (Quote (Range a b)) = omega (arith, two-way-range (boundsIn w) (present m) ranges a b)
   number-fits (Quote (Grade a b c)) = omega (arith, grade-range (boundsIn w) (present m) ranges a b c)

@@ -12,7 +12,7 @@ use Rattle.graph.specs.Changes.{cost}
 use Rattle.history.specs.Machine.{Machine, costs, fresh, present}
 use Rattle.history.proofs.Timelines.{costs-cut, costs-take}
 use Rattle.history.specs.Machine.{stepOf}
-use Rattle.machine.specs.Rules.{Effect, steps, marks, unmarks, goes, names, clears, nothing, effected}
+use Rattle.machine.specs.Rules.{Effect, steps, marks, unmarks, goes, names, benches, clears, nothing, effected}
 use Rattle.commands.specs.declared.Command.{Command}
 use Rattle.commands.specs.declared.Command.the-variants.{Alter, History, Ask, Quote, Unknown}
 use Rattle.commands.specs.Calls.{Call}
@@ -47,6 +47,7 @@ costs-fit-next w (marks n) m h p = p
 costs-fit-next w (unmarks n) m h p = p
 costs-fit-next w (goes q) m h p = p
 costs-fit-next w (names k n) m h p = p
+costs-fit-next w (benches k) m h p = p
 costs-fit-next w clears m h p = omega arith
 costs-fit-next w nothing m h p = p
 

@@ -15,10 +15,10 @@ use Rattle.graph.specs.declared.Change.the-variants.{CreateVertex, DeleteVertex
 use Rattle.graph.specs.Changes.{cost}
 use Rattle.graph.specs.Same.{alters}
 use Rattle.history.specs.Machine.{Step, stepOf, Machine, present}
-use Rattle.machine.specs.HistoryCodes.{tooDear, historyTable, nameTable}
-use Rattle.machine.specs.Rules.{Effect, steps, marks, unmarks, goes, names, clears, nothing, deed, changeDeed, historyDeed, firstCode, changeRule, historyRule}
+use Rattle.machine.specs.HistoryCodes.{tooDear, historyTable, laterTable}
+use Rattle.machine.specs.Rules.{Effect, steps, marks, unmarks, goes, names, benches, clears, nothing, deed, changeDeed, historyDeed, firstCode, changeRule, historyRule}
 use Rattle.commands.specs.declared.HistoryCall.{HistoryCall}
-use Rattle.commands.specs.declared.HistoryCall.the-variants.{SetMark, DropMark, Undo, Redo, GoTo, Commit, Between, Standing, Free, NameMark, GoToName}
+use Rattle.commands.specs.declared.HistoryCall.the-variants.{SetMark, DropMark, Undo, Redo, GoTo, Commit, Between, Standing, Free, NameMark, GoToName, SetBench, MadeBy}
 use Rattle.commands.specs.declared.Question.{Question}
 use Rattle.commands.specs.declared.Question.the-variants.{FirstVertex, NextVertex, FirstEdge, NextEdge, FirstWord, NextWord, Alpha, Omega, This, That, VertexType, EdgeType, Value, ReadingKind, Decimetres, Degree, VertexOrder, EdgeOrder, WordOrder, Below}
 use Rattle.commands.specs.declared.PriceCall.{PriceCall}
@@ -53,7 +53,7 @@ both-zero r t e = go (r == 0) refl t e
 module _ (w : Parameters) (m : Machine) where
   -- ---- changes: 2 to 9, then 10
 
-  room-only : (c : Change) → lowest (historyTable (w .changes) m (changeCall c) ++ (lastTable (present m) (changeCall c) ++ nameTable m (changeCall c))) ≡ (tooDear (w .changes) m c ⇒ 10 else 0)
+  room-only : (c : Change) → lowest (historyTable (w .changes) m (changeCall c) ++ (lastTable (present m) (changeCall c) ++ laterTable m (changeCall c))) ≡ (tooDear (w .changes) m c ⇒ 10 else 0)
   unfolding changeOf
   room-only (CreateVertex n t x) = refl
   room-only (DeleteVertex a) = refl
@@ -76,7 +76,7 @@ module _ (w : Parameters) (m : Machine) where
   unfolding refusal
   change-refusal c =
       let t = chartTable (boundsIn w) (present m) (changeCall c) in
-      lowest-both t (historyTable (w .changes) m (changeCall c) ++ (lastTable (present m) (changeCall c) ++ nameTable m (changeCall c))) (all-bool (λ (r : Row). leb 1 (r .code)) (λ r e. leb-true 1 (r .code) e) t refl)
+      lowest-both t (historyTable (w .changes) m (changeCall c) ++ (lastTable (present m) (changeCall c) ++ laterTable m (changeCall c))) (all-bool (λ (r : Row). leb 1 (r .code)) (λ r e. leb-true 1 (r .code) e) t refl)
       ∙ ap (firstCode (lowest t)) (room-only c)
 
   -- what an accepted change has passed
@@ -98,6 +98,8 @@ module _ (w : Parameters) (m : Machine) where
   history-refusal Free = refl
   history-refusal (NameMark k b c) = refl
   history-refusal (GoToName b c) = refl
+  history-refusal (SetBench k) = refl
+  history-refusal (MadeBy j k b) = refl
 
   pub question-refusal : (q : Question) → refusal w m (Ask q) ≡ questionCode (length (w .rows)) (present m) q
   unfolding refusal
@@ -136,14 +138,15 @@ Makes P (marks n) = Unit {0}
 Makes P (unmarks n) = Unit {0}
 Makes P (goes p) = Unit {0}
 Makes P (names k n) = Unit {0}
+Makes P (benches b) = Unit {0}
 Makes P clears = Unit {0}
 Makes P nothing = Unit {0}
 
 -- a change that alters the graph makes a step, any other nothing
-pub change-effect : (P : Effect → Type 0) (c : Change) (m : Machine) → (alters c (present m) ≡ true → P (steps (stepOf c (present m)))) → P nothing → P (changeDeed c m .effect)
+pub change-effect : (P : Effect → Type 0) (c : Change) (m : Machine) → (alters c (present m) ≡ true → P (steps (stepOf (m .bench) c (present m)))) → P nothing → P (changeDeed c m .effect)
 change-effect P c m h i = go (alters c (present m)) refl
   where
-    go : (t : Bool) → alters c (present m) ≡ t → P ((t ⇒ deed (cost c (present m)) (steps (stepOf c (present m))) else deed 0 nothing) .effect)
+    go : (t : Bool) → alters c (present m) ≡ t → P ((t ⇒ deed (cost c (present m)) (steps (stepOf (m .bench) c (present m))) else deed 0 nothing) .effect)
     go true e = h e
     go false e = i
 
@@ -159,3 +162,5 @@ history-makes P capacity Standing m = tt
 history-makes P capacity Free m = tt
 history-makes P capacity (NameMark k b c) m = tt
 history-makes P capacity (GoToName b c) m = tt
+history-makes P capacity (SetBench k) m = tt
+history-makes P capacity (MadeBy j k b) m = tt

@@ -12,7 +12,7 @@ use Rattle.graph.proofs.Facts.{to-facts}
 use Rattle.graph.proofs.ChangeLaws.{change-keeps}
 use Rattle.history.specs.Machine.{Step, Machine, graphAt, fresh, present}
 use Rattle.history.specs.Machine.{stepOf}
-use Rattle.machine.specs.Rules.{Effect, steps, marks, unmarks, goes, names, clears, nothing, effected}
+use Rattle.machine.specs.Rules.{Effect, steps, marks, unmarks, goes, names, benches, clears, nothing, effected}
 use Rattle.commands.specs.declared.Command.{Command}
 use Rattle.commands.specs.declared.Command.the-variants.{Alter, History, Ask, Quote, Unknown}
 use Rattle.commands.specs.Calls.{Call}
@@ -54,6 +54,7 @@ next-formed w (marks n) m h a = record { start = a .start; steps = a .steps }
 next-formed w (unmarks n) m h a = record { start = a .start; steps = a .steps }
 next-formed w (goes p) m h a = record { start = a .start; steps = a .steps }
 next-formed w (names k n) m h a = record { start = a .start; steps = a .steps }
+next-formed w (benches k) m h a = record { start = a .start; steps = a .steps }
 next-formed w clears m h a = record { start = present-formed w m a; steps = done }
 next-formed w nothing m h a = a
 

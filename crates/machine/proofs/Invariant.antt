@@ -10,8 +10,9 @@ use Rattle.lists.specs.Lists.{All, done, more, range}
 use Rattle.lists.proofs.Members.{keep-length}
 use Rattle.graph.specs.Graph.{Graph}
 use Rattle.history.specs.Machine.{Step, Machine, MarkPlace, gone, at, stands, placeOr, costs, distance, countStanding, fresh, present}
-use Rattle.history.specs.Machine.{stepOf}
-use Rattle.machine.specs.Rules.{Effect, steps, marks, unmarks, goes, names, clears, nothing, effected}
+use Rattle.history.specs.Machine.{stepOf, stepsBetween, madeBy}
+use Rattle.history.proofs.Benches.{made-length, between-length}
+use Rattle.machine.specs.Rules.{Effect, steps, marks, unmarks, goes, names, benches, clears, nothing, effected}
 use Rattle.commands.specs.declared.Command.{Command}
 use Rattle.commands.specs.declared.Command.the-variants.{Alter, History, Ask, Quote, Unknown}
 use Rattle.commands.specs.Calls.{Call}
@@ -51,6 +52,7 @@ costed-next (marks n) m h a = a
 costed-next (unmarks n) m h a = a
 costed-next (goes p) m h a = a
 costed-next (names k n) m h a = a
+costed-next (benches k) m h a = a
 costed-next clears m h a = done
 costed-next nothing m h a = a
 
@@ -118,6 +120,25 @@ module _ (w : Parameters) (m : Machine) (i : Invariant w m) where
   -- kind 49: the steps between two marks
   pub between-le : (j k : ℕ) → distance (placeOr 0 (m .marks j)) (placeOr 0 (m .marks k)) ≤ w .changes
   between-le j k = omega (arith, mark-place-le 0 j (omega arith), mark-place-le 0 k (omega arith))
+
+  -- kind 59: how many of them a bench made
+  pub made-le : (j k b : ℕ) → madeBy b (stepsBetween (placeOr 0 (m .marks j)) (placeOr 0 (m .marks k)) (m .line .steps)) ≤ w .changes
+  made-le j k b =
+      let p = placeOr 0 (m .marks j) in
+      let q = placeOr 0 (m .marks k) in
+      omega (
+        arith,
+        made-length b (stepsBetween p q (m .line .steps)),
+        between-length p q (m .line .steps) (in-steps j) (in-steps k),
+        between-le j k,
+      )
+    where
+      in-steps : (k : ℕ) → placeOr 0 (m .marks k) ≤ length (m .line .steps)
+      in-steps k = go (m .marks k) refl
+        where
+          go : (s : MarkPlace) → m .marks k ≡ s → placeOr 0 s ≤ length (m .line .steps)
+          go gone e = omega arith
+          go (at q) e = i .places .marks-in k q e
 
 -- kind 51
 pub free-le : (w : Parameters) (m : Machine) → free w m ≤ w .changes

@@ -7,7 +7,7 @@ use native.Mathlib.Omega.{arith}
 use lib.ListN.{length}
 use borrow.Author.Tests.{eqb-true, eq-eqb, ne-eqb}
 use Rattle.lists.specs.Choice.{_⇒_else_, _==_}
-use Rattle.history.specs.Machine.{Machine, movedTo, fresh, present}
+use Rattle.history.specs.Machine.{Machine, movedTo, freshAt, present}
 use Rattle.commands.specs.declared.HistoryCall.the-variants.{Undo, Redo, Commit}
 use Rattle.commands.specs.declared.Command.the-variants.{History}
 use Rattle.machine.specs.Calls.{Parameters}
@@ -53,8 +53,8 @@ module _ (w : Parameters) (m : Machine) where
       let f : (m .line .place == length (m .line .steps)) ≡ false = ne-eqb (m .line .place) (length (m .line .steps)) e in
       (rw f, rw f)
 
-  -- ---- commit: always accepted; it answers p, keeps the graph and gives back everything
+  -- ---- commit: always accepted; it answers p, keeps the graph and the bench and gives back everything
 
-  pub commit-made : (answerTo w m (History Commit) ≡ accepts (m .line .place)) × (stepTo w m (History Commit) ≡ fresh (present m)) × (free w (stepTo w m (History Commit)) ≡ w .changes)
+  pub commit-made : (answerTo w m (History Commit) ≡ accepts (m .line .place)) × (stepTo w m (History Commit) ≡ freshAt (m .bench) (present m)) × (free w (stepTo w m (History Commit)) ≡ w .changes)
   unfolding answerTo stepTo refusal free
   commit-made = (refl, refl, omega arith)

@@ -3,6 +3,7 @@ pub mod MarkCalls
 pub mod Stands
 pub mod MarkLaws
 pub mod NameLaws
+pub mod BenchLaws
 pub mod PriceLaws
 pub mod Families
 pub mod CostsFit

@@ -26,7 +26,7 @@ use Rattle.machine.proofs.Families.{Coded}
 use Rattle.machine.specs.Run.{Lent, listTable, listRefusal}
 
 -- the codes of the tables, in their order
-pub codes : (w : Parameters) (m : Machine) (x : Call) → map (λ (r : Row). r .code) (codeTable w m x) ≡ map suc (range 19)
+pub codes : (w : Parameters) (m : Machine) (x : Call) → map (λ (r : Row). r .code) (codeTable w m x) ≡ map suc (range 20)
 unfolding codeTable
 codes w m x = refl
 

@@ -14,8 +14,8 @@ use Rattle.lists.proofs.Bools.{tf, ft, and-true, or-none}
 use Rattle.graph.specs.Graph.{Graph}
 use Rattle.history.specs.Machine.{Machine, MarkPlace, gone, at, placeOr, graphAt, distance, fresh, present, name, holderOf}
 use Rattle.history.proofs.Timelines.{length-cut, graph-kept}
-use Rattle.machine.specs.Rules.{Effect, steps, marks, unmarks, goes, names, clears, nothing, effected}
-use Rattle.commands.specs.declared.HistoryCall.the-variants.{SetMark, DropMark, Undo, Redo, GoTo, Commit, Between, Standing as StandingMarks, Free, NameMark, GoToName}
+use Rattle.machine.specs.Rules.{Effect, steps, marks, unmarks, goes, names, benches, clears, nothing, effected}
+use Rattle.commands.specs.declared.HistoryCall.the-variants.{SetMark, DropMark, Undo, Redo, GoTo, Commit, Between, Standing as StandingMarks, Free, NameMark, GoToName, SetBench, MadeBy}
 use Rattle.commands.specs.declared.Command.{Command}
 use Rattle.commands.specs.declared.Command.the-variants.{Alter, History, Ask, Quote, Unknown}
 use Rattle.commands.specs.Calls.{Call}
@@ -62,6 +62,7 @@ Inside (goes p) m = p ≤ length (m .line .steps)
 Inside (steps s) m = Unit {0}
 Inside (marks n) m = Unit {0}
 Inside (names k n) m = Unit {0}
+Inside (benches b) m = Unit {0}
 Inside (unmarks n) m = Unit {0}
 Inside clears m = Unit {0}
 Inside nothing m = Unit {0}
@@ -87,6 +88,8 @@ inside w m (History StandingMarks) h f = tt
 inside w m (History Free) h f = tt
 inside w m (History (NameMark k b c)) h f = tt
 inside w m (History (GoToName b c)) h f = place-inside m (holderOf (name b c) m) h
+inside w m (History (SetBench b)) h f = tt
+inside w m (History (MadeBy j k b)) h f = tt
 inside w m (Ask q) h f = tt
 inside w m (Quote p) h f = tt
 inside w m Unknown h f = tt
@@ -113,7 +116,8 @@ places-next (unmarks n) m h r = record {
 }
 places-next (goes p) m h r = record { place-in = r; marks-in = h .marks-in }
 places-next (names k n) m h r = record { place-in = h .place-in; marks-in = h .marks-in }
-places-next clears m h r = fresh-places (present m)
+places-next (benches b) m h r = record { place-in = h .place-in; marks-in = h .marks-in }
+places-next clears m h r = record { place-in = omega arith; marks-in = λ k q e. gone-at e }
 places-next nothing m h r = h
 
 pub places-step : (w : Parameters) (m : Machine) (x : Call) → PlacesInRange m → PlacesInRange (step w m x)
@@ -131,6 +135,7 @@ loses (marks n) q p = false
 loses (unmarks n) q p = false
 loses (goes r) q p = false
 loses (names k n) q p = false
+loses (benches b) q p = false
 loses nothing q p = false
 
 ends-loses : (e : Effect) (k q p : ℕ) → endsBy e k q p ≡ false → loses e q p ≡ false
@@ -140,6 +145,7 @@ ends-loses (marks n) k q p e = refl
 ends-loses (unmarks n) k q p e = refl
 ends-loses (goes r) k q p e = refl
 ends-loses (names j n) k q p e = refl
+ends-loses (benches b) k q p e = refl
 ends-loses clears k q p e = e
 ends-loses nothing k q p e = refl
 
@@ -150,6 +156,7 @@ sets-loses (marks n) k q p e = refl
 sets-loses (unmarks n) k q p e = refl
 sets-loses (goes r) k q p e = refl
 sets-loses (names j n) k q p e = refl
+sets-loses (benches b) k q p e = refl
 sets-loses clears k q p e = ft e
 sets-loses nothing k q p e = refl
 
@@ -166,6 +173,7 @@ holds-next (marks n) m q g h i e = i
 holds-next (unmarks n) m q g h i e = i
 holds-next (goes p) m q g h i e = i
 holds-next (names k n) m q g h i e = i
+holds-next (benches b) m q g h i e = i
 holds-next clears m q g h i e = tf e
 holds-next nothing m q g h i e = i
 
@@ -214,6 +222,8 @@ sets-range w m (History StandingMarks) k f e = ft e
 sets-range w m (History Free) k f e = ft e
 sets-range w m (History (NameMark j b c)) k f e = ft e
 sets-range w m (History (GoToName b c)) k f e = ft e
+sets-range w m (History (SetBench b)) k f e = ft e
+sets-range w m (History (MadeBy i j b)) k f e = ft e
 sets-range w m (Alter c) k f e = change-effect (λ i. setsBy i k ≡ true → within 1 64 k ≡ true) c m (λ _ j. ft j) (λ j. ft j) e
 sets-range w m (Ask q) k f e = ft e
 sets-range w m (Quote p) k f e = ft e

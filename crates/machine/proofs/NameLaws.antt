@@ -14,8 +14,8 @@ use Rattle.graph.specs.Graph.{Graph}
 use Rattle.history.specs.Machine.{Machine, MarkPlace, gone, at, stands, cut, Name, name, noName, isName, sameName, named, bears, holderBut, holderOf, distance, fresh, present}
 use Rattle.history.proofs.Seeking.{seek-none, seek-all, seek-found}
 use Rattle.machine.specs.HistoryCodes.{nameTaken}
-use Rattle.machine.specs.Rules.{Effect, steps, marks, unmarks, goes, names, clears, nothing, effected}
-use Rattle.commands.specs.declared.HistoryCall.the-variants.{SetMark, DropMark, Undo, Redo, GoTo, Commit, Between, Standing as StandingMarks, Free, NameMark, GoToName}
+use Rattle.machine.specs.Rules.{Effect, steps, marks, unmarks, goes, names, benches, clears, nothing, effected}
+use Rattle.commands.specs.declared.HistoryCall.the-variants.{SetMark, DropMark, Undo, Redo, GoTo, Commit, Between, Standing as StandingMarks, Free, NameMark, GoToName, SetBench, MadeBy}
 use Rattle.commands.specs.declared.Command.{Command}
 use Rattle.commands.specs.declared.Command.the-variants.{Alter, History, Ask, Quote, Unknown}
 use Rattle.commands.specs.Calls.{Call}
@@ -92,6 +92,7 @@ Proper (names k n) m = (stands (m .marks k) ≡ true) × (holderBut k n m ≡ 0)
 Proper (steps s) m = Unit {0}
 Proper (unmarks k) m = Unit {0}
 Proper (goes p) m = Unit {0}
+Proper (benches b) m = Unit {0}
 Proper clears m = Unit {0}
 Proper nothing m = Unit {0}
 
@@ -129,6 +130,8 @@ proper w m (History (NameMark k b c)) f =
     let free = or-none (not (isName (name b c))) _ (p .1) in
     (p .0, not-zero _ (free .1), not-false _ (free .0))
 proper w m (History (GoToName b c)) f = tt
+proper w m (History (SetBench b)) f = tt
+proper w m (History (MadeBy j k b)) f = tt
 proper w m (Ask q) f = tt
 proper w m (Quote p) f = tt
 proper w m Unknown f = tt
@@ -198,6 +201,10 @@ naming-next (goes p) m h r = record { ranged = h .ranged; bare = h .bare; apart 
   where
     old : (k : ℕ) (n : Name) → Bearing (effected (goes p) m) n k → Bearing m n k
     old k n a = record { standing = a .standing; real = a .real; has = a .has }
+naming-next (benches i) m h r = record { ranged = h .ranged; bare = h .bare; apart = λ j k n a b. h .apart j k n (old j n a) (old k n b) }
+  where
+    old : (k : ℕ) (n : Name) → Bearing (effected (benches i) m) n k → Bearing m n k
+    old k n a = record { standing = a .standing; real = a .real; has = a .has }
 naming-next (names i o) m h r = record {
   ranged = h .ranged;
   bare = λ k e. bare k (k == i) refl e;
@@ -252,6 +259,7 @@ name-to (steps s) m k q n r a e =
 name-to (marks i) m k q n r a e = let c = bare-to (k == i) _ n r e in inr (c .0, c .1, refl)
 name-to (unmarks i) m k q n r a e = let c = bare-to (k == i) _ n r e in inr (c .0, c .1, refl)
 name-to (goes p) m k q n r a e = inr (e, refl, refl)
+name-to (benches b) m k q n r a e = inr (e, refl, refl)
 name-to (names i o) m k q n r a e = go (put-name (k == i) o (m .names k) n e)
   where
     go : (((k == i) ≡ true) × (o ≡ n)) ⊎ (((k == i) ≡ false) × (m .names k ≡ n)) → ((k == i) && sameName o n ≡ true) ⊎ ((m .names k ≡ n) × (false ≡ false) × ((k == i) ≡ false))
@@ -270,6 +278,8 @@ name-from (unmarks i) m k q n a (inl h) = ft h
 name-from (unmarks i) m k q n a (inr h) = rw (h .1) (h .0)
 name-from (goes p) m k q n a (inl h) = ft h
 name-from (goes p) m k q n a (inr h) = h .0
+name-from (benches b) m k q n a (inl h) = ft h
+name-from (benches b) m k q n a (inr h) = h .0
 name-from (names i o) m k q n a (inl h) = let b = and-true (k == i) _ h in rw (b .0) (same-name o n (b .1))
 name-from (names i o) m k q n a (inr h) = rw (h .2) (h .0)
 name-from clears m k q n a h = gone-at a
@@ -375,6 +385,7 @@ given-real (steps s) m k n p h = ft h
 given-real (marks j) m k n p h = ft h
 given-real (unmarks j) m k n p h = ft h
 given-real (goes q) m k n p h = ft h
+given-real (benches b) m k n p h = ft h
 given-real clears m k n p h = ft h
 given-real nothing m k n p h = ft h
 

@@ -31,18 +31,18 @@ module _ (x : Call) where
       out : (lo hi : ℕ) → within lo hi (x .kind) ≡ false → lo ≤ x .kind → hi < x .kind
       out lo hi f h = leb-false (x .kind) hi (sym (ap (λ (t : Bool). t && leb (x .kind) hi) (le-leb lo (x .kind) h)) ∙ f)
 
-      ranges : (within 1 22 (x .kind) ≡ false) × (within 30 54 (x .kind) ≡ false) × (within 56 57 (x .kind) ≡ false)
+      ranges : (within 1 22 (x .kind) ≡ false) × (within 30 54 (x .kind) ≡ false) × (within 56 59 (x .kind) ≡ false)
       ranges =
           let r = or-none (within 1 22 (x .kind)) _ e in
-          let s = or-none (within 30 54 (x .kind)) (within 56 57 (x .kind)) (r .1) in
+          let s = or-none (within 30 54 (x .kind)) (within 56 59 (x .kind)) (r .1) in
           (r .0, s .0, s .1)
 
-      last : (t : Bool) → (x .kind == 55) ≡ t → 54 < x .kind → ((x .kind == 55) ⇒ Unknown else leb (x .kind) 57 ⇒ History (historyOf (x .kind) (x .a) (x .b) (x .c)) else Unknown) ≡ Unknown
+      last : (t : Bool) → (x .kind == 55) ≡ t → 54 < x .kind → ((x .kind == 55) ⇒ Unknown else leb (x .kind) 59 ⇒ History (historyOf (x .kind) (x .a) (x .b) (x .c)) else Unknown) ≡ Unknown
       last true f h = rw f
       last false f h =
           let n = eqb-false (x .kind) 55 f in
-          let o : 57 < x .kind = out 56 57 (ranges .2) (omega arith) in
-          rw (f, lt-leb (x .kind) 57 o)
+          let o : 59 < x .kind = out 56 59 (ranges .2) (omega arith) in
+          rw (f, lt-leb (x .kind) 59 o)
 
       high : (t : Bool) → leb (x .kind) 29 ≡ t → (x .kind == 0) ≡ false → leb (x .kind) 16 ≡ false → leb (x .kind) 22 ≡ false → commandOf x ≡ Unknown
       high true f z a b = rw (z, a, b, f)
@@ -90,9 +90,9 @@ module _ (w : Parameters) (m : Machine) (x : Call) where
   unfolding refusal commandOf
   late top = next 30 refl (next 31 refl (next 32 refl (next 33 refl (next 34 refl (next 35 refl (next 36 refl (next 37 refl (next 38 refl (next 39 refl (next 40 refl (next 41 refl (next 42 refl (next 43 refl (next 44 refl (next 45 refl (next 46 refl (next 47 refl (next 48 refl (next 49 refl (next 50 refl (next 51 refl (next 52 refl (next 53 refl (next 54 refl (λ h. absurd (omega arith))))))))))))))))))))))))))
 
-  latest : x .kind ≤ 57 → 56 ≤ x .kind → OnWords w m x
+  latest : x .kind ≤ 59 → 56 ≤ x .kind → OnWords w m x
   unfolding refusal commandOf
-  latest top = next 56 refl (next 57 refl (λ h. absurd (omega arith)))
+  latest top = next 56 refl (next 57 refl (next 58 refl (next 59 refl (λ h. absurd (omega arith)))))
 
   -- a kind that is not named
   other : known (x .kind) ≡ false → OnWords w m x
@@ -102,13 +102,13 @@ module _ (w : Parameters) (m : Machine) (x : Call) where
   pub on-words : OnWords w m x
   on-words = go (known (x .kind)) refl
     where
-      later : (within 30 54 (x .kind) ≡ true) ⊎ (within 56 57 (x .kind) ≡ true) → OnWords w m x
+      later : (within 30 54 (x .kind) ≡ true) ⊎ (within 56 59 (x .kind) ≡ true) → OnWords w m x
       later (inl h) = let r = within-range 30 54 (x .kind) h in late (r .1) (r .0)
-      later (inr h) = let r = within-range 56 57 (x .kind) h in latest (r .1) (r .0)
+      later (inr h) = let r = within-range 56 59 (x .kind) h in latest (r .1) (r .0)
 
-      either : (within 1 22 (x .kind) ≡ true) ⊎ ((within 30 54 (x .kind) || within 56 57 (x .kind)) ≡ true) → OnWords w m x
+      either : (within 1 22 (x .kind) ≡ true) ⊎ ((within 30 54 (x .kind) || within 56 59 (x .kind)) ≡ true) → OnWords w m x
       either (inl h) = let r = within-range 1 22 (x .kind) h in early (r .1) (r .0)
-      either (inr h) = later (or-true (within 30 54 (x .kind)) (within 56 57 (x .kind)) h)
+      either (inr h) = later (or-true (within 30 54 (x .kind)) (within 56 59 (x .kind)) h)
 
       go : (t : Bool) → known (x .kind) ≡ t → OnWords w m x
       go true e = either (or-true (within 1 22 (x .kind)) _ e)

@@ -11,7 +11,7 @@ use Rattle.lists.specs.Lists.{any}
 use Rattle.lists.proofs.Bools.{tf, ft, or-none}
 use Rattle.graph.specs.Graph.{Graph}
 use Rattle.history.specs.Machine.{Machine, MarkPlace, gone, at, cut, present}
-use Rattle.machine.specs.Rules.{Effect, steps, marks, unmarks, goes, names, clears, nothing, effected}
+use Rattle.machine.specs.Rules.{Effect, steps, marks, unmarks, goes, names, benches, clears, nothing, effected}
 use Rattle.commands.specs.Calls.{Call}
 use Rattle.commands.specs.Commands.{commandOf}
 use Rattle.machine.specs.Calls.{Parameters}
@@ -63,6 +63,7 @@ next-to (marks n) m k q e = set-to (k == n) (m .line .place) q (m .marks k) e
 next-to (unmarks n) m k q e = inr (drop-to (k == n) q (m .marks k) e)
 next-to (goes p) m k q e = inr (e, refl)
 next-to (names j n) m k q e = inr (e, refl)
+next-to (benches j) m k q e = inr (e, refl)
 next-to clears m k q e = gone-at e
 next-to nothing m k q e = inr (e, refl)
 
@@ -77,6 +78,8 @@ next-from (goes p) m k q (inl h) = ft (h .0)
 next-from (goes p) m k q (inr h) = h .0
 next-from (names j n) m k q (inl h) = ft (h .0)
 next-from (names j n) m k q (inr h) = h .0
+next-from (benches j) m k q (inl h) = ft (h .0)
+next-from (benches j) m k q (inr h) = h .0
 next-from clears m k q (inl h) = ft (h .0)
 next-from clears m k q (inr h) = tf (h .1)
 next-from nothing m k q (inl h) = ft (h .0)

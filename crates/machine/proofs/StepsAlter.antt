@@ -26,7 +26,7 @@ use Rattle.commands.specs.declared.Command.the-variants.{Alter, History, Ask, Q
 use Rattle.commands.specs.Calls.{Call}
 use Rattle.commands.specs.Commands.{commandOf}
 use Rattle.history.specs.Machine.{Step, stepOf, Machine, graphAt, fresh, present}
-use Rattle.machine.specs.Rules.{Effect, steps, marks, unmarks, goes, names, clears, nothing, effected}
+use Rattle.machine.specs.Rules.{Effect, steps, marks, unmarks, goes, names, benches, clears, nothing, effected}
 use Rattle.machine.specs.Calls.{Parameters, boundsIn}
 use Rattle.machine.specs.Codes.{lacksVertex, lacksEdge, changeCode, refusal}
 use Rattle.machine.specs.Machine.{deedOf, answerTo, stepTo, step, last}
@@ -114,6 +114,7 @@ differ-next (marks k) m h n a = a
 differ-next (unmarks k) m h n a = a
 differ-next (goes p) m h n a = a
 differ-next (names k o) m h n a = a
+differ-next (benches k) m h n a = a
 differ-next clears m h n a = tt
 differ-next nothing m h n a = a
 

@@ -17,6 +17,7 @@ use Rattle.machine.specs.Run.{Lent, AfterRun, parametersOf, listRefusal,
 use Rattle.machine.specs.Demand.{begins, after, Demand3}
 use Rattle.machine.proofs.MarkLaws.{mark-sentence}
 use Rattle.machine.proofs.NameLaws.{name-sentence}
+use Rattle.machine.proofs.BenchLaws.{bench-sentence}
 use Rattle.machine.proofs.ListRows.{passed}
 use Rattle.machine.proofs.StepsAlter.{steps-alter}
 use Rattle.machine.proofs.Ends.{run-end-fits}
@@ -56,6 +57,7 @@ demand-3 l e = record {
   every-point = λ xs ys c. mark-sentence (parametersOf l) (load (l .start)) xs;
   steps-alter = λ xs ys c. steps-alter (parametersOf l) (load (l .start)) xs;
   names = λ xs ys c. name-sentence (parametersOf l) (load (l .start)) xs;
+  benches = λ xs ys c. bench-sentence (parametersOf l) (load (l .start)) xs;
 }
 
 -- ---- the slices keep their lengths

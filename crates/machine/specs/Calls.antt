@@ -23,7 +23,7 @@ boundsIn w = record { vertices = w .vertices; edges = w .edges; types = length (
 
 -- those with a row in REFERENCE 2.5
 abbrev pub known : ℕ → Bool
-known k = within 1 22 k || (within 30 54 k || within 56 57 k)
+known k = within 1 22 k || (within 30 54 k || within 56 59 k)
 
 -- ---- what a call names
 

@@ -1,4 +1,4 @@
--- The table of codes 1 to 19: when each applies, and the lowest that does.
+-- The table of codes 1 to 20: when each applies, and the lowest that does.
 use Prim.Native.Nat.{ℕ}
 use mathlib.Core.Bool.{Bool, false, not, _&&_}
 use mathlib.Core.List.{List, [], _∷_, _++_}
@@ -10,7 +10,7 @@ use Rattle.graph.specs.Graph.{Graph, hasVertex, hasEdge, this, isReading}
 use Rattle.graph.specs.WellFormed.{Bounds}
 use Rattle.graph.specs.Same.{alters}
 use Rattle.history.specs.Machine.{Machine, freeOf, present}
-use Rattle.machine.specs.HistoryCodes.{historyTable, nameTable}
+use Rattle.machine.specs.HistoryCodes.{historyTable, laterTable}
 use Rattle.prices.specs.Prices.{nothingHeard}
 use Rattle.commands.specs.declared.Question.{Question}
 use Rattle.commands.specs.declared.PriceCall.{PriceCall}
@@ -103,12 +103,12 @@ lastTable g x =
     row 17 (priceListOutside x) ∷
     []
 
--- 10 to 14, 18 and 19 are the history's
+-- 10 to 14 and 18 to 20 are the history's
 unfoldable pub codeTable : Parameters → Machine → Call → List Row
 unfolding changeOf alters nothingHeard
 codeTable w m x =
     chartTable (boundsIn w) (present m) x ++ (historyTable (w .changes) m x
-    ++ (lastTable (present m) x ++ nameTable m x))
+    ++ (lastTable (present m) x ++ laterTable m x))
 
 -- the code of a command, 0 where it is accepted
 unfoldable pub refusal : Parameters → Machine → Command → ℕ

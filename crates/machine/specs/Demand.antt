@@ -12,6 +12,7 @@ use Rattle.commands.specs.declared.Answer.{Answer}
 use Rattle.machine.specs.Machine.{answer, answers, step, last}
 use Rattle.machine.specs.Marks.{Event, events, MarkSentence}
 use Rattle.machine.specs.Names.{NameSentence}
+use Rattle.machine.specs.Benches.{BenchSentence}
 use Rattle.machine.specs.Run.{Lent, AfterRun, parametersOf, answerWords}
 
 -- the plain machine as the list begins
@@ -61,3 +62,6 @@ pub record Demand3 (l : Lent) (r : AfterRun) : Type 0 where
   -- and the names of the marks
   pub names : (xs ys : List Call) → xs ++ ys ≡ callsOf (l .calls)
       → NameSentence (parametersOf l) (load (l .start)) xs
+  -- and the benches of the steps
+  pub benches : (xs ys : List Call) → xs ++ ys ≡ callsOf (l .calls)
+      → BenchSentence (parametersOf l) (load (l .start)) xs

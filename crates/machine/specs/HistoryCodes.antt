@@ -1,12 +1,13 @@
--- Rows 10 to 14, 18 and 19 of the table of codes, read on a call's words and the machine as the call begins.
+-- Rows 10 to 14 and 18 to 20 of the table of codes, read on a call's words and the machine as the call begins.
 use Prim.Native.Nat.{ℕ}
 use mathlib.Core.Bool.{Bool, false, not, _&&_, _||_}
 use mathlib.Core.List.{List, [], _∷_}
 use lib.ListN.{length}
-use lib.Dec.{ltb}
+use lib.Dec.{leb, ltb}
 use Rattle.lists.specs.Choice.{_⇒_else_, _==_, within}
 use Rattle.lists.specs.Lists.{_is_}
 use Rattle.graph.specs.declared.Change.{Change}
+use Rattle.graph.specs.Limits.{mostBenches}
 use Rattle.graph.specs.Changes.{cost}
 use Rattle.graph.specs.Same.{alters}
 use Rattle.commands.specs.Calls.{Call}
@@ -20,7 +21,7 @@ isChange k = within 1 16 k
 abbrev pub marksNamed : Call → List ℕ
 marksNamed x =
     (x .kind is (17 ∷ 18 ∷ 21 ∷ 56 ∷ [])) ⇒ (x .a ∷ []) else
-    (x .kind == 49) ⇒ (x .a ∷ x .b ∷ []) else
+    (x .kind is (49 ∷ 59 ∷ [])) ⇒ (x .a ∷ x .b ∷ []) else
     []
 
 -- a change that alters the graph costs more than is free (REFERENCE 7.10); the numbers are compared first, so that a
@@ -71,8 +72,16 @@ nameRefused m x = (x .kind == 56) && nameTaken m (x .a) (x .b) (x .c)
 abbrev pub nameMissing : Machine → Call → Bool
 nameMissing m x = (x .kind == 57) && (holderOf (name (x .a) (x .b)) m == 0)
 
-abbrev pub nameTable : Machine → Call → List Row
-nameTable m x =
+abbrev pub noBench : ℕ → Bool
+noBench b = leb mostBenches b
+
+-- REFERENCE 7.20
+abbrev pub benchOutside : Call → Bool
+benchOutside x = (x .kind == 58) ⇒ noBench (x .a) else (x .kind == 59) ⇒ noBench (x .c) else false
+
+abbrev pub laterTable : Machine → Call → List Row
+laterTable m x =
     row 18 (nameRefused m x) ∷
     row 19 (nameMissing m x) ∷
+    row 20 (benchOutside x) ∷
     []

@@ -5,6 +5,7 @@ pub mod Codes
 pub mod Machine
 pub mod Marks
 pub mod Names
+pub mod Benches
 pub mod Run
 pub mod Demand
 pub mod Demands

@@ -19,6 +19,8 @@ use Rattle.commands.specs.declared.HistoryCall.the-variants.{
   Free,
   NameMark,
   GoToName,
+  SetBench,
+  MadeBy,
 }
 use Rattle.commands.specs.declared.Answer.{Answer}
 use Rattle.commands.specs.Answers.{answerOf}
@@ -41,17 +43,22 @@ use Rattle.history.specs.Machine.{
   withMarkSet,
   withMarkDropped,
   withName,
+  withBench,
+  stepsBetween,
+  madeBy,
   afterCommit,
   holderOf,
 }
-use Rattle.machine.specs.HistoryCodes.{tooDear, historyTable, nameTable}
+use Rattle.machine.specs.HistoryCodes.{tooDear, historyTable, laterTable}
 use Rattle.machine.specs.Codes.{changeCode}
 
--- what an accepted call does: a step, a mark set, dropped or named, another place, a commit, or nothing
+-- what an accepted call does: a step, a mark set, dropped or named, another place, another bench, a commit,
+-- or nothing
 pub data Effect : Type 0 where
   steps : Step → Effect
   marks unmarks goes : ℕ → Effect
   names : ℕ → Name → Effect
+  benches : ℕ → Effect
   clears nothing : Effect
 
 abbrev pub effected : Effect → Machine → Machine
@@ -60,6 +67,7 @@ effected (marks n) m = withMarkSet n m
 effected (unmarks n) m = withMarkDropped n m
 effected (goes p) m = movedTo p m
 effected (names k n) m = withName k n m
+effected (benches b) m = withBench b m
 effected clears m = afterCommit m
 effected nothing m = m
 
@@ -73,7 +81,8 @@ deed n e = record { number = n; effect = e }
 
 -- a change that alters the graph answers its cost and is a step; any other answers 0 and is none (REFERENCE 3.10, 3.11)
 abbrev pub changeDeed : Change → Machine → Deed
-changeDeed c m = alters c (present m) ⇒ deed (cost c (present m)) (steps (stepOf c (present m))) else deed 0 nothing
+changeDeed c m =
+    alters c (present m) ⇒ deed (cost c (present m)) (steps (stepOf (m .bench) c (present m))) else deed 0 nothing
 
 -- to the place of mark k
 abbrev pub goingTo : ℕ → Machine → Deed
@@ -94,6 +103,9 @@ historyDeed capacity Standing m = deed (countStanding (m .marks)) nothing
 historyDeed capacity Free m = deed (freeOf capacity (m .line)) nothing
 historyDeed capacity (NameMark k b c) m = deed 0 (names k (name b c))
 historyDeed capacity (GoToName b c) m = goingTo (holderOf (name b c) m) m
+historyDeed capacity (SetBench b) m = deed 0 (benches b)
+historyDeed capacity (MadeBy j k b) m =
+    deed (madeBy b (stepsBetween (placeOr 0 (m .marks j)) (placeOr 0 (m .marks k)) (m .line .steps))) nothing
 
 -- ---- rules
 
@@ -124,6 +136,6 @@ changeRule b capacity c = record {
 abbrev pub historyRule : ℕ → HistoryCall → Rule
 historyRule capacity h = record {
   code = λ m. lowest
-      (historyTable capacity m (historyCall h) ++ nameTable m (historyCall h));
+      (historyTable capacity m (historyCall h) ++ laterTable m (historyCall h));
   deed = historyDeed capacity h;
 }

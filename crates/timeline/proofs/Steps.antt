@@ -12,9 +12,9 @@ use Rattle.graph.specs.WellFormed.{Bounds, WellFormed, Within}
 use Rattle.graph.specs.Edits.{Applies, EditIn, apply}
 use Rattle.history.specs.Machine.{Step, Timeline, begun, graphAt, presentIn, placed, extended, costs, freeOf}
 use Rattle.history.proofs.Timelines.{length-cut}
-use Rattle.journal.specs.Rows.{RowStep, costing, stepAt, SameBelow}
+use Rattle.journal.specs.Rows.{RowStep, costing, rowAt, stepAt, signed, SameBelow}
 use Rattle.journal.specs.Written.{Written}
-use Rattle.journal.proofs.RowLaws.{below-less, stepAt-agree, rowed-below, rowed-step, rowed-length}
+use Rattle.journal.proofs.RowLaws.{below-less, stepAt-agree, rowed-below, rowed-step, rowed-length, benchAt-agree, signed-length, signed-below, signed-row, signed-step, signed-bench}
 use Rattle.graph_tables.specs.Tables.{State, state}
 use Rattle.graph_tables.specs.Holds.{Holds}
 use Rattle.graph_tables.specs.Capacities.{Sized}
@@ -25,8 +25,8 @@ use Rattle.timeline.specs.JournalRows.{made, JournalRows, shifted, Reach
 use Rattle.timeline.specs.Steps.{rowsTo, StepAt, StepsAt, Behind, Journal, Open}
 use Rattle.timeline.proofs.JournalRowLaws.{made-within, made-agree, rows-cut, made-more, written-rows}
 
-abbrev pub stepWith : ℕ → Graph → Step
-stepWith c g = record { cost = c; graph = g }
+abbrev pub stepWith : ℕ → Graph → ℕ → Step
+stepWith c g b = record { cost = c; graph = g; bench = b }
 
 rows-from : (i p : ℕ) (ss : List Step) → i ≤ rowsTo i p ss
 rows-from i zero ss = omega arith
@@ -88,6 +88,7 @@ step-agree t t′ g i x b k = record {
   first = stepAt-agree (i + x .cost) i t t′ b (omega (arith, k .some)) ∙ k .first;
   last = stepAt-agree (i + x .cost) (i + x .cost - 1) t t′ b (omega (arith, k .some)) ∙ k .last;
   makes = k .makes ∙ sym (made-agree (i + x .cost) t t′ g b (i + x .cost) (omega arith));
+  benched = benchAt-agree (i + x .cost) i t t′ b (omega (arith, k .some)) ∙ k .benched;
 }
 
 steps-at-more : (t t′ : List ℕ) (g : Graph) (i p : ℕ) (ss : List Step) (x : Step) → StepsAt t g i ss → p ≤ length ss → SameBelow (rowsTo i p ss) t t′
@@ -162,6 +163,10 @@ journal-behind b j s t l k = record {
   used = k .used ∙ ap (λ (x : ℕ). rowsTo 0 x (l .steps)) (sym (k .place));
 }
 
+-- the rows behind any place
+pub behind-at : (b : Bounds) (j : Position) (s : State) (t : List ℕ) (l : Timeline) → Journal b j s t l → (p : ℕ) → p ≤ length (l .steps) → Behind t (l .start) (l .steps) p (rowsTo 0 p (l .steps))
+behind-at b j s t l k p i = record { steps-at = k .steps-at; within = k .rows .within; short = k .rows .short; inside = i; used = refl }
+
 pub journal-placed : (b : Bounds) (j j′ : Position) (s s′ : State) (t : List ℕ) (l : Timeline) → Journal b j s t l
     → Behind t (l .start) (l .steps) (j′ .place) (j′ .used) → j′ .steps ≡ j .steps
     → JournalRows b t (l .start) (rowsTo 0 (length (l .steps)) (l .steps)) s′ (j′ .used) → Journal b j′ s′ t (placed (j′ .place) l)
@@ -217,6 +222,25 @@ journal-close b j j′ s s′ t t′ l x k w y z p q r =
       used = r ∙ sym u;
     }
 
+-- ---- the bench of a step is no part of its rows
+
+made-signed : (t : List ℕ) (g : Graph) (u w : ℕ) (i : ℕ) → made (signed u w t) g i ≡ made t g i
+made-signed t g u w zero = refl
+made-signed t g u w (suc i) = λ z. apply (signed-row u w t i z) (made-signed t g u w i z)
+
+rows-signed : (b : Bounds) (t : List ℕ) (g : Graph) (n : ℕ) (s : State) (v u w : ℕ) → JournalRows b t g n s v → JournalRows b (signed u w t) g n s v
+rows-signed b t g n s v u w k = record {
+  sized = k .sized;
+  sound = k .sound;
+  bounded = k .bounded;
+  applies = λ i h. subst (λ (e : Edit). Applies e (made (signed u w t) g i)) (sym (signed-row u w t i)) (subst (Applies (rowAt t i)) (sym (made-signed t g u w i)) (k .applies i h));
+  inside = λ i h. subst (EditIn b) (sym (signed-row u w t i)) (k .inside i h);
+  within = omega (arith, k .within, signed-length u w t);
+  short = rw (signed-length u w t) (k .short);
+  upto = k .upto;
+  holds = subst (λ (y : Graph). Holds s y) (sym (made-signed t g u w v)) (k .holds);
+}
+
 -- ---- a step of several rows
 
 module _ (b : Bounds) (j : Position) (s₀ : State) (t₀ : List ℕ) (l : Timeline) (c : ℕ) where
@@ -258,17 +282,22 @@ module _ (b : Bounds) (j : Position) (s₀ : State) (t₀ : List ℕ) (l : Timel
           subst (λ (y : Graph). Holds s′ y)
           (made-more b t t′ (l .start) s u e (costing c) (k .rows) f (subst (Applies e) (open-now g h) a) i (d .row) ∙ ap (apply e) (sym (open-now g h))) (open-tape .holds)
 
-    pub open-close : (j′ : Position) (g : Graph) → 1 ≤ c → u ≡ j .used + c → Holds s g → j′ .place ≡ j .place + 1 → j′ .steps ≡ j .place + 1 → j′ .used ≡ u
-        → Journal b j′ s t (extended (stepWith c g) l)
-    open-close j′ g o n h x y z =
-        journal-close b j j′ s₀ s t₀ t l (stepWith c g) (k .journal) (k .below)
+    -- once it is signed by a bench, it is the step of that bench
+    pub open-close : (j′ : Position) (g : Graph) (w : ℕ) → 1 ≤ c → u ≡ j .used + c → Holds s g → j′ .place ≡ j .place + 1 → j′ .steps ≡ j .place + 1 → j′ .used ≡ u
+        → Journal b j′ s (signed (j .used) w t) (extended (stepWith c g w) l)
+    open-close j′ g w o n h x y z =
+        let t′ = signed (j .used) w t in
+        let e = signed-step (j .used) w t in
+        let r = made-signed t (l .start) (j .used) w in
+        journal-close b j j′ s₀ s t₀ t′ l (stepWith c g w) (k .journal) (λ i d. signed-below (j .used) w t i d ∙ k .below i d)
         (record {
           some = o;
-          first = k .says (j .used) (omega arith) (omega arith);
-          last = k .says (j .used + c - 1) (omega arith) (omega arith);
-          makes = open-now g h ∙ ap (made t (l .start)) n;
+          first = e (j .used) ∙ k .says (j .used) (omega arith) (omega arith);
+          last = e (j .used + c - 1) ∙ k .says (j .used + c - 1) (omega arith) (omega arith);
+          makes = open-now g h ∙ ap (made t (l .start)) n ∙ sym (r (j .used + c));
+          benched = signed-bench (j .used) w t (omega (arith, k .rows .within));
         })
-        (subst (λ (i : ℕ). JournalRows b t (l .start) i s i) n (k .rows)) x y (z ∙ n)
+        (subst (λ (i : ℕ). JournalRows b t′ (l .start) i s i) n (rows-signed b t (l .start) u s u (j .used) w (k .rows))) x y (z ∙ n)
 
 -- ---- a start, commit, and free changes
 

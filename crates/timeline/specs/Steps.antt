@@ -8,7 +8,7 @@ use lib.ListN.{length}
 use Rattle.graph.specs.Graph.{Graph}
 use Rattle.graph.specs.WellFormed.{Bounds}
 use Rattle.history.specs.Machine.{Step, Timeline}
-use Rattle.journal.specs.Rows.{RowStep, costing, stepAt, SameBelow}
+use Rattle.journal.specs.Rows.{RowStep, costing, stepAt, benchAt, SameBelow}
 use Rattle.graph_tables.specs.Tables.{State}
 use Rattle.timeline.specs.declared.Ahead.{Ahead}
 use Rattle.timeline.specs.declared.Position.{Position}
@@ -24,13 +24,14 @@ rowsTo i (suc p) (x ∷ ss) = rowsTo (i + x .cost) p ss
 abbrev pub rowStep : Step → RowStep
 rowStep x = costing (x .cost)
 
--- the rows of step x begin at row i: as many as it costs, the first and the last say what it is, and all make its
--- graph
+-- the rows of step x begin at row i: as many as it costs, the first and the last say what it is, all make its
+-- graph, and the first has its bench
 pub record StepAt (t : List ℕ) (g : Graph) (i : ℕ) (x : Step) : Type 0 where
   pub some : 1 ≤ x .cost
   pub first : stepAt t i ≡ rowStep x
   pub last : stepAt t (i + x .cost - 1) ≡ rowStep x
   pub makes : x .graph ≡ made t g (i + x .cost)
+  pub benched : benchAt t i ≡ x .bench
 
 -- the rows of the steps, one after another from row i on
 abbrev pub StepsAt : List ℕ → Graph → ℕ → List Step → Type 0

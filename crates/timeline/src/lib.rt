@@ -5,19 +5,21 @@ use graph_tables::Head;
 pub mod lent; // the record that every change updates, lent to thin functions
 
 ghost use mathlib.Core.Path.{_≡_};
-ghost use mathlib.Core.Bool.{true, false};
+ghost use mathlib.Core.Bool.{true, false, _&&_};
 ghost use mathlib.Core.List.{List};
-ghost use Prim.Native.Nat.{ℕ, _^_, _<_};
-ghost use lib.ListN.{length};
+ghost use Prim.Native.Nat.{ℕ, _-_, _^_, _<_};
+ghost use lib.Dec.{leb};
+ghost use lib.ListN.{length, take, drop};
+ghost use Rattle.lists.specs.Choice.{_==_, toBit};
 ghost use Rattle.graph.specs.Graph.{Graph};
 ghost use Rattle.graph.specs.WellFormed.{Bounds, Within};
-ghost use Rattle.history.specs.Machine.{Step, Timeline, begun, placed};
+ghost use Rattle.history.specs.Machine.{Step, Timeline, begun, placed, madeBy};
 ghost use Rattle.graph_tables.specs.Tables.{State, state, entryState, exitState};
 ghost use Rattle.graph_tables.specs.Capacities.{Sized};
 ghost use Rattle.graph_tables.specs.Holds.{Holds};
 ghost use Rattle.timeline.specs.Current.{noSteps};
 ghost use Rattle.timeline.specs.JournalRows.{shifted, Reach, crossed, JournalRows};
-ghost use Rattle.timeline.specs.Steps.{Journal, Unfinished, Advances, Aims};
+ghost use Rattle.timeline.specs.Steps.{Journal, Behind, Unfinished, Advances, Aims};
 
 // The place p, the number of steps m, and the rows of steps 1 to p.
 pub struct Position {
@@ -183,6 +185,40 @@ pub fn on(
     }
     let place = shifted_by(current.position.place, steps, false);
     lent::moved(current, h, place, u)
+}
+
+// 1 where the step after place p lies above `low` and the bench is the one asked for, else 0.
+fn counted(p: u32, low: u32, made: u32, bench: u32) -> u32
+    ensures { λ r. ⌜ r ≡ toBit (leb low p && (made == bench)) ⌝ }
+{
+    if p < low {
+        return 0;
+    }
+    if made == bench {
+        return 1;
+    }
+    0
+}
+
+// Kind 59: how many of the steps above place `low`, up to place `high`, a bench made. The steps are gone through from
+// the first on.
+pub fn made_by(journal: &[u32], low: u32, high: u32, bench: u32) -> u32
+    requires { ⌜ ((g : Graph) × (ss : List Step) × (u : ℕ) × Behind (now journal) g ss high u) ⌝ }
+    ensures { λ r. ⌜ ((g : Graph) → (ss : List Step) → (u : ℕ) → Behind (now (journal .entry)) g ss high u
+        → r ≡ madeBy bench (take (high - low) (drop low ss))) ⌝ }
+{
+    let mut p: u32 = 0;
+    let mut row: u32 = 0;
+    let mut n: u32 = 0;
+    while p < high {
+        let made = journal::bench_at(journal, row);
+        let cost = journal::cost_at(journal, row);
+        let more = counted(p, low, made, bench);
+        n = n + more;
+        row = row + cost;
+        p += 1;
+    }
+    n
 }
 
 // No step yet: at the start, and after a commit.

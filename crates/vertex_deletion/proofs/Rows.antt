@@ -31,7 +31,7 @@ use Rattle.graph_tables.specs.Capacities.{Sized}
 use Rattle.graph_tables.proofs.Callers.{small}
 use Rattle.graph_tables.proofs.Refines.{can-edit}
 use Rattle.graph_tables.proofs.GraphRead.{holds-one}
-use Rattle.journal.specs.Rows.{costing}
+use Rattle.journal.specs.Rows.{costing, signed}
 use Rattle.journal.specs.Written.{Written}
 use Rattle.queries.specs.Plans.{planRemoveVertex, planRemoveEdge, planS}
 use Rattle.queries.proofs.Answers.{first-word, vertex-row, edge-row, reading-words}
@@ -191,13 +191,13 @@ module _ (x : Change) (b : Bounds) (j : Position) (s₀ : State) (t₀ : List �
 
   -- the step is made
   pub making-end : u ≡ j .used + c → (j′ : Position) → j′ .place ≡ j .place + 1 → j′ .steps ≡ j .place + 1 → j′ .used ≡ j .used + c
-      → Journal b j′ s t (extended (stepOf x (presentIn l)) l)
+      → (bench : ℕ) → Journal b j′ s (signed (j .used) bench t) (extended (stepOf bench x (presentIn l)) l)
   unfolding stepOf
-  making-end e j′ y z v =
+  making-end e j′ y z v bench =
       let n = no-edits (k .edits) (omega (arith, k .rows, q, e)) in
       let g : k .graph ≡ changed x (presentIn l) = ap (λ (es : List Edit). applyAll es (k .graph)) (sym n) ∙ k .makes in
-      subst (λ (i : ℕ). Journal b j′ s t (extended (stepWith i (changed x (presentIn l))) l)) q
-      (open-close b j s₀ t₀ l c s t u (k .opened) j′ (changed x (presentIn l)) (omega (arith, q, some-cost x (presentIn l))) e (subst (λ (y : Graph). Holds s y) g (k .holds)) y z (v ∙ sym e))
+      subst (λ (i : ℕ). Journal b j′ s (signed (j .used) bench t) (extended (stepWith i (changed x (presentIn l)) bench) l)) q
+      (open-close b j s₀ t₀ l c s t u (k .opened) j′ (changed x (presentIn l)) bench (omega (arith, q, some-cost x (presentIn l))) e (subst (λ (y : Graph). Holds s y) g (k .holds)) y z (v ∙ sym e))
 
 -- what a change costs is read off the tables
 pub cost-same : (x : Change) (b b′ : Bounds) (j j′ : Position) (s : State) (t : List ℕ) (l l′ : Timeline) → Journal b j s t l → Journal b′ j′ s t l′ → (c : ℕ) → c ≡ cost x (presentIn l)

@@ -11,6 +11,7 @@ use Rattle.graph.specs.Graph.{Graph, hasVertex}
 use Rattle.graph.specs.WellFormed.{Bounds}
 use Rattle.graph.specs.Changes.{cost}
 use Rattle.history.specs.Machine.{Timeline, presentIn, extended, stepOf}
+use Rattle.journal.specs.Rows.{signed}
 use Rattle.graph_tables.specs.Tables.{State}
 use Rattle.timeline.specs.Current.{afterStep}
 use Rattle.timeline.specs.declared.Position.{Position}
@@ -20,12 +21,13 @@ use Rattle.timeline.specs.Steps.{Journal}
 abbrev pub deletionCode : ℕ → ℕ → Graph → ℕ
 deletionCode a free g = not (hasVertex g a) ⇒ 4 else ltb free (cost (DeleteVertex a) g) ⇒ 10 else 0
 
--- whatever timeline there was: the cost is that of the deletion, which is its next step
+-- whatever timeline there was: the cost is that of the deletion, which is its next step once a bench signs it
 pub record DeletionMade (a : ℕ) (j : Position) (s : State) (t : List ℕ) (n : ℕ) (s′ : State) (t′ : List ℕ) : Type 0
   where
     pub costs : (b : Bounds) (l : Timeline) → Journal b j s t l → n ≡ cost (DeleteVertex a) (presentIn l)
-    pub steps : (b : Bounds) (l : Timeline) → Journal b j s t l
-        → Journal b (afterStep j (s′ .head) n .position) s′ t′ (extended (stepOf (DeleteVertex a) (presentIn l)) l)
+    pub steps : (b : Bounds) (l : Timeline) → Journal b j s t l → (bench : ℕ)
+        → Journal b (afterStep j (s′ .head) n .position) s′ (signed (j .used) bench t′)
+        (extended (stepOf bench (DeleteVertex a) (presentIn l)) l)
 
 -- cost 0 says that it is refused and nothing was written
 pub record Deletes (a free : ℕ) (j : Position) (s : State) (t : List ℕ) (code n : ℕ) (s′ : State) (t′ : List ℕ) : Type 0

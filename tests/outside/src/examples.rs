@@ -81,7 +81,7 @@ fn then_walk(name: &'static str, before: &[(Call, (u32, u32))], vertex: u32, lis
     e
 }
 
-/// The rows of the table for single calls, codes 1 to 19.
+/// The rows of the table for single calls, codes 1 to 20.
 pub fn codes() -> Vec<Example> {
     // Fifteen changes of cost 1 leave 5 free: deleting vertex 1 costs 6.
     let mut fifteen: Vec<Call> = (1..=15).map(|value| [7, 1, value, 0, 0]).collect();
@@ -108,6 +108,7 @@ pub fn codes() -> Vec<Example> {
         example("code 17", &[[8, 1, 2, 0, 0], [54, 1, 1, 3, 0]], &[(0, 1), (17, 0)]),
         example("code 18", &[[17, 5, 0, 0, 0], [56, 5, 0, 0, 0]], &[(0, 0), (18, 0)]),
         example("code 19", &[[17, 5, 0, 0, 0], [57, 0, 0, 0, 0]], &[(0, 0), (19, 0)]),
+        example("code 20", &[[58, 100, 0, 0, 0]], &[(20, 0)]),
     ]
 }
 
@@ -212,6 +213,25 @@ pub fn names() -> Vec<Example> {
     ]
 }
 
+/// Steps of several benches.
+pub fn benches() -> Vec<Example> {
+    let mut shared =
+        vec![[17, 1, 0, 0, 0], [7, 1, 1, 0, 0], [58, 3, 0, 0, 0], [7, 1, 2, 0, 0], [2, 1, 0, 0, 0], [58, 0, 0, 0, 0], [7, 2, 5, 0, 0], [17, 2, 0, 0, 0]];
+    shared.extend([[19, 0, 0, 0, 0]; 4]);
+    shared.extend([[59, 1, 2, 3, 0], [59, 2, 1, 0, 0], [49, 1, 2, 0, 0], [59, 1, 2, 100, 0], [59, 1, 65, 100, 0], [59, 1, 9, 100, 0]]);
+    let mut shared_done = vec![(0, 0), (0, 1), (0, 0), (0, 1), (0, 6), (0, 0), (0, 1), (0, 0)];
+    shared_done.extend([(0, 1); 4]);
+    shared_done.extend([(0, 2), (0, 2), (0, 4), (20, 0), (11, 0), (13, 0)]);
+    vec![
+        example(
+            "commit keeps the bench",
+            &[[58, 7, 0, 0, 0], [7, 1, 1, 0, 0], [22, 0, 0, 0, 0], [17, 1, 0, 0, 0], [7, 1, 2, 0, 0], [17, 2, 0, 0, 0], [59, 1, 2, 7, 0], [59, 1, 2, 0, 0]],
+            &[(0, 0), (0, 1), (0, 1), (0, 0), (0, 1), (0, 0), (0, 1), (0, 0)],
+        ),
+        example("steps that are undone still count, each for its bench", &shared, &shared_done),
+    ]
+}
+
 /// Every range, on a loop, and its grade by each price list.
 pub fn every_grade() -> Case {
     let mut calls = vec![[1, 1, 0, 0, 0], [3, 1, 1, 1, 0]];
@@ -253,7 +273,7 @@ mod tests {
 
     #[test]
     fn every_code_of_a_call() {
-        assert_eq!(codes().len(), 19);
+        assert_eq!(codes().len(), 20);
         for e in codes() {
             assert_eq!(answers(&e.case()), e.answers, "{}", e.name);
         }
@@ -284,6 +304,13 @@ mod tests {
     #[test]
     fn marks_with_names() {
         for e in names() {
+            assert_eq!(answers(&e.case()), e.answers, "{}", e.name);
+        }
+    }
+
+    #[test]
+    fn steps_by_bench() {
+        for e in benches() {
             assert_eq!(answers(&e.case()), e.answers, "{}", e.name);
         }
     }

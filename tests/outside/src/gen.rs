@@ -212,7 +212,7 @@ fn calls(r: &mut Random, mut machine: Machine, count: usize, long: bool) -> Vec<
         }
         let kind = kind(r, &machine, mood, commits);
         let mut call = call(r, &machine, kind);
-        if is_change(kind) && machine.place < machine.costs.len() && !r.once_in(seldom_cut) {
+        if is_change(kind) && machine.place < machine.steps.len() && !r.once_in(seldom_cut) {
             // Forward again, to the last mark or by a redo.
             call = match machine.marks.iter().max_by_key(|mark| mark.1) {
                 Some((mark, place)) if *place > machine.place => match machine.names.get(mark) {
@@ -237,10 +237,14 @@ fn kind(r: &mut Random, machine: &Machine, mood: usize, commits: usize) -> u32 {
         return 22;
     }
     if r.once_in(60) {
-        return r.one_of(&[0, 23, 29, 55, 58, 60, 1_000, u32::MAX]);
+        return r.one_of(&[0, 23, 29, 55, 60, 61, 1_000, u32::MAX]);
+    }
+    // Benches take turns often.
+    if r.once_in(20) {
+        return 58;
     }
     let question = |r: &mut Random| r.one_of(&[30, 31, 32, 33, 34, 35, 36, 37, 38, 39, 40, 41, 42, 43, 44, 45, 45, 46, 47, 48, 48, 52, 53, 54, 54]);
-    let history = |r: &mut Random| r.one_of(&[17, 17, 17, 17, 18, 19, 19, 19, 20, 20, 20, 21, 21, 49, 49, 50, 51, 56, 56, 56, 57, 57]);
+    let history = |r: &mut Random| r.one_of(&[17, 17, 17, 17, 18, 19, 19, 19, 20, 20, 20, 21, 21, 49, 50, 51, 56, 56, 56, 57, 57, 59, 59]);
     let change = |r: &mut Random| {
         let g = machine.present();
         let half = |limit: u32| limit.min(100) as usize / 2;
@@ -317,6 +321,8 @@ fn call(r: &mut Random, machine: &Machine, kind: u32) -> Call {
             _ => [r.one_of(&[0, 1, 7, u32::MAX]), r.one_of(&[0, 0, 1, 7])],
         }
     };
+    // One of few, and what is none.
+    let bench = |r: &mut Random| if r.once_in(10) { r.one_of(&[100, 101, 1_000, u32::MAX]) } else { r.one_of(&[0, 0, 1, 2, 3, 99]) };
     let fresh = |r: &mut Random, limit: u32, used: &dyn Fn(u32) -> bool| {
         if r.once_in(12) {
             return any(r, limit);
@@ -405,6 +411,8 @@ fn call(r: &mut Random, machine: &Machine, kind: u32) -> Call {
             let [a, b] = name(r);
             [57, a, b, junk(r), d]
         }
+        58 => [58, bench(r), junk(r), junk(r), d],
+        59 => [59, mark(r), mark(r), bench(r), d],
         _ => [kind, junk(r), junk(r), junk(r), d],
     }
 }

@@ -9,4 +9,5 @@ pub mod image;
 pub mod machine;
 pub mod page;
 pub mod run;
+pub mod sums;
 pub mod text;

@@ -237,8 +237,18 @@ pub type Call = [u32; 5];
 /// The two words of a mark's name.
 pub type Name = [u32; 2];
 
+/// The benches are 0 to this.
+pub const LAST_BENCH: u32 = 99;
+
+/// What made a graph from the one before.
+#[derive(Clone, Copy, PartialEq, Eq, Debug)]
+pub struct Step {
+    pub cost: u32,
+    pub bench: u32,
+}
+
 pub fn is_kind(kind: u32) -> bool {
-    (1..=22).contains(&kind) || (30..=54).contains(&kind) || (56..=57).contains(&kind)
+    (1..=22).contains(&kind) || (30..=54).contains(&kind) || (56..=59).contains(&kind)
 }
 
 pub fn is_change(kind: u32) -> bool {
@@ -280,7 +290,7 @@ fn types_named([kind, a, b, _, d]: Call) -> Vec<u32> {
 fn marks_named([kind, a, b, _, _]: Call) -> Vec<u32> {
     match kind {
         17 | 18 | 21 | 56 => vec![a],
-        49 => vec![a, b],
+        49 | 59 => vec![a, b],
         _ => vec![],
     }
 }
@@ -290,8 +300,10 @@ pub struct Machine {
     pub types: Types,
     /// G0 to Gm.
     pub graphs: Vec<Graph>,
-    /// The cost of the step that made each of G1 to Gm.
-    pub costs: Vec<u32>,
+    /// The step that made each of G1 to Gm.
+    pub steps: Vec<Step>,
+    /// The bench of later steps.
+    pub bench: u32,
     /// p
     pub place: usize,
     /// The place of each standing mark.
@@ -302,7 +314,7 @@ pub struct Machine {
 
 impl Machine {
     pub fn new(capacities: Capacities, types: Types, start: Graph) -> Machine {
-        Machine { capacities, types, graphs: vec![start], costs: vec![], place: 0, marks: BTreeMap::new(), names: BTreeMap::new() }
+        Machine { capacities, types, graphs: vec![start], steps: vec![], bench: 0, place: 0, marks: BTreeMap::new(), names: BTreeMap::new() }
     }
 
     /// Gp
@@ -323,7 +335,7 @@ impl Machine {
 
     /// REFERENCE 4.4.
     pub fn free(&self) -> u32 {
-        self.capacities.changes - self.costs[..self.place].iter().sum::<u32>()
+        self.capacities.changes - self.steps[..self.place].iter().map(|s| s.cost).sum::<u32>()
     }
 
     /// REFERENCE 3.10.
@@ -371,13 +383,15 @@ impl Machine {
         test(12, kind == 17 && self.marks.contains_key(&a));
         test(13, kind != 17 && marks.iter().any(|m| !self.marks.contains_key(m)));
         test(14, kind == 19 && self.place == 0);
-        test(14, kind == 20 && self.place == self.costs.len());
+        test(14, kind == 20 && self.place == self.steps.len());
         test(15, kind == 45 && c > 2);
         test(16, matches!(kind, 53 | 54) && g.two_way(a, b).is_none());
         test(17, kind == 54 && c > 2);
         test(18, kind == 56 && [b, c] == [0, 0]);
         test(18, kind == 56 && self.named([b, c]).is_some_and(|holder| holder != a));
         test(19, kind == 57 && self.named([a, b]).is_none());
+        test(20, kind == 58 && a > LAST_BENCH);
+        test(20, kind == 59 && c > LAST_BENCH);
         codes.into_iter().min()
     }
 
@@ -395,12 +409,12 @@ impl Machine {
                     return (0, 0);
                 }
                 self.graphs.truncate(self.place + 1);
-                self.costs.truncate(self.place);
+                self.steps.truncate(self.place);
                 let place = self.place;
                 self.marks.retain(|_, at| *at <= place);
                 self.forget_names();
                 self.graphs.push(changed);
-                self.costs.push(cost);
+                self.steps.push(Step { cost, bench: self.bench });
                 self.place += 1;
                 cost
             }
@@ -430,7 +444,7 @@ impl Machine {
             22 => {
                 let place = self.place;
                 self.graphs = vec![self.graphs.swap_remove(place)];
-                self.costs.clear();
+                self.steps.clear();
                 self.place = 0;
                 self.marks.clear();
                 self.forget_names();
@@ -442,6 +456,14 @@ impl Machine {
             56 => {
                 self.names.insert(a, [b, c]);
                 0
+            }
+            58 => {
+                self.bench = a;
+                0
+            }
+            59 => {
+                let (from, to) = (self.marks[&a].min(self.marks[&b]), self.marks[&a].max(self.marks[&b]));
+                self.steps[from..to].iter().filter(|s| s.bench == c).count() as u32
             }
             _ => self.asked(call),
         };

@@ -12,9 +12,10 @@
 use outside::cases;
 use outside::gen;
 use outside::image;
-use outside::machine::{is_change, Call, Capacities, Graph, Machine, Name};
+use outside::machine::{is_change, Call, Capacities, Graph, Machine, Name, LAST_BENCH};
 use outside::page;
 use outside::run::{Case, Outcome};
+use outside::sums;
 use outside::text;
 use reached::Reached;
 use std::collections::BTreeMap;
@@ -88,7 +89,7 @@ fn fail(message: String) -> ! {
     exit(1)
 }
 
-/// The plain machine alone, held to REFERENCE 4.11, 4.12, 4.16 and 4.17 call by call.
+/// The plain machine alone, held to REFERENCE 4.11, 4.12 and 4.16 to 4.20 call by call.
 fn run_alone(options: &Options) {
     let begun = Instant::now();
     let mut reached = Reached::default();
@@ -99,6 +100,9 @@ fn run_alone(options: &Options) {
             fail(format!("seed {seed}: {message}"));
         }
         reached.add(&case, &outcome);
+        if let Some((_, outcome)) = woven(seed, &case) {
+            reached.points += sums_agree(seed, &outcome);
+        }
         let words = gen::words(seed);
         let capacities = Capacities { vertices: 6, edges: 8, changes: 1 };
         judges(seed, &words, capacities, 3);
@@ -137,6 +141,21 @@ fn judges(seed: u64, words: &[u32], capacities: Capacities, types: u32) {
     fail(format!("seed {seed}: words {wrong}: {words:?}"));
 }
 
+/// Some of the short lists, with the sums of 4.20 asked for at every point.
+fn woven(seed: u64, case: &Case) -> Option<(Case, Outcome)> {
+    if seed % 4 != 0 || case.calls.len() > 5 * 250 {
+        return None;
+    }
+    let woven = sums::woven(case)?;
+    let outcome = woven.run();
+    Some((woven, outcome))
+}
+
+fn sums_agree(seed: u64, outcome: &Outcome) -> usize {
+    let Outcome::Done { answers, .. } = outcome else { fail(format!("seed {seed}: refused with more calls")) };
+    sums::agree(answers).unwrap_or_else(|message| fail(format!("seed {seed}: {message}")))
+}
+
 /// What is remembered of a standing mark, by kinds and answers alone.
 struct Mark {
     place: usize,
@@ -144,16 +163,18 @@ struct Mark {
     name: Option<Name>,
 }
 
-/// REFERENCE 4.11, 4.12, 4.16 and 4.17 on the plain machine, by a record of its own of what each mark stood for.
+/// REFERENCE 4.11, 4.12 and 4.16 to 4.19 on the plain machine, by a record of its own of what each mark stood for and which
+/// bench made each step.
 fn demands(case: &Case, outcome: &Outcome, reached: &mut Reached) -> Result<(), String> {
     let Ok(mut machine) = case.machine() else { return Ok(()) };
     let Outcome::Done { answers, image: end } = outcome else { return Err("refused and not refused".into()) };
     let types = case.rows.len() as u32;
     let mut set: BTreeMap<u32, Mark> = BTreeMap::new();
+    let (mut bench, mut made): (u32, Vec<u32>) = (0, vec![]);
     for (i, call) in case.calls.chunks(5).enumerate() {
         let call: Call = call.try_into().unwrap();
         let [kind, a, b, c, _] = call;
-        let state = |m: &Machine| (m.place, m.costs.len(), m.marks.clone(), m.names.clone(), m.free());
+        let state = |m: &Machine| (m.place, m.steps.len(), m.bench, m.marks.clone(), m.names.clone(), m.free());
         let (place, free) = (machine.place, machine.free());
         let (before, graph) = (state(&machine), machine.present().clone());
         let (code, number) = machine.call(call);
@@ -174,6 +195,9 @@ fn demands(case: &Case, outcome: &Outcome, reached: &mut Reached) -> Result<(), 
         if kind == 56 && set.contains_key(&a) && code != if taken { 18 } else { 0 } {
             return wrong("a name is given that is taken, or refused that is free");
         }
+        if kind == 58 && (code == 0) != (a <= LAST_BENCH) {
+            return wrong("not a bench, or one that is refused");
+        }
         let nothing = code != 0 || (is_change(kind) && number == 0);
         if nothing && (number != 0 || state(&machine) != before || *machine.present() != graph) {
             return wrong("refused, or answered 0, and changed something");
@@ -182,6 +206,8 @@ fn demands(case: &Case, outcome: &Outcome, reached: &mut Reached) -> Result<(), 
             _ if nothing => {}
             1..=16 => {
                 set.retain(|_, mark| mark.place <= place);
+                made.truncate(place);
+                made.push(bench);
                 if *machine.present() == graph
                     || machine.place != place + 1
                     || machine.free() + number != free
@@ -202,8 +228,19 @@ fn demands(case: &Case, outcome: &Outcome, reached: &mut Reached) -> Result<(), 
                     return wrong("not the graph of the mark");
                 }
             }
-            22 => set.clear(),
+            22 => {
+                set.clear();
+                made.clear();
+            }
             56 => set.get_mut(&a).unwrap().name = Some([b, c]),
+            58 => bench = a,
+            59 => {
+                let places = [set[&a].place, set[&b].place];
+                let between = &made[*places.iter().min().unwrap()..*places.iter().max().unwrap()];
+                if between.iter().filter(|by| **by == c).count() != number as usize {
+                    return wrong("not the steps of that bench");
+                }
+            }
             _ => {}
         }
         if !set.keys().eq(machine.marks.keys()) {
@@ -213,7 +250,13 @@ fn demands(case: &Case, outcome: &Outcome, reached: &mut Reached) -> Result<(), 
         if !told.eq(machine.names.iter().map(|(mark, name)| (*mark, *name))) {
             return wrong("other names stand");
         }
-        reached.longest = reached.longest.max(machine.costs.len());
+        if machine.bench != bench || machine.steps.len() != made.len() {
+            return wrong("another bench, or other steps");
+        }
+        reached.longest = reached.longest.max(machine.steps.len());
+    }
+    if !machine.steps.iter().map(|step| step.bench).eq(made) {
+        return Err("a step has another bench than made it".into());
     }
     let g = machine.present();
     if image::save(g) != *end || image::load(end, case.capacities(), types).as_ref() != Some(g) {
@@ -282,6 +325,12 @@ mod compare {
             if let Err(message) = engine::compare(&case, &outcome, seed) {
                 report(seed, &case, &message);
             }
+            if let Some((woven, outcome)) = super::woven(seed, &case) {
+                reached.points += sums_agree(seed, &outcome);
+                if let Err(message) = engine::compare(&woven, &outcome, seed) {
+                    report(seed, &woven, &message);
+                }
+            }
             if gen::size_of(seed) == Size::Full {
                 // Again with other junk.
                 if let Err(message) = engine::compare(&case, &outcome, !seed) {
@@ -308,7 +357,7 @@ mod compare {
     }
 
     fn run_examples() {
-        for e in examples::codes().iter().chain(&examples::letters()).chain(&examples::slips()).chain(&examples::names()) {
+        for e in examples::codes().iter().chain(&examples::letters()).chain(&examples::slips()).chain(&examples::names()).chain(&examples::benches()) {
             let case = e.case();
             let outcome = case.run();
             let flat: Vec<u32> = e.answers.iter().flat_map(|a| [a.0, a.1]).collect();

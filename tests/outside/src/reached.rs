@@ -12,6 +12,8 @@ pub struct Reached {
     calls: u64,
     accepted: u64,
     pub longest: usize,
+    /// Points at which the steps of all benches between two marks were added up.
+    pub points: usize,
     kinds: BTreeMap<u32, u64>,
     codes: BTreeMap<u32, u64>,
     /// Accepted changes that altered nothing, by kind.
@@ -62,7 +64,7 @@ impl Reached {
     /// Kinds never accepted, changes that never altered nothing, and codes never given.
     pub fn missing(&self) -> Vec<String> {
         let kinds = (0..100).filter(|k| is_kind(*k) && !self.kinds.contains_key(k)).map(|k| format!("kind {k}"));
-        let codes = (1..=19).chain(101..=106).chain(108..=109).filter(|c| !self.codes.contains_key(c)).map(|c| format!("code {c}"));
+        let codes = (1..=20).chain(101..=106).chain(108..=109).filter(|c| !self.codes.contains_key(c)).map(|c| format!("code {c}"));
         let idle = (5..=16).filter(|k| !self.idle.contains_key(k)).map(|k| format!("kind {k} that alters nothing"));
         let pages = [0, 105, 107, 108, 109].into_iter().filter(|c| !self.pages.contains_key(c)).map(|c| format!("page with code {c}"));
         let new = ["loaded", "106", "108", "a degree", "109"].map(|came| (image::RECORD, came));
@@ -74,6 +76,7 @@ impl Reached {
     pub fn summary(&self) -> String {
         let refused: u64 = self.codes.range(101..).map(|c| c.1).sum();
         let pages: u64 = self.pages.values().sum();
-        format!("{} lists ({refused} refused), {} calls ({} accepted), {pages} pages", self.lists, self.calls, self.accepted)
+        let points = self.points;
+        format!("{} lists ({refused} refused), {} calls ({} accepted), {pages} pages, {points} sums over benches", self.lists, self.calls, self.accepted)
     }
 }

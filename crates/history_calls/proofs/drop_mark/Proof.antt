@@ -17,7 +17,7 @@ returns-2 c =
     let e = c .before .before .standing-code .ensures in
     let z = c .before .if1 .left in
     let d = c .drop-mark .ensures in
-    λ i. done (record { current = a .store .current; set = d .0 i }) ((sym z ∙ e) i) 0
+    λ i. done (record { current = a .store .current; set = d .0 i; bench = a .store .bench }) ((sym z ∙ e) i) 0
 
 pub drop-mark-spec : {M : Type 1} → statement M
 drop-mark-spec = tie.close (tie.spec (λ c κs. search needs) (λ c κs. search needs) returns (λ c κs. search needs) returns-2)

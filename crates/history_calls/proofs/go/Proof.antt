@@ -30,7 +30,7 @@ returns-2 c =
     let s = c .before .before .before .before .before .before .before .before .before .before .before .before .before .before .before in
     let a = s .args in (
       λ n. absurd (n refl),
-      λ free b m n h f. way-done b (a .store) (memory (a .vertices .now) (a .edges .now) (a .journal .now) (a .marks .now)) m h n (a .call) (s .pre .0) _ (c .before .before .before .before .before .before .before .before .before .before .way-of .ensures) (c .before .before .before .before .before .before .before .before .if1 .left) _ _ _ refl (rw (c .before .before .before .before .before .before .before .if2 .taken) (c .before .before .before .before .back .ensures b (m .line) (h .journal))),
+      λ free b m n h f. way-done b (a .store) (memory (a .vertices .now) (a .edges .now) (a .journal .now) (a .marks .now)) m h n (a .call) (s .pre .0) _ (c .before .before .before .before .before .before .before .before .before .before .way-of .ensures) (c .before .before .before .before .before .before .before .before .if1 .left) _ _ _ refl refl (rw (c .before .before .before .before .before .before .before .if2 .taken) (c .before .before .before .before .back .ensures b (m .line) (h .journal))),
     )
 
 on-requires : tie.Need-on-requires
@@ -45,7 +45,7 @@ returns-3 c =
     let s = c .before .before .before .before .before .before .before .before .before .before .before .before .before .before .before in
     let a = s .args in (
       λ n. absurd (n refl),
-      λ free b m n h f. way-done b (a .store) (memory (a .vertices .now) (a .edges .now) (a .journal .now) (a .marks .now)) m h n (a .call) (s .pre .0) _ (c .before .before .before .before .before .before .before .before .before .before .way-of .ensures) (c .before .before .before .before .before .before .before .before .if1 .left) _ _ _ refl (rw (c .before .before .before .before .before .before .before .if2 .left) (c .before .before .before .before .on .ensures b (m .line) (h .journal))),
+      λ free b m n h f. way-done b (a .store) (memory (a .vertices .now) (a .edges .now) (a .journal .now) (a .marks .now)) m h n (a .call) (s .pre .0) _ (c .before .before .before .before .before .before .before .before .before .before .way-of .ensures) (c .before .before .before .before .before .before .before .before .if1 .left) _ _ _ refl refl (rw (c .before .before .before .before .before .before .before .if2 .left) (c .before .before .before .before .on .ensures b (m .line) (h .journal))),
     )
 
 pub go-spec : {M : Type 1} → statement M

@@ -4,8 +4,8 @@ use Rattle.history.specs.Machine.{name}
 use Rattle.history_calls.specs.declared.Called.{Called}
 use Rattle.history_calls.specs.Memory.{Memory, memory}
 use Rattle.history_calls.proofs.Following.{follows-by}
-use Rattle.history_calls.proofs.Calls.{set-follows, drop-follows, commit-follows, between-follows, count-follows, free-follows, name-follows}
-use Rattle.history_calls.proofs.OutcomeLaws.{leaves-set, leaves-drop, leaves-name}
+use Rattle.history_calls.proofs.Calls.{set-follows, drop-follows, commit-follows, between-follows, count-follows, free-follows, name-follows, bench-follows}
+use Rattle.history_calls.proofs.OutcomeLaws.{leaves-set, leaves-drop, leaves-name, leaves-bench}
 use Rattle.history_calls.proofs.Ways.{leads-by}
 use borrow.Author.Needs.{needs}
 use Rattle.history_calls.proofs.perform.Statement.{statement}
@@ -16,7 +16,7 @@ abbrev given : tie.Start → Memory
 given s = memory (s .args .vertices .now) (s .args .edges .now) (s .args .journal .now) (s .args .marks .now)
 
 go-requires : tie.Need-go-requires
-go-requires c κs = let s = c .before .before .before .before .before .before .before .before in (leads-by (s .args .call) (c .before .before .before .match .keys8), s .pre)
+go-requires c κs = let s = c .before .before .before .before .before .before .before .before in (leads-by (s .args .call) (c .before .before .before .match .keys10), s .pre)
 
 returns : tie.Need-returns
 returns c =
@@ -78,6 +78,27 @@ returns-7 c =
       λ b m n h f. rw (k .1, e .1) (follows-by _ m b _ (e .0) (name-follows b (s .args .store) (given s) m h n (k .0 .0) (k .0 .1 .0) (k .0 .1 .1 .0))),
     )
 
+returns-8 : tie.Need-returns-8
+returns-8 c =
+    let s = c .before .before .before .before .before .before .before .before in
+    let k = c .before .before .call5 .given in
+    let e = c .set-bench .ensures in (
+      leaves-bench (s .args .store) (k .0 .0) _ _ e,
+      λ b m n h f. rw (k .1) (follows-by _ m b _ e (bench-follows b (s .args .store) (given s) m h n (k .0 .0))),
+    )
+
+made-by-requires : tie.Need-made-by-requires
+made-by-requires c κs = let s = c .before .before .before .before .before .before .before .before in (s .args .vertices .now, s .args .edges .now, s .pre)
+
+returns-9 : tie.Need-returns-9
+returns-9 c =
+    let s = c .before .before .before .before .before .before .before .before .before in
+    let k = c .before .before .before .call6 .given in
+    let e = c .made-by .ensures in (
+      λ n. (e .1, refl),
+      λ b m n h f. rw (k .1) (e .0 (s .args .vertices .now) (s .args .edges .now) (s .args .free) b m n h f),
+    )
+
 pub perform-spec : {M : Type 1} → statement M
 perform-spec =
     tie.close
@@ -96,6 +117,10 @@ perform-spec =
     (λ c κs. search needs)
     (λ c. search needs)
     (λ c κs. c .before .before .before .before .before .before .before .before .pre .2 .marks .room)
+    (λ c. search needs)
+    (λ c κs. search needs)
+    (λ c. search needs)
+    made-by-requires
     go-requires
     (λ c. search needs)
     returns
@@ -107,6 +132,9 @@ perform-spec =
     returns-6
     (λ c. search needs)
     returns-7
+    returns-8
+    (λ c. search needs)
+    returns-9
     (λ c. search needs)
     (λ c. search needs)
     (λ c. search needs)

@@ -22,7 +22,7 @@ returns-2 c =
     let z = c .before .before .before .before .if1 .left in
     let d = c .before .before .set-mark .ensures in
     let n = new-none (a .store .set) (a .a) _ e z in (
-      λ i. done (record { current = a .store .current; set = d .0 i }) ((sym z ∙ e) i) 0,
+      λ i. done (record { current = a .store .current; set = d .0 i; bench = a .store .bench }) ((sym z ∙ e) i) 0,
       places-put (a .store) (a .a) _ (a .marks .now) _ e z (in-marks (a .a) (n .low) (n .high)) (d .1 .0),
     )
 

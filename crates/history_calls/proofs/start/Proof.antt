@@ -8,7 +8,7 @@ returns : tie.Need-returns
 returns c =
     let p = c .before .begin .ensures in
     let n = c .no-marks .ensures in (
-      λ i. record { current = record { head = c .before .before .args .head; position = p .0 i }; set = n .0 i },
+      λ i. record { current = record { head = c .before .before .args .head; position = p .0 i }; set = n .0 i; bench = 0 },
       λ b mem g z w h l r. begun-represents b _ mem g (p .1 b _ (mem .journal) g z w h l) (n .0) r,
     )
 

@@ -1,0 +1,16 @@
+-- `journal::bench_at` meets its contract.
+use mathlib.Core.Path.{refl}
+use Rattle.journal.proofs.RowLaws.{bench-read}
+use borrow.Author.Needs.{needs}
+use Rattle.journal.proofs.bench_at.Statement.{statement}
+use Rattle.journal.proofs.bench_at.Tie as tie
+
+returns : tie.Need-returns
+returns c =
+    let s = c .before .before .before in
+    bench-read (s .args .journal .now) (s .args .row) _ _ refl (c .before .wide .ensures)
+
+pub bench-at-spec : {M : Type 1} → statement M
+bench-at-spec =
+    tie.close
+    (tie.spec (λ c κs. search needs) (λ c. search needs) (λ c. search needs) (λ c. search needs) (λ c. search needs) returns)
