@@ -39,7 +39,7 @@ extern "C" {
 #endif
 
 /* What a caller sees; raised with every change to it (docs/CHANGES.md). */
-#define FUTTOCKFIG_VERSION 11
+#define FUTTOCKFIG_VERSION 12
 
 /* Words a row in each table, and the most rows that a table may have. The fewest is 1. */
 #define FUTTOCKFIG_VERTEX_WORDS 8
@@ -173,7 +173,9 @@ enum futtockfig_code {
     FUTTOCKFIG_BAD_RECORD = 108,       /* start: a vertex or edge record is bad, its degree included; done is where */
     FUTTOCKFIG_BAD_INCIDENCE = 109,    /* start: all records are good, a list is bad; done is where */
     /* Of a page, beside 105, 108 and 109 of its words. */
-    FUTTOCKFIG_SHORT_PAGE = 107        /* page_len is under 25 an edge */
+    FUTTOCKFIG_SHORT_PAGE = 107,       /* page_len is under 25 an edge */
+    /* Of a comparison, beside 105, 108 and 109 of the first's words. */
+    FUTTOCKFIG_BAD_SECOND = 110        /* the second's words are no image; the first's are */
 };
 
 /*
@@ -282,6 +284,34 @@ struct futtockfig_page_result {
  * no other thread touches either during the call. The stack has some 64 KB left.
  */
 struct futtockfig_page_result futtockfig_page(const uint32_t *words, size_t words_len, uint8_t *page, size_t page_len);
+
+/*
+ * TWO IMAGES
+ *   Two walks of one path, held against each other by their edges. Edges match where number, alpha and omega agree; the
+ *   same number with other ends, also with the ends the other way round, is no match. The readings of matched edges
+ *   agree where both are heard, no more decimetres apart than the tolerance, or where both are untested or both silent.
+ *   Types, values, orders and vertices do not matter.
+ */
+struct futtockfig_comparison {
+    uint32_t code; /* 0, 105, 108, 109 or 110; with any but 0 the others are 0, and no offset is told */
+    uint32_t matched;
+    uint32_t agreeing;    /* of those matched */
+    uint32_t only_first;  /* matched + only_first is the number of edges of the first */
+    uint32_t only_second; /* likewise */
+};
+
+/*
+ * Compares two images, each of new or of old words and as large as for a page. Where the first's words are no image the
+ * code is 105, 108 or 109, whatever the second is; else where the second's are none, FUTTOCKFIG_BAD_SECOND. The other way
+ * round, matched and agreeing stay and the last two change places, where the code is 0. Nothing is written.
+ *
+ * The pointers must not be NULL, also where a length is 0, and are aligned; both may be the same words, and no other
+ * thread writes either during the call. The stack has some 64 KB left.
+ */
+struct futtockfig_comparison futtockfig_compare(
+    const uint32_t *first, size_t first_len,
+    const uint32_t *second, size_t second_len,
+    uint32_t tolerance);
 
 #ifdef __cplusplus
 }

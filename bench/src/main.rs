@@ -3,6 +3,7 @@
 
 mod loads;
 
+use outside::comparison;
 use outside::gen::{self, Random};
 use outside::run::{Case, Outcome};
 use std::time::{Duration, Instant};
@@ -33,6 +34,14 @@ extern "C" {
         vertices: *mut u32, vertices_len: usize, edges: *mut u32, edges_len: usize, journal: *mut u32, journal_len: usize,
         answers: *mut u32, answers_len: usize, image: *mut u32, image_len: usize,
     ) -> RunResult;
+}
+
+/// A code and four counts.
+#[repr(C)]
+struct Compared([u32; 5]);
+
+extern "C" {
+    fn futtockfig_compare(first: *const u32, first_len: usize, second: *const u32, second_len: usize, tolerance: u32) -> Compared;
 }
 
 #[repr(C)]
@@ -214,6 +223,7 @@ fn main() {
         );
     }
     check_alone(&all, Duration::from_secs(seconds));
+    two_images(&all, Duration::from_secs(seconds));
     growth(Duration::from_secs(seconds));
 }
 
@@ -247,4 +257,25 @@ fn check_alone(all: &[loads::Load], time: Duration) {
     let times = best(&case, &[by_hand_run, futtockfig_run], time);
     println!();
     println!("The check of a full image alone (a run refused with 106): C by hand {:.1} µs, engine {:.1} µs.", micros(times[0]), micros(times[1]));
+}
+
+/// Two full images beside each other: the start and the end of the first load, its edits.
+fn two_images(all: &[loads::Load], time: Duration) {
+    let case = &all[0].case;
+    let Outcome::Done { image, .. } = Buffers::new(case).outcome(futtockfig_run, case) else { unreachable!("the edits are accepted") };
+    // SAFETY: each pointer is to a slice of the given length.
+    let compared = || unsafe { futtockfig_compare(case.start.as_ptr(), case.start.len(), image.as_ptr(), image.len(), 10) };
+    let [code, counts @ ..] = compared().0;
+    check("two images are not what the plain comparison says", code == 0 && comparison::compare(&case.start, &image, 10) == Ok(counts));
+    let mut best = Duration::MAX;
+    let begun = Instant::now();
+    let mut rounds = 0;
+    while rounds < 5 || begun.elapsed() < time {
+        let from = now();
+        std::hint::black_box(compared());
+        best = best.min(now() - from);
+        rounds += 1;
+    }
+    println!();
+    println!("Two full images compared: engine {:.1} µs.", micros(best));
 }

@@ -1,4 +1,4 @@
-/* Seven (REFERENCE 15.1) through the C header: answers, image, parts and page are compared with worked ones. */
+/* Seven (REFERENCE 15.1) through the C header: answers, image, parts, page and comparison are compared with worked ones. */
 #include "../../include/futtockfig.h"
 
 #include <stdio.h>
@@ -203,6 +203,25 @@ int main(void) {
     expect("bytes of the page of old words", 0, p.bytes, ROWS);
     for (size_t i = 0; i < ROWS; i++) expect("page byte of old words", i, page[i], (uint8_t)rows_of_seven[i]);
 
+    /* The image beside its own old words; then with the second edge heard, whose record begins at word 28. */
+    struct futtockfig_comparison c = futtockfig_compare(image, r.words, old_seven, sizeof old_seven / 4, 0);
+    expect("code of a comparison", 0, c.code, FUTTOCKFIG_OK);
+    expect("matched", 0, c.matched, 7);
+    expect("agreeing", 0, c.agreeing, 7);
+    expect("only in the first", 0, c.only_first, 0);
+    expect("only in the second", 0, c.only_second, 0);
+    image[32] = 2;
+    image[33] = 40;
+    c = futtockfig_compare(image, r.words, old_seven, sizeof old_seven / 4, 9999);
+    expect("matched, one heard", 0, c.matched, 7);
+    expect("agreeing, one heard", 0, c.agreeing, 6);
+    image[32] = image[33] = 0;
+    c = futtockfig_compare(image, r.words, image, r.words - 1, 0);
+    expect("code, the second one word short,", 0, c.code, FUTTOCKFIG_BAD_SECOND);
+    expect("matched, the second one word short,", 0, c.matched, 0);
+    c = futtockfig_compare(image, r.words - 1, image, 0, 0);
+    expect("code, the first one word short,", 0, c.code, FUTTOCKFIG_BAD_START);
+
     /* Old words start the same graph, and what is saved is new. */
     r = futtockfig_run(
         old_seven, sizeof old_seven / 4, rows, 1, calls, 0, vertices, 8 * VERTICES, edges, 12 * EDGES, journal, 12 * CHANGES, answers, answers_len,
@@ -211,6 +230,6 @@ int main(void) {
     expect("words, old words", 0, r.words, seven_len);
     for (size_t i = 0; i < seven_len; i++) expect("image word, old words", i, image[i], seven[i]);
 
-    if (!wrong) printf("seven: %d calls and a page through the C header, as worked out\n", CALLS);
+    if (!wrong) printf("seven: %d calls, a page and comparisons through the C header, as worked out\n", CALLS);
     return wrong;
 }

@@ -1,9 +1,10 @@
 //! Futtockfig: an ordered graph with history and marks, kept in tables that the caller lends.
 //!
 //! A list of calls is run by [`run`]; each call is five words and is answered by two, a code and a number. The graph
-//! goes in and out as an image, whose parts [`part`] and [`span`] find and whose edges [`page`] puts on paper.
+//! goes in and out as an image, whose parts [`part`] and [`span`] find, whose edges [`page`] puts on paper, and
+//! which [`compare`] holds against another.
 //! `include/futtockfig.h` describes the graph, every kind of call ([`kind`] has their numbers), every code, the words of an
-//! image and a page.
+//! image, a page and a comparison.
 //!
 //! The crate links `libfuttockfig.a`, from the folder that the environment variable `FUTTOCKFIG_LIB_DIR` names when it
 //! is built, else from `target/staticlib` of the repository. It allocates nothing and needs no standard library.
@@ -33,10 +34,10 @@ pub mod raw;
 
 use core::fmt;
 use core::ops::Range;
-use raw::{futtockfig_page, futtockfig_part, futtockfig_run};
+use raw::{futtockfig_compare, futtockfig_page, futtockfig_part, futtockfig_run};
 
 /// The version of what a caller sees, that of `include/futtockfig.h`.
-pub const VERSION: u32 = 11;
+pub const VERSION: u32 = 12;
 
 /// Kind, a, b, c, d.
 pub type Call = [u32; 5];
@@ -327,5 +328,91 @@ pub fn page<'a>(words: &[u32], page: &'a mut [u8]) -> Result<&'a [u8], Refused> 
     match result.code {
         0 => Ok(&page[..result.bytes]),
         code => Err(Refused::of(code, result.bytes)),
+    }
+}
+
+/// How far two images agree: numbers of edges.
+#[derive(Clone, Copy, Debug, PartialEq, Eq)]
+pub struct Comparison {
+    /// In both, with the same number, alpha and omega.
+    pub matched: u32,
+    /// Of those matched, the ones whose readings agree.
+    pub agreeing: u32,
+    /// The first's other edges.
+    pub only_first: u32,
+    /// The second's other edges.
+    pub only_second: u32,
+}
+
+/// Which of two images is none, and of the first why. No offset is told.
+#[derive(Clone, Copy, Debug, PartialEq, Eq)]
+pub enum NoImage {
+    /// 105: the first's header is not sound, a count is above the limits, or there are edges and no vertex.
+    FirstHeader,
+    /// 108: the first has a bad record.
+    FirstRecord,
+    /// 109: the first has a bad list.
+    FirstList,
+    /// 110: the first is an image and the second is none.
+    Second,
+    /// A code that the header does not name.
+    Other(u32),
+}
+
+impl NoImage {
+    /// The code of the header.
+    pub fn code(self) -> u32 {
+        match self {
+            NoImage::FirstHeader => 105,
+            NoImage::FirstRecord => 108,
+            NoImage::FirstList => 109,
+            NoImage::Second => 110,
+            NoImage::Other(code) => code,
+        }
+    }
+
+    fn of(code: u32) -> NoImage {
+        match code {
+            105 => NoImage::FirstHeader,
+            108 => NoImage::FirstRecord,
+            109 => NoImage::FirstList,
+            110 => NoImage::Second,
+            _ => NoImage::Other(code),
+        }
+    }
+}
+
+impl fmt::Display for NoImage {
+    fn fmt(&self, f: &mut fmt::Formatter<'_>) -> fmt::Result {
+        let why = match self {
+            NoImage::FirstHeader => "the first has no sound header within the limits",
+            NoImage::FirstRecord => "the first has a bad record",
+            NoImage::FirstList => "the first has a bad list",
+            NoImage::Second => "the second is no image",
+            NoImage::Other(_) => "unknown code",
+        };
+        write!(f, "refused, code {}: {why}", self.code())
+    }
+}
+
+/// Two images of one path beside each other. Edges match where number, alpha and omega agree; their readings agree where
+/// both are heard and at most `tolerance` decimetres apart, or neither is heard and both are of one kind.
+///
+/// Each may be new or old and as large as for a [`page`].
+///
+/// ```
+/// let one = [2, 1, 6, 14, 20, 22, 1, 0, 7, 1, 2, 0, 9, 1, 1, 1, 2, 0, 2, 450, 2, 3];
+/// let mut two = one;
+/// two[19] = 460;
+/// let agreeing = |tolerance| futtockfig::compare(&one, &two, tolerance).unwrap().agreeing;
+/// assert_eq!((agreeing(9), agreeing(10)), (0, 1));
+/// assert_eq!(futtockfig::compare(&one, &[], 0), Err(futtockfig::NoImage::Second));
+/// ```
+pub fn compare(first: &[u32], second: &[u32], tolerance: u32) -> Result<Comparison, NoImage> {
+    // SAFETY: each pointer and length is that of a slice, and nothing is written. The function keeps no pointer.
+    let result = unsafe { futtockfig_compare(first.as_ptr(), first.len(), second.as_ptr(), second.len(), tolerance) };
+    match result.code {
+        0 => Ok(Comparison { matched: result.matched, agreeing: result.agreeing, only_first: result.only_first, only_second: result.only_second }),
+        code => Err(NoImage::of(code)),
     }
 }

@@ -20,6 +20,15 @@ pub struct PageResult {
     pub bytes: usize,
 }
 
+#[repr(C)]
+pub struct Comparison {
+    pub code: u32,
+    pub matched: u32,
+    pub agreeing: u32,
+    pub only_first: u32,
+    pub only_second: u32,
+}
+
 extern "C" {
     pub fn futtockfig_run(
         start: *const u32,
@@ -41,4 +50,5 @@ extern "C" {
     ) -> RunResult;
     pub fn futtockfig_part(words: *const u32, words_len: usize, part: u32) -> Span;
     pub fn futtockfig_page(words: *const u32, words_len: usize, page: *mut u8, page_len: usize) -> PageResult;
+    pub fn futtockfig_compare(first: *const u32, first_len: usize, second: *const u32, second_len: usize, tolerance: u32) -> Comparison;
 }

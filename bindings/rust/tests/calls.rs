@@ -1,6 +1,6 @@
 //! Examples of docs/REFERENCE.md through the safe functions.
 
-use futtockfig::{answers, image_words, kind, name, page, part, run, span, Done, Lent, Part, Refused, EMPTY, PAGE_ROW};
+use futtockfig::{answers, compare, image_words, kind, name, page, part, run, span, Comparison, Done, Lent, NoImage, Part, Refused, EMPTY, PAGE_ROW};
 
 /// Runs calls with capacities 10, 10, 20 and one type, in lent words that are full of junk.
 fn with<T>(calls: &[u32], start: &[u32], then: impl FnOnce(Result<Done, Refused>) -> T) -> T {
@@ -180,6 +180,26 @@ fn empty_slices() {
 fn version_of_the_header() {
     let header = include_str!("../../../include/futtockfig.h");
     assert!(header.contains(&format!("#define FUTTOCKFIG_VERSION {}\n", futtockfig::VERSION)));
+}
+
+#[test]
+fn comparisons() {
+    let image = seven();
+    let all = Comparison { matched: 7, agreeing: 7, only_first: 0, only_second: 0 };
+    assert_eq!(compare(&image, &image, 0), Ok(all));
+    assert_eq!(compare(&image, &EMPTY, 0), Ok(Comparison { matched: 0, agreeing: 0, only_first: 7, only_second: 0 }));
+    let mut heard = seven();
+    heard[32..34].copy_from_slice(&[2, 40]);
+    assert_eq!(compare(&image, &heard, u32::MAX), Ok(Comparison { agreeing: 6, ..all }));
+    heard[9] = 1;
+    assert_eq!(compare(&heard, &[], 0), Err(NoImage::FirstRecord));
+    assert_eq!(compare(&image, &heard, 0), Err(NoImage::Second));
+    assert_eq!(compare(&[], &heard, 0).map_err(NoImage::code), Err(105));
+    assert_eq!(NoImage::Second.to_string(), "refused, code 110: the second is no image");
+    // a list that begins with a word of another vertex
+    let mut list = seven();
+    list[64] = 5;
+    assert_eq!(compare(&list, &heard, 0), Err(NoImage::FirstList));
 }
 
 #[test]

@@ -1,4 +1,7 @@
-// The run, the parts of an image and the page for programs in C and Rust: include/futtockfig.h says the same in C.
+// The run, the parts of an image, the page and the comparison of two images for programs in C and Rust:
+// include/futtockfig.h says the same in C.
+use comparison::Compared;
+use comparison::compare;
 use engine::run::RunResult;
 use engine::run::run;
 use page::Printed;
@@ -11,6 +14,7 @@ ghost use Rattle.image.specs.Image.{part as partOf};
 ghost use Rattle.image.specs.Parts.{partStart};
 ghost use Rattle.engine.specs.Outcomes.{given, left, Untouched, MeetsDemand1, MeetsDemand3};
 ghost use Rattle.page.specs.Page.{pageOf, printed};
+ghost use Rattle.comparison.specs.Comparison.{comparison};
 
 // A slice is a pointer and a length.
 #[no_mangle]
@@ -60,4 +64,12 @@ pub extern "C" fn futtockfig_page(words: &[u32], page: &mut [u8]) -> Printed
     ensures { λ r. ⌜ printed r (now (page .exit)) ≡ pageOf (now (words .entry)) (now (page .entry)) ⌝ }
 {
     print(words, page)
+}
+
+// Two images beside each other.
+#[no_mangle]
+pub extern "C" fn futtockfig_compare(first: &[u32], second: &[u32], tolerance: u32) -> Compared
+    ensures { λ r. ⌜ r ≡ comparison (now (first .entry)) (now (second .entry)) tolerance ⌝ }
+{
+    compare(first, second, tolerance)
 }

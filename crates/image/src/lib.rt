@@ -1,7 +1,7 @@
 // The image of a graph: whether words can be loaded, and their parts. REFERENCE 10.5 to 10.7.
 pub mod layout; // layout.rt: the words of header and records, where the parts begin, and which records words have
 mod by_size; // by_size.rt: the same places by the words of a vertex record
-mod words; // words.rt: words of slices, at any place or at one known to be there
+pub mod words; // words.rt: words of slices, at any place or at one known to be there
 mod header; // header.rt: the header and the counts in it
 mod records; // records.rt: one vertex record, one edge record
 mod passes; // passes.rt: each part in turn, over scratch

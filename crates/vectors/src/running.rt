@@ -1,4 +1,4 @@
-// A run on arrays full of junk, or a page on bytes full of it, and what it left, to standard output.
+// A run on arrays full of junk, or a page on bytes full of it, and what it left, to standard output; a comparison.
 mod cases;
 
 use crate::between;
@@ -10,6 +10,7 @@ use crate::rest;
 use crate::untouched;
 use crate::word;
 pub use cases::cases;
+use comparison::compare;
 use engine::run::RunResult;
 use engine::run::run;
 use libc::STDOUT_FILENO;
@@ -130,6 +131,18 @@ fn show_page(words: &[u32], room: usize) {
     let rows = rows_in(r);
     write_text(between(&page, 0, rows));
     write_kept(bytes_kept(&page, rows));
+}
+
+// The code and the four counts.
+fn show_comparison(first: &[u32], second: &[u32], tolerance: u32) {
+    let r = compare(first, second, tolerance);
+    write_text(b"compare");
+    write_spaced(r.code as u64);
+    write_spaced(r.matched as u64);
+    write_spaced(r.agreeing as u64);
+    write_spaced(r.first as u64);
+    write_spaced(r.second as u64);
+    write_text(b"\n");
 }
 
 // The lengths in words of what is lent.

@@ -1,6 +1,7 @@
 //! Cases as text, run on the plain machine: what the program `vectors` must write for them.
 //! tests/README.md describes the text.
 
+use crate::comparison;
 use crate::image;
 use crate::page;
 use crate::run::{Case, Outcome};
@@ -80,6 +81,14 @@ fn take(line: &str, case: &mut Case, last: &mut Vec<u32>, out: &mut String, runs
             }
             out.push_str("kept\n");
         }
+        "compare" => {
+            let words: Vec<u32> = numbers(rest)?;
+            let (tolerance, second) = words.split_first()?;
+            match comparison::compare(&case.start, second, *tolerance) {
+                Err(code) => show(out, "compare", &[code, 0, 0, 0, 0]),
+                Ok([matched, agreeing, first, second]) => show(out, "compare", &[0, matched, agreeing, first, second]),
+            }
+        }
         "run" => {
             case.calls.extend(calls(rest)?);
             *last = report(case, out);
@@ -152,6 +161,13 @@ mod tests {
             let case = crate::gen::case(seed);
             assert_eq!(runs(&told(&case)), Ok(vec![case]));
         }
+    }
+
+    #[test]
+    fn two_images() {
+        let text = "start 0 0 6 6 6 6\ncompare 9 0 0 6 6 6 6\ncompare 9\nstart 1\ncompare 0 1\n";
+        assert_eq!(written(text).as_deref(), Ok("compare 0 0 0 0 0\ncompare 110 0 0 0 0\ncompare 105 0 0 0 0\n"));
+        assert_eq!(written("compare\n"), Err(1));
     }
 
     #[test]

@@ -1,10 +1,11 @@
 //! The compiled engine, called through its C interface with guarded slices full of junk.
 
+use crate::comparison;
 use crate::gen::Random;
 use crate::image;
 use crate::page;
 use crate::run::{Case, Outcome};
-use futtockfig::raw::{futtockfig_page, futtockfig_part, futtockfig_run};
+use futtockfig::raw::{futtockfig_compare, futtockfig_page, futtockfig_part, futtockfig_run};
 use std::fmt::Display;
 
 /// Words before and after each lent slice, which no run may touch.
@@ -162,4 +163,20 @@ pub fn compare_page(words: &[u32], room: usize, junk: u64) -> Result<u32, String
         return Err("a byte outside the page changed".into());
     }
     lent.begins_with(&rows).map(|_| code)
+}
+
+/// Compares the comparison of two images. The code is returned.
+pub fn compare_images(first: &[u32], second: &[u32], tolerance: u32) -> Result<u32, String> {
+    let before = (first.to_vec(), second.to_vec());
+    // SAFETY: each pointer is to a slice of the given length.
+    let raw = unsafe { futtockfig_compare(first.as_ptr(), first.len(), second.as_ptr(), second.len(), tolerance) };
+    if (first, second) != (&before.0[..], &before.1[..]) {
+        return Err("a word lent for reading changed".into());
+    }
+    let (code, counts) = comparison::compare(first, second, tolerance).map_or_else(|code| (code, [0; 4]), |counts| (0, counts));
+    let result = (raw.code, [raw.matched, raw.agreeing, raw.only_first, raw.only_second]);
+    if result != (code, counts) {
+        return Err(format!("result is {result:?}, should be {:?}", (code, counts)));
+    }
+    Ok(code)
 }

@@ -1,9 +1,11 @@
-//! Random cases from a seed: lists of calls, start images sound and damaged, lent lengths, texts, pages.
+//! Random cases from a seed: lists of calls, start images sound and damaged, lent lengths, texts, pages, pairs of images.
 
 mod images;
 mod pages;
+mod pairs;
 pub use images::words;
 pub use pages::{image_text, page};
+pub use pairs::pair;
 
 use crate::machine::{is_change, Call, Capacities, Edge, Graph, Machine, Name, Reading, Types, Vertex};
 use crate::run::{image_room, Case};

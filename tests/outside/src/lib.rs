@@ -1,6 +1,7 @@
 //! A plain machine that shares nothing with the engine, and what the engine is compared with.
 
 pub mod cases;
+pub mod comparison;
 #[cfg(feature = "engine")]
 pub mod engine;
 pub mod examples;

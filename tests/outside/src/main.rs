@@ -10,6 +10,7 @@
 //!     outside --cases FILE                      what the program vectors must write for the cases in FILE
 
 use outside::cases;
+use outside::comparison;
 use outside::gen;
 use outside::image;
 use outside::machine::{is_change, Call, Capacities, Graph, Machine, Name, LAST_BENCH};
@@ -114,6 +115,16 @@ fn run_alone(options: &Options) {
         let (words, room) = gen::page(seed);
         judges(seed, &words, page::CAPACITIES, page::TYPES);
         reached.page(page::page(&words, room).err().map_or(0, |refused| refused.0));
+        let (one, two, tolerance) = gen::pair(seed);
+        let compared = comparison::compare(&one, &two, tolerance);
+        reached.comparison(compared.err().unwrap_or(0));
+        if let Ok([matched, agreeing, first, second]) = compared {
+            // The other way round, and each image's edges.
+            let turned = comparison::compare(&two, &one, tolerance) == Ok([matched, agreeing, second, first]);
+            if !turned || agreeing > matched || (matched + first, matched + second) != (one[1], two[1]) {
+                fail(format!("seed {seed}: two images disagree about {compared:?}"));
+            }
+        }
         if seed % 10 == 0 {
             text::chartrun(&gen::text(seed));
             page::chartpage(&gen::image_text(seed));
@@ -344,6 +355,14 @@ mod compare {
             match engine::compare_page(&words, room, seed) {
                 Err(message) => fail(format!("seed {seed}: page of {room} bytes: {message}\nwords {words:?}")),
                 Ok(code) => reached.page(code),
+            }
+            let (one, two, tolerance) = gen::pair(seed);
+            match engine::compare_images(&one, &two, tolerance) {
+                Err(message) => fail(format!("seed {seed}: comparison within {tolerance}: {message}\nfirst {one:?}\nsecond {two:?}")),
+                Ok(code) => reached.comparison(code),
+            }
+            if let Err(message) = engine::compare_images(&one, &one, tolerance) {
+                fail(format!("seed {seed}: comparison with itself within {tolerance}: {message}\nwords {one:?}"));
             }
             reached.add(&case, &outcome);
         }

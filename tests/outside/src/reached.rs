@@ -20,6 +20,8 @@ pub struct Reached {
     idle: BTreeMap<u32, u64>,
     /// Codes of pages, 0 among them.
     pages: BTreeMap<u32, u64>,
+    /// Codes of comparisons, 0 among them.
+    comparisons: BTreeMap<u32, u64>,
     /// What came of starts with vertices, by the size of their records and the code; a wrong degree by its own.
     starts: BTreeMap<(usize, &'static str), u64>,
 }
@@ -61,22 +63,31 @@ impl Reached {
         *self.pages.entry(code).or_default() += 1;
     }
 
+    pub fn comparison(&mut self, code: u32) {
+        *self.comparisons.entry(code).or_default() += 1;
+    }
+
     /// Kinds never accepted, changes that never altered nothing, and codes never given.
     pub fn missing(&self) -> Vec<String> {
         let kinds = (0..100).filter(|k| is_kind(*k) && !self.kinds.contains_key(k)).map(|k| format!("kind {k}"));
         let codes = (1..=20).chain(101..=106).chain(108..=109).filter(|c| !self.codes.contains_key(c)).map(|c| format!("code {c}"));
         let idle = (5..=16).filter(|k| !self.idle.contains_key(k)).map(|k| format!("kind {k} that alters nothing"));
         let pages = [0, 105, 107, 108, 109].into_iter().filter(|c| !self.pages.contains_key(c)).map(|c| format!("page with code {c}"));
+        let comparisons = [0, 105, 108, 109, 110].into_iter().filter(|c| !self.comparisons.contains_key(c)).map(|c| format!("comparison with code {c}"));
         let new = ["loaded", "106", "108", "a degree", "109"].map(|came| (image::RECORD, came));
         let old = ["loaded", "106", "108", "109"].map(|came| (image::OLD_RECORD, came));
         let starts = new.into_iter().chain(old).filter(|s| !self.starts.contains_key(s)).map(|s| format!("start with records of {} words: {}", s.0, s.1));
-        kinds.chain(codes).chain(idle).chain(pages).chain(starts).collect()
+        kinds.chain(codes).chain(idle).chain(pages).chain(comparisons).chain(starts).collect()
     }
 
     pub fn summary(&self) -> String {
         let refused: u64 = self.codes.range(101..).map(|c| c.1).sum();
         let pages: u64 = self.pages.values().sum();
         let points = self.points;
-        format!("{} lists ({refused} refused), {} calls ({} accepted), {pages} pages, {points} sums over benches", self.lists, self.calls, self.accepted)
+        let comparisons: u64 = self.comparisons.values().sum();
+        format!(
+            "{} lists ({refused} refused), {} calls ({} accepted), {pages} pages, {comparisons} comparisons, {points} sums over benches",
+            self.lists, self.calls, self.accepted
+        )
     }
 }

@@ -10,12 +10,15 @@ use crate::front_wide;
 use crate::leads;
 use crate::narrow;
 use crate::numbers;
+use crate::rest;
 use crate::running::Lengths;
 use crate::running::run_lent;
+use crate::running::show_comparison;
 use crate::running::show_page;
 use crate::running::write_line;
 use crate::running::write_part;
 use crate::wide;
+use crate::word;
 use image::part;
 use std::num::wrapping_add_usize;
 
@@ -121,6 +124,20 @@ fn page_of(s: Setting, room: u32, start: &[u32]) -> Setting {
     s
 }
 
+// The start words beside those of the line, whose first number is the tolerance.
+fn compare_with(s: Setting, line: &[u8], start: &[u32]) -> Setting {
+    let mut n = [0u64; 400];
+    let count = numbers(line, &mut n);
+    let mut words = [0u32; 400];
+    narrow(&n, count, &mut words, 0);
+    show_comparison(
+        front(start, s.start),
+        rest(front(&words, count), 1),
+        word(&words, 0),
+    );
+    s
+}
+
 // A line that is none of these is written as it is.
 fn set_line(
     s: Setting,
@@ -150,6 +167,9 @@ fn set_line(
     }
     if leads(line, b"page") {
         return page_of(s, first(line), start);
+    }
+    if leads(line, b"compare") {
+        return compare_with(s, line, start);
     }
     if leads(line, b"tables") {
         return tables(s, line);

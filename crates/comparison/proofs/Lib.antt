@@ -1,0 +1,6 @@
+pub mod Bits
+pub mod PairLaws
+pub mod Turns
+pub mod Notes
+pub mod Outcomes
+pub mod Examples
