@@ -39,7 +39,7 @@ extern "C" {
 #endif
 
 /* What a caller sees; raised with every change to it (docs/CHANGES.md). */
-#define FUTTOCKFIG_VERSION 12
+#define FUTTOCKFIG_VERSION 13
 
 /* Words a row in each table, and the most rows that a table may have. The fewest is 1. */
 #define FUTTOCKFIG_VERTEX_WORDS 8
@@ -175,7 +175,10 @@ enum futtockfig_code {
     /* Of a page, beside 105, 108 and 109 of its words. */
     FUTTOCKFIG_SHORT_PAGE = 107,       /* page_len is under 25 an edge */
     /* Of a comparison, beside 105, 108 and 109 of the first's words. */
-    FUTTOCKFIG_BAD_SECOND = 110        /* the second's words are no image; the first's are */
+    FUTTOCKFIG_BAD_SECOND = 110,       /* the second's words are no image; the first's are */
+    /* Of an order, beside 105, 108 and 109 of its words and FUTTOCKFIG_NO_SUCH_VERTEX. */
+    FUTTOCKFIG_OTHER_ITEMS = 111,      /* wanted: not the items that are there, each once */
+    FUTTOCKFIG_SHORT_LIST = 112        /* list_len is under 5 for each wanted word but the first */
 };
 
 /*
@@ -312,6 +315,43 @@ struct futtockfig_comparison futtockfig_compare(
     const uint32_t *first, size_t first_len,
     const uint32_t *second, size_t second_len,
     uint32_t tolerance);
+
+/*
+ * AN ORDER
+ *   Any order of an image's vertices, of its edges, or of one vertex's list can be had by calls: the second wanted item
+ *   goes right behind the first, the third behind the second, and so on, by kind 12, 14 or 16, with c and d 0. Run on the
+ *   same graph with as many free changes, all are accepted; then the items stand as wanted, and nothing else has changed.
+ *   An item that stands right already has its call too, which alters nothing and costs nothing.
+ */
+struct futtockfig_arrangement {
+    uint32_t code; /* 0, 4, 105, 108, 109, 111 or 112 */
+    size_t calls;  /* one less than the wanted words, 0 where there are none; 0 with a code, and no offset is told */
+};
+
+/*
+ * Writes the calls to the front of list, five words each; the words behind them stay. The image is read as for a page,
+ * old or new: words that do not load get 105, 108 or 109. Then a vertex that is missing gets 4 (arrange_words only), then
+ * wanted words that are not the items, each once, get 111, then a list that is too short gets 112. With a code no word is
+ * written.
+ *
+ * The pointers must not be NULL, also where a length is 0; the slices are aligned, list overlaps no other, and no other
+ * thread touches any during the call. The stack has some 64 KB left.
+ */
+struct futtockfig_arrangement futtockfig_arrange_vertices(
+    const uint32_t *words, size_t words_len,
+    const uint32_t *wanted, size_t wanted_len,
+    uint32_t *list, size_t list_len);
+
+struct futtockfig_arrangement futtockfig_arrange_edges(
+    const uint32_t *words, size_t words_len,
+    const uint32_t *wanted, size_t wanted_len,
+    uint32_t *list, size_t list_len);
+
+struct futtockfig_arrangement futtockfig_arrange_words(
+    const uint32_t *words, size_t words_len,
+    uint32_t vertex,
+    const uint32_t *wanted, size_t wanted_len,
+    uint32_t *list, size_t list_len);
 
 #ifdef __cplusplus
 }

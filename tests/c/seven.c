@@ -1,4 +1,4 @@
-/* Seven (REFERENCE 15.1) through the C header: answers, image, parts, page and comparison are compared with worked ones. */
+/* Seven (REFERENCE 15.1) through the C header: answers, image, parts, page, comparison and orders are compared with worked ones. */
 #include "../../include/futtockfig.h"
 
 #include <stdio.h>
@@ -71,6 +71,47 @@ static void expect(const char *what, size_t at, size_t found, size_t wanted) {
     if (found == wanted) return;
     printf("seven: %s %zu is %zu, should be %zu\n", what, at, found, wanted);
     wrong = 1;
+}
+
+/* Orders of Seven: what the list begins with, and nothing of it where there is a code. */
+static void arrange(void) {
+    static const struct {
+        uint32_t kind, vertex;
+        size_t wanted_len, room;
+        uint32_t wanted[8], code;
+        size_t calls;
+    } orders[] = {
+        {FUTTOCKFIG_VERTEX_AFTER, 0, 4, 15, {3, 1, 4, 2}, FUTTOCKFIG_OK, 3},
+        {FUTTOCKFIG_VERTEX_AFTER, 0, 4, 17, {1, 2, 3, 4}, FUTTOCKFIG_OK, 3},
+        {FUTTOCKFIG_VERTEX_AFTER, 0, 4, 14, {3, 1, 4, 2}, FUTTOCKFIG_SHORT_LIST, 0},
+        {FUTTOCKFIG_VERTEX_AFTER, 0, 4, 14, {3, 1, 4, 3}, FUTTOCKFIG_OTHER_ITEMS, 0},
+        {FUTTOCKFIG_EDGE_AFTER, 0, 7, 30, {7, 1, 6, 2, 5, 3, 4}, FUTTOCKFIG_OK, 6},
+        {FUTTOCKFIG_EDGE_AFTER, 0, 7, 30, {7, 1, 6, 2, 5, 3, 8}, FUTTOCKFIG_OTHER_ITEMS, 0},
+        {FUTTOCKFIG_WORD_AFTER, 4, 4, 15, {15, 14, 12, 10}, FUTTOCKFIG_OK, 3},
+        {FUTTOCKFIG_WORD_AFTER, 4, 4, 15, {10, 12, 14, 14}, FUTTOCKFIG_OTHER_ITEMS, 0},
+        {FUTTOCKFIG_WORD_AFTER, 4, 4, 15, {11, 13, 14, 15}, FUTTOCKFIG_OTHER_ITEMS, 0},
+        {FUTTOCKFIG_WORD_AFTER, 3, 0, 0, {0}, FUTTOCKFIG_OK, 0},
+        {FUTTOCKFIG_WORD_AFTER, 5, 0, 0, {0}, FUTTOCKFIG_NO_SUCH_VERTEX, 0},
+    };
+    for (size_t i = 0; i < sizeof orders / sizeof orders[0]; i++) {
+        const uint32_t *words = i % 2 ? old_seven : seven, *wanted = orders[i].wanted;
+        size_t len = i % 2 ? sizeof old_seven / 4 : sizeof seven / 4, n = orders[i].wanted_len, room = orders[i].room;
+        uint32_t calls[32];
+        memset(calls, 0xff, sizeof calls);
+        struct futtockfig_arrangement a = orders[i].kind == FUTTOCKFIG_VERTEX_AFTER ? futtockfig_arrange_vertices(words, len, wanted, n, calls, room)
+            : orders[i].kind == FUTTOCKFIG_EDGE_AFTER                               ? futtockfig_arrange_edges(words, len, wanted, n, calls, room)
+                                                      : futtockfig_arrange_words(words, len, orders[i].vertex, wanted, n, calls, room);
+        expect("code of order", i, a.code, orders[i].code);
+        expect("calls of order", i, a.calls, orders[i].calls);
+        for (size_t k = 0; k < orders[i].calls; k++) {
+            uint32_t due[5] = {orders[i].kind, wanted[k + 1], wanted[k], 0, 0};
+            for (size_t j = 0; j < 5; j++) expect("word of an order's call", 5 * k + j, calls[5 * k + j], due[j]);
+        }
+        for (size_t j = 5 * orders[i].calls; j < 32; j++) expect("word behind an order's calls", j, calls[j], 0xffffffff);
+    }
+    uint32_t calls[1];
+    struct futtockfig_arrangement a = futtockfig_arrange_words(seven, sizeof seven / 4 - 1, 5, seven, 0, calls, 0);
+    expect("code of order, one word short,", 0, a.code, FUTTOCKFIG_BAD_START);
 }
 
 int main(void) {
@@ -230,6 +271,8 @@ int main(void) {
     expect("words, old words", 0, r.words, seven_len);
     for (size_t i = 0; i < seven_len; i++) expect("image word, old words", i, image[i], seven[i]);
 
-    if (!wrong) printf("seven: %d calls, a page and comparisons through the C header, as worked out\n", CALLS);
+    arrange();
+
+    if (!wrong) printf("seven: %d calls, a page, comparisons and orders through the C header, as worked out\n", CALLS);
     return wrong;
 }

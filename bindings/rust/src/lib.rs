@@ -3,8 +3,9 @@
 //! A list of calls is run by [`run`]; each call is five words and is answered by two, a code and a number. The graph
 //! goes in and out as an image, whose parts [`part`] and [`span`] find, whose edges [`page`] puts on paper, and
 //! which [`compare`] holds against another.
+//! [`arrange_vertices`], [`arrange_edges`] and [`arrange_words`] make the calls for any order.
 //! `include/futtockfig.h` describes the graph, every kind of call ([`kind`] has their numbers), every code, the words of an
-//! image, a page and a comparison.
+//! image, a page, a comparison and an order.
 //!
 //! The crate links `libfuttockfig.a`, from the folder that the environment variable `FUTTOCKFIG_LIB_DIR` names when it
 //! is built, else from `target/staticlib` of the repository. It allocates nothing and needs no standard library.
@@ -34,10 +35,11 @@ pub mod raw;
 
 use core::fmt;
 use core::ops::Range;
+use raw::{futtockfig_arrange_edges, futtockfig_arrange_vertices, futtockfig_arrange_words};
 use raw::{futtockfig_compare, futtockfig_page, futtockfig_part, futtockfig_run};
 
 /// The version of what a caller sees, that of `include/futtockfig.h`.
-pub const VERSION: u32 = 12;
+pub const VERSION: u32 = 13;
 
 /// Kind, a, b, c, d.
 pub type Call = [u32; 5];
@@ -415,4 +417,105 @@ pub fn compare(first: &[u32], second: &[u32], tolerance: u32) -> Result<Comparis
         0 => Ok(Comparison { matched: result.matched, agreeing: result.agreeing, only_first: result.only_first, only_second: result.only_second }),
         code => Err(NoImage::of(code)),
     }
+}
+
+/// Why there are no calls for a wanted order. Nothing was written, and which word of an image is bad is not told.
+#[derive(Clone, Copy, Debug, PartialEq, Eq)]
+pub enum NotArranged {
+    /// 105: the image has no sound header, too many vertices or edges, or edges and no vertex.
+    Header,
+    /// 108: a record of the image is bad.
+    Record,
+    /// 109: the records are good and a list of the image is bad.
+    Incidence,
+    /// 4: the vertex whose list is wanted in another order does not exist.
+    Vertex,
+    /// 111: the wanted words are not the items that are there, each once.
+    Items,
+    /// 112: too few words for the calls.
+    Room,
+    /// A code that the header does not name.
+    Other(u32),
+}
+
+impl NotArranged {
+    /// The code of the header.
+    pub fn code(self) -> u32 {
+        match self {
+            NotArranged::Header => 105,
+            NotArranged::Record => 108,
+            NotArranged::Incidence => 109,
+            NotArranged::Vertex => 4,
+            NotArranged::Items => 111,
+            NotArranged::Room => 112,
+            NotArranged::Other(code) => code,
+        }
+    }
+
+    fn of(code: u32) -> NotArranged {
+        match code {
+            105 => NotArranged::Header,
+            108 => NotArranged::Record,
+            109 => NotArranged::Incidence,
+            4 => NotArranged::Vertex,
+            111 => NotArranged::Items,
+            112 => NotArranged::Room,
+            _ => NotArranged::Other(code),
+        }
+    }
+}
+
+impl fmt::Display for NotArranged {
+    fn fmt(&self, f: &mut fmt::Formatter<'_>) -> fmt::Result {
+        let why = match self {
+            NotArranged::Header => "the words have no sound header within the limits",
+            NotArranged::Record => "a record is bad",
+            NotArranged::Incidence => "a list is bad",
+            NotArranged::Vertex => "the vertex does not exist",
+            NotArranged::Items => "the wanted words are not the items, each once",
+            NotArranged::Room => "the list has under five words a call",
+            NotArranged::Other(_) => "unknown code",
+        };
+        write!(f, "not arranged, code {}: {why}", self.code())
+    }
+}
+
+/// The calls in front of a list, or why there are none.
+fn arranged(result: raw::Arrangement, list: &[u32]) -> Result<&[u32], NotArranged> {
+    match result.code {
+        0 => Ok(&list[..5 * result.calls]),
+        code => Err(NotArranged::of(code)),
+    }
+}
+
+/// The calls that bring the vertices of an image into the order `wanted`, at the front of `list`: five words each, one for
+/// each wanted vertex but the first.
+///
+/// The image is read as for a page. Run on the same graph, in a journal with as many free changes as there are calls, all
+/// are accepted; then Vseq is the order wanted, and all else of the graph is as it was. A vertex that stands right already
+/// has its call too, which alters nothing. Words of `list` behind the calls stay.
+///
+/// ```
+/// let words = [2, 0, 6, 14, 14, 14, 1, 0, 7, 0, 2, 0, 9, 0];
+/// assert_eq!(futtockfig::arrange_vertices(&words, &[2, 1], &mut [0; 5]), Ok([12, 1, 2, 0, 0].as_slice()));
+/// ```
+pub fn arrange_vertices<'a>(words: &[u32], wanted: &[u32], list: &'a mut [u32]) -> Result<&'a [u32], NotArranged> {
+    // SAFETY: each pointer and length is that of a slice, and the list is borrowed mutably, so it overlaps no other.
+    // The function keeps no pointer.
+    let result = unsafe { futtockfig_arrange_vertices(words.as_ptr(), words.len(), wanted.as_ptr(), wanted.len(), list.as_mut_ptr(), list.len()) };
+    arranged(result, list)
+}
+
+/// The same for the edges of an image and Eseq.
+pub fn arrange_edges<'a>(words: &[u32], wanted: &[u32], list: &'a mut [u32]) -> Result<&'a [u32], NotArranged> {
+    // SAFETY: as in arrange_vertices.
+    let result = unsafe { futtockfig_arrange_edges(words.as_ptr(), words.len(), wanted.as_ptr(), wanted.len(), list.as_mut_ptr(), list.len()) };
+    arranged(result, list)
+}
+
+/// The same for the list of a vertex: `wanted` has its oriented words.
+pub fn arrange_words<'a>(words: &[u32], vertex: u32, wanted: &[u32], list: &'a mut [u32]) -> Result<&'a [u32], NotArranged> {
+    // SAFETY: as in arrange_vertices.
+    let result = unsafe { futtockfig_arrange_words(words.as_ptr(), words.len(), vertex, wanted.as_ptr(), wanted.len(), list.as_mut_ptr(), list.len()) };
+    arranged(result, list)
 }

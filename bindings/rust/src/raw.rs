@@ -29,6 +29,12 @@ pub struct Comparison {
     pub only_second: u32,
 }
 
+#[repr(C)]
+pub struct Arrangement {
+    pub code: u32,
+    pub calls: usize,
+}
+
 extern "C" {
     pub fn futtockfig_run(
         start: *const u32,
@@ -51,4 +57,23 @@ extern "C" {
     pub fn futtockfig_part(words: *const u32, words_len: usize, part: u32) -> Span;
     pub fn futtockfig_page(words: *const u32, words_len: usize, page: *mut u8, page_len: usize) -> PageResult;
     pub fn futtockfig_compare(first: *const u32, first_len: usize, second: *const u32, second_len: usize, tolerance: u32) -> Comparison;
+    pub fn futtockfig_arrange_vertices(
+        words: *const u32,
+        words_len: usize,
+        wanted: *const u32,
+        wanted_len: usize,
+        list: *mut u32,
+        list_len: usize,
+    ) -> Arrangement;
+    pub fn futtockfig_arrange_edges(words: *const u32, words_len: usize, wanted: *const u32, wanted_len: usize, list: *mut u32, list_len: usize)
+        -> Arrangement;
+    pub fn futtockfig_arrange_words(
+        words: *const u32,
+        words_len: usize,
+        vertex: u32,
+        wanted: *const u32,
+        wanted_len: usize,
+        list: *mut u32,
+        list_len: usize,
+    ) -> Arrangement;
 }

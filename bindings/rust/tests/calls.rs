@@ -1,6 +1,9 @@
 //! Examples of docs/REFERENCE.md through the safe functions.
 
-use futtockfig::{answers, compare, image_words, kind, name, page, part, run, span, Comparison, Done, Lent, NoImage, Part, Refused, EMPTY, PAGE_ROW};
+use futtockfig::{
+    answers, arrange_edges, arrange_vertices, arrange_words, compare, image_words, kind, name, page, part, run, span, Comparison, Done, Lent, NoImage,
+    NotArranged, Part, Refused, EMPTY, PAGE_ROW,
+};
 
 /// Runs calls with capacities 10, 10, 20 and one type, in lent words that are full of junk.
 fn with<T>(calls: &[u32], start: &[u32], then: impl FnOnce(Result<Done, Refused>) -> T) -> T {
@@ -224,4 +227,57 @@ fn pages() {
     damaged[77] = damaged[76];
     assert_eq!(page(&damaged, &mut []), Err(Refused::Incidence(77)));
     assert_eq!(page(&EMPTY, &mut []), Ok([].as_slice()));
+}
+
+#[test]
+fn orders() {
+    let image = seven();
+    for words in [&image, &old_words(&image)] {
+        let mut list = [9; 16];
+        let calls = arrange_vertices(words, &[3, 1, 4, 2], &mut list).unwrap().to_vec();
+        assert_eq!(calls, [12, 1, 3, 0, 0, 12, 4, 1, 0, 0, 12, 2, 4, 0, 0]);
+        assert_eq!(list[15], 9);
+        with(&calls, words, |done| {
+            let done = done.unwrap();
+            assert!(answers(done.answers).eq([Ok(1), Ok(0), Ok(1)]));
+            assert_eq!(part(done.image, Part::Vertices), [3, 0, 0, 0, 1, 0, 0, 6, 4, 0, 0, 4, 2, 0, 0, 4]);
+            assert_eq!(part(done.image, Part::Edges), part(&image, Part::Edges));
+            assert_eq!(part(done.image, Part::Lists), [2, 3, 4, 6, 9, 11, 10, 12, 14, 15, 5, 7, 8, 13]);
+        });
+        let calls = arrange_edges(words, &[7, 6, 5, 4, 3, 2, 1], &mut [9; 30]).unwrap().to_vec();
+        assert!(calls.starts_with(&[14, 6, 7, 0, 0, 14, 5, 6, 0, 0]));
+        with(&calls, words, |done| {
+            let numbers: Vec<u32> = part(done.unwrap().image, Part::Edges).chunks(6).map(|e| e[0]).collect();
+            assert_eq!(numbers, [7, 6, 5, 4, 3, 2, 1]);
+        });
+        let calls = arrange_words(words, 4, &[15, 14, 12, 10], &mut [9; 15]).unwrap().to_vec();
+        assert_eq!(calls, [16, 14, 15, 0, 0, 16, 12, 14, 0, 0, 16, 10, 12, 0, 0]);
+        with(&calls, words, |done| assert!(done.unwrap().image.ends_with(&[5, 7, 8, 13, 15, 14, 12, 10])));
+    }
+    assert_eq!(arrange_words(&image, 3, &[], &mut []), Ok([].as_slice()));
+    assert_eq!(arrange_vertices(&EMPTY, &[], &mut []), Ok([].as_slice()));
+}
+
+#[test]
+fn orders_refused() {
+    let image = seven();
+    let mut list = [9; 14];
+    assert_eq!(arrange_words(&image, 5, &[], &mut list), Err(NotArranged::Vertex));
+    assert_eq!(arrange_words(&image, 0, &[10], &mut list), Err(NotArranged::Vertex));
+    // A word twice, words of the other ends, one too few, one too many.
+    for wanted in [&[10, 12, 14, 14][..], &[11, 13, 14, 15], &[10, 12, 14], &[10, 12, 14, 15, 15]] {
+        assert_eq!(arrange_words(&image, 4, wanted, &mut list), Err(NotArranged::Items));
+    }
+    assert_eq!(arrange_vertices(&image, &[0, 1, 2, 3], &mut list), Err(NotArranged::Items));
+    assert_eq!(arrange_vertices(&image, &[1, 2, 3, 4], &mut list), Err(NotArranged::Room));
+    assert_eq!(arrange_edges(&image, &[1, 2, 3, 4, 5, 6], &mut []), Err(NotArranged::Items));
+    assert_eq!(arrange_vertices(&image[1..], &[], &mut list), Err(NotArranged::Header));
+    let mut damaged = seven();
+    damaged[9] = 1;
+    assert_eq!(arrange_words(&damaged, 5, &[], &mut list), Err(NotArranged::Record));
+    damaged[9] = image[9];
+    damaged[77] = damaged[76];
+    assert_eq!(arrange_edges(&damaged, &[], &mut list), Err(NotArranged::Incidence));
+    assert_eq!(list, [9; 14]);
+    assert_eq!(NotArranged::Items.to_string(), "not arranged, code 111: the wanted words are not the items, each once");
 }

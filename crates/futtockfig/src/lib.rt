@@ -1,5 +1,9 @@
-// The run, the parts of an image, the page and the comparison of two images for programs in C and Rust:
-// include/futtockfig.h says the same in C.
+// The run, the parts of an image, the page, the comparison of two images and calls for an order, for programs in C and
+// Rust: include/futtockfig.h says the same in C.
+use arrangement::Arrangement;
+use arrangement::arrange_edges;
+use arrangement::arrange_vertices;
+use arrangement::arrange_words;
 use comparison::Compared;
 use comparison::compare;
 use engine::run::RunResult;
@@ -14,6 +18,7 @@ ghost use Rattle.image.specs.Image.{part as partOf};
 ghost use Rattle.image.specs.Parts.{partStart};
 ghost use Rattle.engine.specs.Outcomes.{given, left, Untouched, MeetsDemand1, MeetsDemand3};
 ghost use Rattle.page.specs.Page.{pageOf, printed};
+ghost use Rattle.arrangement.specs.Orders.{outcome, vertexOrder, edgeOrder, wordOrder};
 ghost use Rattle.comparison.specs.Comparison.{comparison};
 
 // A slice is a pointer and a length.
@@ -72,4 +77,42 @@ pub extern "C" fn futtockfig_compare(first: &[u32], second: &[u32], tolerance: u
     ensures { λ r. ⌜ r ≡ comparison (now (first .entry)) (now (second .entry)) tolerance ⌝ }
 {
     compare(first, second, tolerance)
+}
+
+// The calls that bring Vseq, Eseq, or the list of a vertex, into a wanted order.
+#[no_mangle]
+pub extern "C" fn futtockfig_arrange_vertices(
+    words: &[u32],
+    wanted: &[u32],
+    list: &mut [u32],
+) -> Arrangement
+    ensures { λ r. ⌜ outcome r (now (list .exit))
+        ≡ vertexOrder (now (words .entry)) (now (wanted .entry)) (now (list .entry)) ⌝ }
+{
+    arrange_vertices(words, wanted, list)
+}
+
+#[no_mangle]
+pub extern "C" fn futtockfig_arrange_edges(
+    words: &[u32],
+    wanted: &[u32],
+    list: &mut [u32],
+) -> Arrangement
+    ensures { λ r. ⌜ outcome r (now (list .exit))
+        ≡ edgeOrder (now (words .entry)) (now (wanted .entry)) (now (list .entry)) ⌝ }
+{
+    arrange_edges(words, wanted, list)
+}
+
+#[no_mangle]
+pub extern "C" fn futtockfig_arrange_words(
+    words: &[u32],
+    vertex: u32,
+    wanted: &[u32],
+    list: &mut [u32],
+) -> Arrangement
+    ensures { λ r. ⌜ outcome r (now (list .exit))
+        ≡ wordOrder (now (words .entry)) vertex (now (wanted .entry)) (now (list .entry)) ⌝ }
+{
+    arrange_words(words, vertex, wanted, list)
 }

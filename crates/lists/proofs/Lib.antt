@@ -8,3 +8,4 @@ pub mod KeyedAll
 pub mod Places
 pub mod Firsts
 pub mod Members
+pub mod Arranged

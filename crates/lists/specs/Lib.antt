@@ -2,3 +2,4 @@ pub mod Choice
 pub mod Lists
 pub mod Keyed
 pub mod Slices
+pub mod Arranged

@@ -2,7 +2,7 @@
 // Here: words of slices, with nothing past the end; the junk that lent slices are filled with; a line's first word and
 // its numbers.
 // Files below use what is private above them.
-mod running; // running.rt: a run or a page, and what it left; running/cases.rt: the lines of the cases
+mod running; // running.rt: a run, a page, a comparison or an order; running/cases.rt: the lines of the cases
 
 use libc::STDIN_FILENO;
 use running::cases;

@@ -1,4 +1,5 @@
-// A run on arrays full of junk, or a page on bytes full of it, and what it left, to standard output; a comparison.
+// A run on arrays full of junk, a page on bytes or an order on words full of it, and what it left, to standard output;
+// a comparison.
 mod cases;
 
 use crate::between;
@@ -9,6 +10,10 @@ use crate::least;
 use crate::rest;
 use crate::untouched;
 use crate::word;
+use arrangement::Arrangement;
+use arrangement::arrange_edges;
+use arrangement::arrange_vertices;
+use arrangement::arrange_words;
 pub use cases::cases;
 use comparison::compare;
 use engine::run::RunResult;
@@ -143,6 +148,60 @@ fn show_comparison(first: &[u32], second: &[u32], tolerance: u32) {
     write_spaced(r.first as u64);
     write_spaced(r.second as u64);
     write_text(b"\n");
+}
+
+// The code and the number of calls of an order.
+fn write_order(code: u32, calls: usize) {
+    write_text(b"arrange");
+    write_spaced(code as u64);
+    write_spaced(calls as u64);
+    write_text(b"\n");
+}
+
+// The call at a place of a list.
+fn write_call(list: &[u32], at: usize) {
+    write_named(b"call", front(rest(list, at), 5));
+}
+
+// So many calls, five words each; the place behind the last.
+fn write_calls(list: &[u32], calls: usize) -> usize {
+    let mut at = 0;
+    let mut k = 0;
+    while k < calls {
+        write_call(list, at);
+        at = wrapping_add_usize(at, 5);
+        k += 1;
+    }
+    at
+}
+
+// On the first words of a list; by the kind of its calls.
+fn arrange_on(
+    words: &[u32],
+    kind: u32,
+    vertex: u32,
+    wanted: &[u32],
+    list: &mut [u32],
+    room: usize,
+) -> Arrangement {
+    let n = least(room, list.len());
+    if kind == 12 {
+        return arrange_vertices(words, wanted, &mut list[0..n]);
+    }
+    if kind == 14 {
+        return arrange_edges(words, wanted, &mut list[0..n]);
+    }
+    arrange_words(words, vertex, wanted, &mut list[0..n])
+}
+
+// Code and number, the calls, and whether the words behind them are as they were.
+fn show_order(words: &[u32], kind: u32, vertex: u32, wanted: &[u32], room: usize, junk: u32) {
+    let mut list = [0u32; 200];
+    fill(&mut list, junk);
+    let r = arrange_on(words, kind, vertex, wanted, &mut list, room);
+    write_order(r.code, r.calls);
+    let end = write_calls(&list, r.calls);
+    write_kept(untouched(&list, end, junk));
 }
 
 // The lengths in words of what is lent.

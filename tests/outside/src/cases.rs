@@ -3,6 +3,7 @@
 
 use crate::comparison;
 use crate::image;
+use crate::order::{Items, Order};
 use crate::page;
 use crate::run::{Case, Outcome};
 use std::fmt::{Display, Write};
@@ -88,6 +89,22 @@ fn take(line: &str, case: &mut Case, last: &mut Vec<u32>, out: &mut String, runs
                 Err(code) => show(out, "compare", &[code, 0, 0, 0, 0]),
                 Ok([matched, agreeing, first, second]) => show(out, "compare", &[0, matched, agreeing, first, second]),
             }
+        }
+        "arrange" => {
+            let given: Vec<u32> = numbers(rest)?;
+            let [kind, vertex, room, wanted @ ..] = &given[..] else { return None };
+            let items = match kind {
+                12 => Items::Vertices,
+                14 => Items::Edges,
+                16 => Items::List(*vertex),
+                _ => return None,
+            };
+            let calls = Order { words: case.start.clone(), items, wanted: wanted.to_vec(), room: *room as usize }.calls();
+            show(out, "arrange", &calls.as_ref().map_or_else(|code| [*code as usize, 0], |calls| [0, calls.len() / 5]));
+            for call in calls.unwrap_or_default().chunks(5) {
+                show(out, "call", call);
+            }
+            out.push_str("kept\n");
         }
         "run" => {
             case.calls.extend(calls(rest)?);

@@ -3,8 +3,10 @@
 use crate::comparison;
 use crate::gen::Random;
 use crate::image;
+use crate::order::{Items, Order};
 use crate::page;
 use crate::run::{Case, Outcome};
+use futtockfig::raw::{futtockfig_arrange_edges, futtockfig_arrange_vertices, futtockfig_arrange_words};
 use futtockfig::raw::{futtockfig_compare, futtockfig_page, futtockfig_part, futtockfig_run};
 use std::fmt::Display;
 
@@ -177,6 +179,41 @@ pub fn compare_images(first: &[u32], second: &[u32], tolerance: u32) -> Result<u
     let result = (raw.code, [raw.matched, raw.agreeing, raw.only_first, raw.only_second]);
     if result != (code, counts) {
         return Err(format!("result is {result:?}, should be {:?}", (code, counts)));
+    }
+    Ok(code)
+}
+
+/// Compares the calls for an order, and with code 0 what a run of them on the same chart leaves. The code is returned.
+pub fn compare_order(order: &Order, junk: u64) -> Result<u32, String> {
+    let mut lent = Lent::new(&mut Random::new(junk), order.room);
+    let Order { words, items, wanted, .. } = order.clone();
+    let raw = {
+        let list = lent.slice();
+        let (chart, chart_len, row, row_len) = (words.as_ptr(), words.len(), wanted.as_ptr(), wanted.len());
+        // SAFETY: each pointer is to its own slice of the given length, and no two overlap.
+        unsafe {
+            match items {
+                Items::Vertices => futtockfig_arrange_vertices(chart, chart_len, row, row_len, list.as_mut_ptr(), list.len()),
+                Items::Edges => futtockfig_arrange_edges(chart, chart_len, row, row_len, list.as_mut_ptr(), list.len()),
+                Items::List(vertex) => futtockfig_arrange_words(chart, chart_len, vertex, row, row_len, list.as_mut_ptr(), list.len()),
+            }
+        }
+    };
+    if (&words, &wanted) != (&order.words, &order.wanted) {
+        return Err("a word lent for reading changed".into());
+    }
+    let due = order.calls();
+    let (code, calls) = due.as_ref().map_or_else(|code| (*code, 0), |calls| (0, calls.len() / 5));
+    if (raw.code, raw.calls) != (code, calls) {
+        return Err(format!("result is {:?}, should be {:?}", (raw.code, raw.calls), (code, calls)));
+    }
+    if !lent.guards_kept() {
+        return Err("a word outside the list changed".into());
+    }
+    lent.begins_with(due.as_deref().unwrap_or_default())?;
+    if code == 0 {
+        let (case, outcome) = order.arrival(&lent.slice()[..5 * calls]);
+        compare(&case, &outcome, junk).map_err(|message| format!("run of the calls: {message}"))?;
     }
     Ok(code)
 }

@@ -1,9 +1,11 @@
 //! Random cases from a seed: lists of calls, start images sound and damaged, lent lengths, texts, pages, pairs of images.
 
 mod images;
+mod orders;
 mod pages;
 mod pairs;
 pub use images::words;
+pub use orders::{right_order, wrong_order};
 pub use pages::{image_text, page};
 pub use pairs::pair;
 

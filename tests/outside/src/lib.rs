@@ -8,6 +8,7 @@ pub mod examples;
 pub mod gen;
 pub mod image;
 pub mod machine;
+pub mod order;
 pub mod page;
 pub mod run;
 pub mod sums;

@@ -14,6 +14,7 @@ use outside::comparison;
 use outside::gen;
 use outside::image;
 use outside::machine::{is_change, Call, Capacities, Graph, Machine, Name, LAST_BENCH};
+use outside::order::Order;
 use outside::page;
 use outside::run::{Case, Outcome};
 use outside::sums;
@@ -125,6 +126,7 @@ fn run_alone(options: &Options) {
                 fail(format!("seed {seed}: two images disagree about {compared:?}"));
             }
         }
+        orders_alone(seed, &mut reached);
         if seed % 10 == 0 {
             text::chartrun(&gen::text(seed));
             page::chartpage(&gen::image_text(seed));
@@ -150,6 +152,24 @@ fn judges(seed: u64, words: &[u32], capacities: Capacities, types: u32) {
         return;
     };
     fail(format!("seed {seed}: words {wrong}: {words:?}"));
+}
+
+/// The orders of a seed, right and wrong, of vertices, edges and a list.
+fn orders(seed: u64) -> Vec<Order> {
+    (0..3).flat_map(|which| [gen::right_order(seed, which), Some(gen::wrong_order(seed, which))]).flatten().collect()
+}
+
+/// The calls for a wanted order arrive on the plain machine. It keeps whole graphs, so the largest are left out.
+fn orders_alone(seed: u64, reached: &mut Reached) {
+    for order in orders(seed) {
+        let calls = order.calls();
+        reached.order(order.items.kind(), calls.as_ref().err().copied().unwrap_or(0));
+        if let Some((case, outcome)) = calls.ok().filter(|calls| calls.len() < 1_000).map(|calls| order.arrival(&calls)) {
+            if case.run() != outcome {
+                fail(format!("seed {seed}: calls for an order do not arrive: {order:?}"));
+            }
+        }
+    }
 }
 
 /// Some of the short lists, with the sums of 4.20 asked for at every point.
@@ -363,6 +383,12 @@ mod compare {
             }
             if let Err(message) = engine::compare_images(&one, &one, tolerance) {
                 fail(format!("seed {seed}: comparison with itself within {tolerance}: {message}\nwords {one:?}"));
+            }
+            for order in orders(seed) {
+                match engine::compare_order(&order, seed) {
+                    Err(message) => fail(format!("seed {seed}: order: {message}\n{order:?}")),
+                    Ok(code) => reached.order(order.items.kind(), code),
+                }
             }
             reached.add(&case, &outcome);
         }

@@ -22,6 +22,8 @@ pub struct Reached {
     pages: BTreeMap<u32, u64>,
     /// Codes of comparisons, 0 among them.
     comparisons: BTreeMap<u32, u64>,
+    /// Codes of orders by the kind of their calls, 0 among them.
+    orders: BTreeMap<(u32, u32), u64>,
     /// What came of starts with vertices, by the size of their records and the code; a wrong degree by its own.
     starts: BTreeMap<(usize, &'static str), u64>,
 }
@@ -67,6 +69,10 @@ impl Reached {
         *self.comparisons.entry(code).or_default() += 1;
     }
 
+    pub fn order(&mut self, kind: u32, code: u32) {
+        *self.orders.entry((kind, code)).or_default() += 1;
+    }
+
     /// Kinds never accepted, changes that never altered nothing, and codes never given.
     pub fn missing(&self) -> Vec<String> {
         let kinds = (0..100).filter(|k| is_kind(*k) && !self.kinds.contains_key(k)).map(|k| format!("kind {k}"));
@@ -77,7 +83,9 @@ impl Reached {
         let new = ["loaded", "106", "108", "a degree", "109"].map(|came| (image::RECORD, came));
         let old = ["loaded", "106", "108", "109"].map(|came| (image::OLD_RECORD, came));
         let starts = new.into_iter().chain(old).filter(|s| !self.starts.contains_key(s)).map(|s| format!("start with records of {} words: {}", s.0, s.1));
-        kinds.chain(codes).chain(idle).chain(pages).chain(comparisons).chain(starts).collect()
+        let orders = [0, 105, 108, 109, 111, 112].into_iter().flat_map(|code| [12, 14, 16].map(|kind| (kind, code))).chain([(16, 4)]);
+        let orders = orders.filter(|o| !self.orders.contains_key(o)).map(|o| format!("order by calls of kind {} with code {}", o.0, o.1));
+        kinds.chain(codes).chain(idle).chain(pages).chain(comparisons).chain(starts).chain(orders).collect()
     }
 
     pub fn summary(&self) -> String {
@@ -85,8 +93,10 @@ impl Reached {
         let pages: u64 = self.pages.values().sum();
         let points = self.points;
         let comparisons: u64 = self.comparisons.values().sum();
+        let arrived = [12, 14, 16].map(|kind| self.orders.get(&(kind, 0)).copied().unwrap_or(0).to_string()).join(" + ");
+        let wrong: u64 = self.orders.iter().filter(|o| o.0 .1 != 0).map(|o| o.1).sum();
         format!(
-            "{} lists ({refused} refused), {} calls ({} accepted), {pages} pages, {comparisons} comparisons, {points} sums over benches",
+            "{} lists ({refused} refused), {} calls ({} accepted), {pages} pages, {comparisons} comparisons, {arrived} orders that arrive, {wrong} refused, {points} sums over benches",
             self.lists, self.calls, self.accepted
         )
     }

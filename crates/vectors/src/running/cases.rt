@@ -14,6 +14,7 @@ use crate::rest;
 use crate::running::Lengths;
 use crate::running::run_lent;
 use crate::running::show_comparison;
+use crate::running::show_order;
 use crate::running::show_page;
 use crate::running::write_line;
 use crate::running::write_part;
@@ -138,6 +139,23 @@ fn compare_with(s: Setting, line: &[u8], start: &[u32]) -> Setting {
     s
 }
 
+// arrange: an order of the start words; kind, vertex, words lent for the calls, wanted words.
+fn order_of(s: Setting, line: &[u8], start: &[u32]) -> Setting {
+    let mut n = [0u64; 400];
+    let count = numbers(line, &mut n);
+    let mut given = [0u32; 400];
+    narrow(&n, count, &mut given, 0);
+    show_order(
+        front(start, s.start),
+        word(&given, 0),
+        word(&given, 1),
+        rest(front(&given, count), 3),
+        word(&given, 2) as usize,
+        s.junk,
+    );
+    s
+}
+
 // A line that is none of these is written as it is.
 fn set_line(
     s: Setting,
@@ -170,6 +188,9 @@ fn set_line(
     }
     if leads(line, b"compare") {
         return compare_with(s, line, start);
+    }
+    if leads(line, b"arrange") {
+        return order_of(s, line, start);
     }
     if leads(line, b"tables") {
         return tables(s, line);

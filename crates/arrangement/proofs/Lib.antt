@@ -1,0 +1,10 @@
+pub mod Reaching
+pub mod Moved
+pub mod Reach
+pub mod AllElse
+pub mod Taking
+pub mod Items
+pub mod Turns
+pub mod Settles
+pub mod Arrive
+pub mod Examples
