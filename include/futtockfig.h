@@ -39,7 +39,7 @@ extern "C" {
 #endif
 
 /* What a caller sees; raised with every change to it (docs/CHANGES.md). */
-#define FUTTOCKFIG_VERSION 13
+#define FUTTOCKFIG_VERSION 14
 
 /* Words a row in each table, and the most rows that a table may have. The fewest is 1. */
 #define FUTTOCKFIG_VERTEX_WORDS 8
@@ -178,7 +178,9 @@ enum futtockfig_code {
     FUTTOCKFIG_BAD_SECOND = 110,       /* the second's words are no image; the first's are */
     /* Of an order, beside 105, 108 and 109 of its words and FUTTOCKFIG_NO_SUCH_VERTEX. */
     FUTTOCKFIG_OTHER_ITEMS = 111,      /* wanted: not the items that are there, each once */
-    FUTTOCKFIG_SHORT_LIST = 112        /* list_len is under 5 for each wanted word but the first */
+    FUTTOCKFIG_SHORT_LIST = 112,       /* list_len is under 5 for each wanted word but the first */
+    /* Of a recorded list, after all codes of a list. */
+    FUTTOCKFIG_SHORT_COPIES = 113      /* more calls of kinds 1 to 16 than copies has stretches */
 };
 
 /*
@@ -228,6 +230,33 @@ struct futtockfig_result futtockfig_run(
     uint32_t *journal, size_t journal_len,
     uint32_t *answers, size_t answers_len,
     uint32_t *image, size_t image_len);
+
+/*
+ * RECORDING
+ *   Runs a list as futtockfig_run does, with the same result, answers and image, and keeps the image after every step.
+ *   copies is cut into stretches of FUTTOCKFIG_IMAGE_WORDS(vertex capacity, edge capacity) words; a rest that is shorter
+ *   is none. Steps are counted as they are made, through the whole list: one that is undone, cut or committed later keeps
+ *   its number, and no number is given twice. A change that is refused, or that alters nothing, is no step. The k-th step
+ *   made, from 1, has the k-th stretch, which begins with the words of the graph after it, always a new image. All other
+ *   words of copies stay as they were. Undo, redo and going to a mark load the copy of their place; no change is undone.
+ *
+ *   A list that futtockfig_run refuses gets its code and number. Then a list with more calls whose kind is 1 to 16,
+ *   accepted or not, than copies has stretches gets FUTTOCKFIG_SHORT_COPIES, with done and words 0. A refused list writes
+ *   nowhere, copies included.
+ *
+ *   The caller's duties are those of futtockfig_run; copies overlaps none of the others, and the stack has some 320 KB
+ *   left: for each of 20,001 places the number of its copy and its rows stand there, 240 KB.
+ */
+struct futtockfig_result futtockfig_record(
+    const uint32_t *start, size_t start_len,
+    const uint64_t *rows, size_t rows_len,
+    const uint32_t *calls, size_t calls_len,
+    uint32_t *vertices, size_t vertices_len,
+    uint32_t *edges, size_t edges_len,
+    uint32_t *journal, size_t journal_len,
+    uint32_t *answers, size_t answers_len,
+    uint32_t *image, size_t image_len,
+    uint32_t *copies, size_t copies_len);
 
 /*
  * AN IMAGE

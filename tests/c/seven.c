@@ -273,6 +273,30 @@ int main(void) {
 
     arrange();
 
-    if (!wrong) printf("seven: %d calls, a page, comparisons and orders through the C header, as worked out\n", CALLS);
+    /* A recorded list (REFERENCE 19.8): each step's copy at its stretch, a step that is cut among them; one word too few. */
+    static const uint32_t recorded[] = {1, 1, 0, 7, 0, 17, 5, 0, 0, 0, 7, 1, 8, 0, 0, 19, 0, 0, 0, 0, 7, 1, 9, 0, 0, 21, 5, 0, 0, 0, 7, 1, 7, 0, 0};
+    static const uint32_t empty[] = {0, 0, 6, 6, 6, 6}, recorded_numbers[] = {1, 0, 1, 1, 1, 1, 0};
+    enum { STRETCH = FUTTOCKFIG_IMAGE_WORDS(1, 1), COPIES = 4 * STRETCH };
+    uint32_t copies[COPIES], wanted[COPIES];
+    for (size_t i = 0; i < COPIES; i++) copies[i] = wanted[i] = 77;
+    r = futtockfig_record(empty, 6, rows, 1, recorded, 35, vertices, 8, edges, 12, journal, 60, answers, 14, image, STRETCH, copies, COPIES - 1);
+    expect("code of a recorded list, one word short,", 0, r.code, FUTTOCKFIG_SHORT_COPIES);
+    expect("calls done, one word short,", 0, r.done, 0);
+    expect("words, one word short,", 0, r.words, 0);
+    for (size_t i = 0; i < COPIES; i++) expect("copy word, one word short,", i, copies[i], 77);
+    r = futtockfig_record(empty, 6, rows, 1, recorded, 35, vertices, 8, edges, 12, journal, 60, answers, 14, image, STRETCH, copies, COPIES);
+    expect("code of a recorded list", 0, r.code, FUTTOCKFIG_OK);
+    expect("words of a recorded list", 0, r.words, 10);
+    expect("value at the end of a recorded list", 0, image[8], 7);
+    for (size_t i = 0; i < 7; i++) {
+        expect("code of recorded call", i, answers[2 * i], 0);
+        expect("number of recorded call", i, answers[2 * i + 1], recorded_numbers[i]);
+    }
+    for (size_t k = 0; k < 3; k++) {
+        memcpy(wanted + k * STRETCH, (const uint32_t[]){1, 0, 6, 10, 10, 10, 1, 0, (uint32_t)(7 + k), 0}, 40);
+    }
+    for (size_t i = 0; i < COPIES; i++) expect("copy word", i, copies[i], wanted[i]);
+
+    if (!wrong) printf("seven: %d calls, a page, comparisons, orders and a recorded list through the C header, as worked out\n", CALLS);
     return wrong;
 }

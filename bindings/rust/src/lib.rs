@@ -3,7 +3,8 @@
 //! A list of calls is run by [`run`]; each call is five words and is answered by two, a code and a number. The graph
 //! goes in and out as an image, whose parts [`part`] and [`span`] find, whose edges [`page`] puts on paper, and
 //! which [`compare`] holds against another.
-//! [`arrange_vertices`], [`arrange_edges`] and [`arrange_words`] make the calls for any order.
+//! [`arrange_vertices`], [`arrange_edges`] and [`arrange_words`] make the calls for any order. [`record`] runs a list and
+//! keeps the image after every step.
 //! `include/futtockfig.h` describes the graph, every kind of call ([`kind`] has their numbers), every code, the words of an
 //! image, a page, a comparison and an order.
 //!
@@ -32,6 +33,8 @@
 #![warn(missing_docs)]
 
 pub mod raw;
+mod recording;
+pub use recording::{record, Recorded};
 
 use core::fmt;
 use core::ops::Range;
@@ -39,7 +42,7 @@ use raw::{futtockfig_arrange_edges, futtockfig_arrange_vertices, futtockfig_arra
 use raw::{futtockfig_compare, futtockfig_page, futtockfig_part, futtockfig_run};
 
 /// The version of what a caller sees, that of `include/futtockfig.h`.
-pub const VERSION: u32 = 13;
+pub const VERSION: u32 = 14;
 
 /// Kind, a, b, c, d.
 pub type Call = [u32; 5];
@@ -179,6 +182,8 @@ pub enum Refused {
     Record(usize),
     /// 109: the records are good and a list is bad; the offset of the first bad word, from 0.
     Incidence(usize),
+    /// 113: more calls of kinds 1 to 16 than there is room for copies.
+    Copies,
     /// A code that the header does not name.
     Other(u32),
 }
@@ -196,6 +201,7 @@ impl Refused {
             Refused::Page => 107,
             Refused::Record(_) => 108,
             Refused::Incidence(_) => 109,
+            Refused::Copies => 113,
             Refused::Other(code) => code,
         }
     }
@@ -219,6 +225,7 @@ impl Refused {
             107 => Refused::Page,
             108 => Refused::Record(number),
             109 => Refused::Incidence(number),
+            113 => Refused::Copies,
             _ => Refused::Other(code),
         }
     }
@@ -236,6 +243,7 @@ impl fmt::Display for Refused {
             Refused::Page => "the page has under 25 bytes an edge",
             Refused::Record(_) => "a record is bad",
             Refused::Incidence(_) => "a list is bad",
+            Refused::Copies => "the list has more changes than the copies have room for",
             Refused::Other(_) => "unknown code",
         };
         write!(f, "refused, code {}: {why}", self.code())?;

@@ -37,7 +37,7 @@ pub fn each(
 {
     let n = calls.len() / 5;
     let capacity = (journal.len() / 12) as u32;
-    let mut y = store;
+    let mut y = history_calls::same(store);
     let mut k = 0;
     while k < n {
         let command = decode(&calls[5 * k..5 * k + 5]);

@@ -1,5 +1,5 @@
-// The run, the parts of an image, the page, the comparison of two images and calls for an order, for programs in C and
-// Rust: include/futtockfig.h says the same in C.
+// The run, the parts of an image, the page, the comparison of two images, calls for an order and the recorded run, for
+// programs in C and Rust: include/futtockfig.h says the same in C.
 use arrangement::Arrangement;
 use arrangement::arrange_edges;
 use arrangement::arrange_vertices;
@@ -10,6 +10,7 @@ use engine::run::RunResult;
 use engine::run::run;
 use page::Printed;
 use page::print;
+use recorder::record_run;
 ghost use mathlib.Core.Path.{_≡_};
 ghost use lib.ListN.{length};
 ghost use Rattle.machine.specs.Demands.{Demand2};
@@ -20,6 +21,8 @@ ghost use Rattle.engine.specs.Outcomes.{given, left, Untouched, MeetsDemand1, M
 ghost use Rattle.page.specs.Page.{pageOf, printed};
 ghost use Rattle.arrangement.specs.Orders.{outcome, vertexOrder, edgeOrder, wordOrder};
 ghost use Rattle.comparison.specs.Comparison.{comparison};
+ghost use Rattle.recorder.specs.Outcomes.{afterRecording, recording, Untouched as LeavesTables};
+ghost use Rattle.recorder.specs.Outcomes.{MeetsDemand1 as Records1, MeetsDemand2 as Records2};
 
 // A slice is a pointer and a length.
 #[no_mangle]
@@ -115,4 +118,40 @@ pub extern "C" fn futtockfig_arrange_words(
         ≡ wordOrder (now (words .entry)) vertex (now (wanted .entry)) (now (list .entry)) ⌝ }
 {
     arrange_words(words, vertex, wanted, list)
+}
+
+// The run, and a copy of the graph after every step.
+#[no_mangle]
+pub extern "C" fn futtockfig_record(
+    start: &[u32],
+    rows: &[u64],
+    calls: &[u32],
+    vertices: &mut [u32],
+    edges: &mut [u32],
+    journal: &mut [u32],
+    answers: &mut [u32],
+    image: &mut [u32],
+    copies: &mut [u32],
+) -> RunResult
+    ensures { λ r. ⌜ afterRecording (left r answers image) (now (copies .exit))
+        ≡ recording (given start rows calls vertices edges journal answers image) (now (copies .entry)) ⌝ }
+    ensures { λ r. ⌜ LeavesTables (given start rows calls vertices edges journal answers image)
+        (length (now (copies .entry))) vertices edges journal ⌝ }
+    ensures { λ r. ⌜ Records1 (given start rows calls vertices edges journal answers image) (left r answers image)
+        vertices edges journal ⌝ }
+    ensures { λ r. ⌜ Records2 (given start rows calls vertices edges journal answers image) (left r answers image) ⌝ }
+    ensures { λ r. ⌜ MeetsDemand3 (given start rows calls vertices edges journal answers image)
+        (left r answers image) ⌝ }
+{
+    record_run(
+        start,
+        rows,
+        calls,
+        vertices,
+        edges,
+        journal,
+        answers,
+        image,
+        copies,
+    )
 }

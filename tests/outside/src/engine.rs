@@ -10,6 +10,9 @@ use futtockfig::raw::{futtockfig_arrange_edges, futtockfig_arrange_vertices, fut
 use futtockfig::raw::{futtockfig_compare, futtockfig_page, futtockfig_part, futtockfig_run};
 use std::fmt::Display;
 
+mod recording;
+pub use recording::compare_recording;
+
 /// Words before and after each lent slice, which no run may touch.
 const GUARD: usize = 64;
 

@@ -10,6 +10,7 @@ pub mod image;
 pub mod machine;
 pub mod order;
 pub mod page;
+pub mod recording;
 pub mod run;
 pub mod sums;
 pub mod text;

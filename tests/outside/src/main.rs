@@ -98,6 +98,7 @@ fn run_alone(options: &Options) {
     for seed in options.from..options.from + options.seeds {
         let case = gen::case(seed);
         let outcome = case.run();
+        reached.recording(&case.record(case.copies_room(seed)));
         if let Err(message) = demands(&case, &outcome, &mut reached) {
             fail(format!("seed {seed}: {message}"));
         }
@@ -308,9 +309,12 @@ mod compare {
 mod compare {
     use super::*;
     use outside::gen::Size;
-    use outside::{engine, examples};
+    use outside::{engine, examples, recording};
     use std::sync::atomic::{AtomicU64, Ordering};
     use std::time::Duration;
+
+    /// The most words that a recorded list is lent for copies.
+    const MOST_COPIES: usize = 1 << 23;
 
     /// The seed at work, for a report if the engine is killed by a signal.
     static SEED: AtomicU64 = AtomicU64::new(0);
@@ -368,6 +372,12 @@ mod compare {
                     report(seed, &case, &message);
                 }
             }
+            let room = case.copies_room(seed).min(MOST_COPIES);
+            let recorded = case.record(room);
+            if let Err(message) = engine::compare_recording(&case, room, &recorded, seed) {
+                fail(format!("seed {seed}: recorded with {room} words for copies: {message}\n{}", cases::told(&case)));
+            }
+            reached.recording(&recorded);
             if let Err(message) = engine::compare_parts(&gen::words(seed)) {
                 fail(format!("seed {seed}: {message}\nwords {:?}", gen::words(seed)));
             }
@@ -416,6 +426,14 @@ mod compare {
         let grades = examples::every_grade();
         if let Err(message) = engine::compare(&grades, &grades.run(), 1) {
             fail(format!("the grades of all ranges: {message}"));
+        }
+        for (name, calls, words, ..) in recording::examples() {
+            let case = recording::case(calls);
+            for room in [words, words - 1, words + 5] {
+                if let Err(message) = engine::compare_recording(&case, room, &case.record(room), 1) {
+                    fail(format!("{name}, recorded with {room} words for copies: {message}"));
+                }
+            }
         }
         for (code, number, case) in examples::list_codes() {
             if let Err(message) = engine::compare(&case, &Outcome::Refused(code, number), 1) {

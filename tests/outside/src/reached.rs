@@ -2,6 +2,7 @@
 
 use outside::image;
 use outside::machine::{is_change, is_kind};
+use outside::recording::Recorded;
 use outside::run::{Case, Outcome};
 use std::collections::BTreeMap;
 
@@ -24,6 +25,9 @@ pub struct Reached {
     comparisons: BTreeMap<u32, u64>,
     /// Codes of orders by the kind of their calls, 0 among them.
     orders: BTreeMap<(u32, u32), u64>,
+    /// Codes of recorded lists, 0 among them, and the copies made.
+    recordings: BTreeMap<u32, u64>,
+    copies: usize,
     /// What came of starts with vertices, by the size of their records and the code; a wrong degree by its own.
     starts: BTreeMap<(usize, &'static str), u64>,
 }
@@ -73,6 +77,17 @@ impl Reached {
         *self.orders.entry((kind, code)).or_default() += 1;
     }
 
+    pub fn recording(&mut self, recorded: &Recorded) {
+        let code = match recorded {
+            Recorded::Refused(code, _) => *code,
+            Recorded::Done { copies, .. } => {
+                self.copies += copies.len();
+                0
+            }
+        };
+        *self.recordings.entry(code).or_default() += 1;
+    }
+
     /// Kinds never accepted, changes that never altered nothing, and codes never given.
     pub fn missing(&self) -> Vec<String> {
         let kinds = (0..100).filter(|k| is_kind(*k) && !self.kinds.contains_key(k)).map(|k| format!("kind {k}"));
@@ -85,7 +100,8 @@ impl Reached {
         let starts = new.into_iter().chain(old).filter(|s| !self.starts.contains_key(s)).map(|s| format!("start with records of {} words: {}", s.0, s.1));
         let orders = [0, 105, 108, 109, 111, 112].into_iter().flat_map(|code| [12, 14, 16].map(|kind| (kind, code))).chain([(16, 4)]);
         let orders = orders.filter(|o| !self.orders.contains_key(o)).map(|o| format!("order by calls of kind {} with code {}", o.0, o.1));
-        kinds.chain(codes).chain(idle).chain(pages).chain(comparisons).chain(starts).chain(orders).collect()
+        let recordings = [0, 101, 113].into_iter().filter(|c| !self.recordings.contains_key(c)).map(|c| format!("recording with code {c}"));
+        kinds.chain(codes).chain(idle).chain(pages).chain(comparisons).chain(starts).chain(orders).chain(recordings).collect()
     }
 
     pub fn summary(&self) -> String {
@@ -95,8 +111,10 @@ impl Reached {
         let comparisons: u64 = self.comparisons.values().sum();
         let arrived = [12, 14, 16].map(|kind| self.orders.get(&(kind, 0)).copied().unwrap_or(0).to_string()).join(" + ");
         let wrong: u64 = self.orders.iter().filter(|o| o.0 .1 != 0).map(|o| o.1).sum();
+        let recorded: u64 = self.recordings.values().sum();
+        let copies = self.copies;
         format!(
-            "{} lists ({refused} refused), {} calls ({} accepted), {pages} pages, {comparisons} comparisons, {arrived} orders that arrive, {wrong} refused, {points} sums over benches",
+            "{} lists ({refused} refused), {} calls ({} accepted), {pages} pages, {comparisons} comparisons, {arrived} orders that arrive, {wrong} refused, {points} sums over benches, {recorded} recorded lists with {copies} copies",
             self.lists, self.calls, self.accepted
         )
     }

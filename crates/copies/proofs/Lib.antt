@@ -1,0 +1,4 @@
+pub mod RoleLaws
+pub mod CopyLaws
+pub mod PlaceLaws
+pub mod MadeLaws

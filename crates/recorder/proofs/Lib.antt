@@ -1,0 +1,5 @@
+pub mod MoveLaws
+pub mod CoverLaws
+pub mod ListLaws
+pub mod OutcomeLaws
+pub mod Agreement
