@@ -39,7 +39,7 @@ extern "C" {
 #endif
 
 /* What a caller sees; raised with every change to it (docs/CHANGES.md). */
-#define FUTTOCKFIG_VERSION 14
+#define FUTTOCKFIG_VERSION 15
 
 /* Words a row in each table, and the most rows that a table may have. The fewest is 1. */
 #define FUTTOCKFIG_VERTEX_WORDS 8
@@ -180,7 +180,10 @@ enum futtockfig_code {
     FUTTOCKFIG_OTHER_ITEMS = 111,      /* wanted: not the items that are there, each once */
     FUTTOCKFIG_SHORT_LIST = 112,       /* list_len is under 5 for each wanted word but the first */
     /* Of a recorded list, after all codes of a list. */
-    FUTTOCKFIG_SHORT_COPIES = 113      /* more calls of kinds 1 to 16 than copies has stretches */
+    FUTTOCKFIG_SHORT_COPIES = 113,     /* more calls of kinds 1 to 16 than copies has stretches */
+    /* Of a list to be reduced, after all codes of a list. */
+    FUTTOCKFIG_BAD_LIST = 114,         /* over 20,000 calls, or list_len is under calls_len */
+    FUTTOCKFIG_NO_FAILURE = 115        /* no call, or the last call is accepted */
 };
 
 /*
@@ -257,6 +260,41 @@ struct futtockfig_result futtockfig_record(
     uint32_t *answers, size_t answers_len,
     uint32_t *image, size_t image_len,
     uint32_t *copies, size_t copies_len);
+
+/*
+ * REDUCING A LIST
+ *   A list that ends with a refused call is made small, so that its last call still gets the same code. It is run as
+ *   sent; then it is tried without its first call, without its second, and so on up to the one before the last; the last
+ *   call always stays. As soon as the last call gets the same code again, the call left out is dropped for good, and the
+ *   tries begin again at the first of those left. When all earlier calls have been tried since the last drop, it ends: the
+ *   last call has the code, and without any one of the earlier calls it has another, or is accepted. Each list is run on a
+ *   fresh store from start. For n calls up to 1 + n * (n - 1) / 2 lists are run.
+ *
+ *   The calls kept stand in their order, five words each as they were sent, at the front of list; all other words of list
+ *   stay as they were. image is only measured, and image_len must be what futtockfig_run asks.
+ *
+ *   A list that futtockfig_run refuses gets its code and number. Then comes FUTTOCKFIG_BAD_LIST, then FUTTOCKFIG_NO_FAILURE,
+ *   both with 0 and 0. With a code no word of list is written; with NO_FAILURE and OK the tables and answers hold words
+ *   that mean nothing to the caller, with any other code they stay as they were.
+ *
+ *   The caller's duties are those of futtockfig_run; list overlaps none of the others.
+ */
+struct futtockfig_reduction {
+    uint32_t code; /* 0, a code of the whole list, 114 or 115 */
+    size_t kept;   /* calls kept; with 108 and 109 an offset in start, with any other code 0 */
+    size_t runs;   /* lists run; 0 with a code */
+};
+
+struct futtockfig_reduction futtockfig_reduce(
+    const uint32_t *start, size_t start_len,
+    const uint64_t *rows, size_t rows_len,
+    const uint32_t *calls, size_t calls_len,
+    uint32_t *vertices, size_t vertices_len,
+    uint32_t *edges, size_t edges_len,
+    uint32_t *journal, size_t journal_len,
+    uint32_t *answers, size_t answers_len,
+    const uint32_t *image, size_t image_len,
+    uint32_t *list, size_t list_len);
 
 /*
  * AN IMAGE

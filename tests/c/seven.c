@@ -297,6 +297,31 @@ int main(void) {
     }
     for (size_t i = 0; i < COPIES; i++) expect("copy word", i, copies[i], wanted[i]);
 
-    if (!wrong) printf("seven: %d calls, a page, comparisons, orders and a recorded list through the C header, as worked out\n", CALLS);
+    /* A list reduced (REFERENCE 20.7): two calls of four are kept, words beyond them stay; then 115, 114 and 101. */
+    static const uint32_t failing[] = {7, 1, 1, 0, 0, 2, 3, 0, 0, 0, 17, 5, 0, 0, 0, 2, 3, 0, 0, 0}, left[] = {2, 3, 0, 0, 0, 2, 3, 0, 0, 0};
+    uint32_t kept[22];
+    for (size_t i = 0; i < 22; i++) kept[i] = 77;
+    struct futtockfig_reduction d = futtockfig_reduce(
+        seven, seven_len, rows, 1, failing, 20, vertices, 8 * VERTICES, edges, 12 * EDGES, journal, 12 * CHANGES, answers, answers_len, image, image_len, kept, 22);
+    expect("code of a reduction", 0, d.code, FUTTOCKFIG_OK);
+    expect("calls kept", 0, d.kept, 2);
+    expect("lists run", 0, d.runs, 5);
+    for (size_t i = 0; i < 22; i++) expect("word of the reduced list", i, kept[i], i < 10 ? left[i] : 77);
+    static const struct {
+        uint32_t code;
+        size_t words, room;
+    } no_reduction[] = {{FUTTOCKFIG_NO_FAILURE, 5, 5}, {FUTTOCKFIG_BAD_LIST, 5, 4}, {FUTTOCKFIG_NO_FAILURE, 0, 0}, {FUTTOCKFIG_BAD_CALLS, 4, 5}};
+    for (size_t i = 0; i < sizeof no_reduction / sizeof no_reduction[0]; i++) {
+        static const uint32_t first[] = {FUTTOCKFIG_FIRST_VERTEX, 0, 0, 0, 0};
+        d = futtockfig_reduce(
+            seven, seven_len, rows, 1, first, no_reduction[i].words, vertices, 8 * VERTICES, edges, 12 * EDGES, journal, 12 * CHANGES, answers, answers_len,
+            image, image_len, kept + 10, no_reduction[i].room);
+        expect("code of no reduction", i, d.code, no_reduction[i].code);
+        expect("calls kept of no reduction", i, d.kept, 0);
+        expect("lists run of no reduction", i, d.runs, 0);
+    }
+    for (size_t i = 10; i < 22; i++) expect("word beyond the reduced list", i, kept[i], 77);
+
+    if (!wrong) printf("seven: %d calls, a page, comparisons, orders, a recorded list and a reduced one through the C header, as worked out\n", CALLS);
     return wrong;
 }

@@ -35,6 +35,8 @@
 pub mod raw;
 mod recording;
 pub use recording::{record, Recorded};
+mod reduction;
+pub use reduction::{reduce, Reduced};
 
 use core::fmt;
 use core::ops::Range;
@@ -42,7 +44,7 @@ use raw::{futtockfig_arrange_edges, futtockfig_arrange_vertices, futtockfig_arra
 use raw::{futtockfig_compare, futtockfig_page, futtockfig_part, futtockfig_run};
 
 /// The version of what a caller sees, that of `include/futtockfig.h`.
-pub const VERSION: u32 = 14;
+pub const VERSION: u32 = 15;
 
 /// Kind, a, b, c, d.
 pub type Call = [u32; 5];
@@ -184,6 +186,10 @@ pub enum Refused {
     Incidence(usize),
     /// 113: more calls of kinds 1 to 16 than there is room for copies.
     Copies,
+    /// 114: a list to be reduced has over 20,000 calls, or is longer than the list to write to.
+    List,
+    /// 115: a list to be reduced is empty, or its last call is accepted.
+    NoFailure,
     /// A code that the header does not name.
     Other(u32),
 }
@@ -202,6 +208,8 @@ impl Refused {
             Refused::Record(_) => 108,
             Refused::Incidence(_) => 109,
             Refused::Copies => 113,
+            Refused::List => 114,
+            Refused::NoFailure => 115,
             Refused::Other(code) => code,
         }
     }
@@ -226,6 +234,8 @@ impl Refused {
             108 => Refused::Record(number),
             109 => Refused::Incidence(number),
             113 => Refused::Copies,
+            114 => Refused::List,
+            115 => Refused::NoFailure,
             _ => Refused::Other(code),
         }
     }
@@ -244,6 +254,8 @@ impl fmt::Display for Refused {
             Refused::Record(_) => "a record is bad",
             Refused::Incidence(_) => "a list is bad",
             Refused::Copies => "the list has more changes than the copies have room for",
+            Refused::List => "the list has over 20,000 calls, or more words than the list to write to",
+            Refused::NoFailure => "the list is empty, or its last call is accepted",
             Refused::Other(_) => "unknown code",
         };
         write!(f, "refused, code {}: {why}", self.code())?;

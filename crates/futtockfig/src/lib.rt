@@ -1,5 +1,5 @@
-// The run, the parts of an image, the page, the comparison of two images, calls for an order and the recorded run, for
-// programs in C and Rust: include/futtockfig.h says the same in C.
+// The run, the parts of an image, the page, the comparison of two images, calls for an order, the recorded run and the
+// reduction of a list, for programs in C and Rust: include/futtockfig.h says the same in C.
 use arrangement::Arrangement;
 use arrangement::arrange_edges;
 use arrangement::arrange_vertices;
@@ -11,6 +11,8 @@ use engine::run::run;
 use page::Printed;
 use page::print;
 use recorder::record_run;
+use reduction::Reduction;
+use reduction::reduce;
 ghost use mathlib.Core.Path.{_≡_};
 ghost use lib.ListN.{length};
 ghost use Rattle.machine.specs.Demands.{Demand2};
@@ -23,6 +25,8 @@ ghost use Rattle.arrangement.specs.Orders.{outcome, vertexOrder, edgeOrder, wor
 ghost use Rattle.comparison.specs.Comparison.{comparison};
 ghost use Rattle.recorder.specs.Outcomes.{afterRecording, recording, Untouched as LeavesTables};
 ghost use Rattle.recorder.specs.Outcomes.{MeetsDemand1 as Records1, MeetsDemand2 as Records2};
+ghost use Rattle.reduction.specs.Outcomes.{afterReduction, reduction as reductionOf, IsLeast};
+ghost use Rattle.reduction.specs.Outcomes.{Untouched as LeavesAll};
 
 // A slice is a pointer and a length.
 #[no_mangle]
@@ -153,5 +157,36 @@ pub extern "C" fn futtockfig_record(
         answers,
         image,
         copies,
+    )
+}
+
+// The least list whose last call still gets its code. The end image's slice is only measured.
+#[no_mangle]
+pub extern "C" fn futtockfig_reduce(
+    start: &[u32],
+    rows: &[u64],
+    calls: &[u32],
+    vertices: &mut [u32],
+    edges: &mut [u32],
+    journal: &mut [u32],
+    answers: &mut [u32],
+    image: &[u32],
+    list: &mut [u32],
+) -> Reduction
+    ensures { λ r. ⌜ afterReduction r (now (list .exit))
+        ≡ reductionOf (given start rows calls vertices edges journal answers image) (now (list .entry)) ⌝ }
+    ensures { λ r. ⌜ LeavesAll r vertices edges journal answers ⌝ }
+    ensures { λ r. ⌜ IsLeast (given start rows calls vertices edges journal answers image) r ⌝ }
+{
+    reduce(
+        start,
+        rows,
+        calls,
+        vertices,
+        edges,
+        journal,
+        answers,
+        image,
+        list,
     )
 }

@@ -12,6 +12,8 @@ use std::fmt::Display;
 
 mod recording;
 pub use recording::compare_recording;
+mod reduction;
+pub use reduction::compare_reduction;
 
 /// Words before and after each lent slice, which no run may touch.
 const GUARD: usize = 64;

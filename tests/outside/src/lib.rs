@@ -11,6 +11,7 @@ pub mod machine;
 pub mod order;
 pub mod page;
 pub mod recording;
+pub mod reduction;
 pub mod run;
 pub mod sums;
 pub mod text;

@@ -16,6 +16,7 @@ use outside::image;
 use outside::machine::{is_change, Call, Capacities, Graph, Machine, Name, LAST_BENCH};
 use outside::order::Order;
 use outside::page;
+use outside::reduction;
 use outside::run::{Case, Outcome};
 use outside::sums;
 use outside::text;
@@ -40,6 +41,9 @@ struct Options {
 
 /// Seeds that take about a minute.
 const SEEDS: u64 = 10_000;
+
+/// One list in so many is reduced too.
+const REDUCED: u64 = 5;
 
 fn main() {
     let mut options = Options { alone: false, seeds: SEEDS, from: 0, chartrun: None, chartpage: None, vectors: None };
@@ -99,6 +103,10 @@ fn run_alone(options: &Options) {
         let case = gen::case(seed);
         let outcome = case.run();
         reached.recording(&case.record(case.copies_room(seed)));
+        if seed % REDUCED == 0 {
+            let (case, room) = reduction::case(seed);
+            reached.reduction(&case, &case.reduce(room));
+        }
         if let Err(message) = demands(&case, &outcome, &mut reached) {
             fail(format!("seed {seed}: {message}"));
         }
@@ -309,6 +317,7 @@ mod compare {
 mod compare {
     use super::*;
     use outside::gen::Size;
+    use outside::reduction::Reduced;
     use outside::{engine, examples, recording};
     use std::sync::atomic::{AtomicU64, Ordering};
     use std::time::Duration;
@@ -378,6 +387,14 @@ mod compare {
                 fail(format!("seed {seed}: recorded with {room} words for copies: {message}\n{}", cases::told(&case)));
             }
             reached.recording(&recorded);
+            if seed % REDUCED == 0 {
+                let (case, room) = reduction::case(seed);
+                let reduced = case.reduce(room);
+                if let Err(message) = engine::compare_reduction(&case, room, &reduced, seed) {
+                    fail(format!("seed {seed}: reduced to a list of {room} words: {message}\n{}", cases::told(&case)));
+                }
+                reached.reduction(&case, &reduced);
+            }
             if let Err(message) = engine::compare_parts(&gen::words(seed)) {
                 fail(format!("seed {seed}: {message}\nwords {:?}", gen::words(seed)));
             }
@@ -408,6 +425,7 @@ mod compare {
         let seeds = options.from..options.from + (options.seeds / 20).max(50);
         let mut texts = options.chartrun.as_deref().map_or(0, |program| programs::run_chartrun(program, seeds.clone()));
         texts += options.chartpage.as_deref().map_or(0, |program| programs::run_chartpage(program, seeds));
+        println!("outside: no difference in {}", reached.reductions());
         println!("outside: no difference in {}, {kept} vectors, {texts} texts, {} s", reached.summary(), begun.elapsed().as_secs());
     }
 
@@ -432,6 +450,18 @@ mod compare {
             for room in [words, words - 1, words + 5] {
                 if let Err(message) = engine::compare_recording(&case, room, &case.record(room), 1) {
                     fail(format!("{name}, recorded with {room} words for copies: {message}"));
+                }
+            }
+        }
+        for (name, calls, kept, runs) in reduction::EXAMPLES {
+            let case = reduction::on_seven(calls);
+            let reduced = case.reduce(case.calls.len());
+            if reduced != (Reduced::Done { calls: kept.concat(), runs }) {
+                fail(format!("reduced, {name}: the plain machine comes to {reduced:?}"));
+            }
+            for room in [case.calls.len(), case.calls.len() + 9, case.calls.len() - 1] {
+                if let Err(message) = engine::compare_reduction(&case, room, &case.reduce(room), 1) {
+                    fail(format!("reduced, {name}: {message}"));
                 }
             }
         }

@@ -3,6 +3,7 @@
 use outside::image;
 use outside::machine::{is_change, is_kind};
 use outside::recording::Recorded;
+use outside::reduction::Reduced;
 use outside::run::{Case, Outcome};
 use std::collections::BTreeMap;
 
@@ -28,6 +29,9 @@ pub struct Reached {
     /// Codes of recorded lists, 0 among them, and the copies made.
     recordings: BTreeMap<u32, u64>,
     copies: usize,
+    /// Codes of lists that were reduced, 0 among them; the calls sent and kept, and the lists run.
+    reductions: BTreeMap<u32, u64>,
+    shrunk: (usize, usize, usize),
     /// What came of starts with vertices, by the size of their records and the code; a wrong degree by its own.
     starts: BTreeMap<(usize, &'static str), u64>,
 }
@@ -88,6 +92,24 @@ impl Reached {
         *self.recordings.entry(code).or_default() += 1;
     }
 
+    pub fn reduction(&mut self, case: &Case, reduced: &Reduced) {
+        let code = match reduced {
+            Reduced::Refused(code, _) => *code,
+            Reduced::Done { calls, runs } => {
+                self.shrunk.0 += case.calls.len() / 5;
+                self.shrunk.1 += calls.len() / 5;
+                self.shrunk.2 += runs;
+                0
+            }
+        };
+        *self.reductions.entry(code).or_default() += 1;
+    }
+
+    pub fn reductions(&self) -> String {
+        let lists: u64 = self.reductions.values().sum();
+        format!("{lists} lists reduced, {} calls to {} by {} runs", self.shrunk.0, self.shrunk.1, self.shrunk.2)
+    }
+
     /// Kinds never accepted, changes that never altered nothing, and codes never given.
     pub fn missing(&self) -> Vec<String> {
         let kinds = (0..100).filter(|k| is_kind(*k) && !self.kinds.contains_key(k)).map(|k| format!("kind {k}"));
@@ -101,7 +123,8 @@ impl Reached {
         let orders = [0, 105, 108, 109, 111, 112].into_iter().flat_map(|code| [12, 14, 16].map(|kind| (kind, code))).chain([(16, 4)]);
         let orders = orders.filter(|o| !self.orders.contains_key(o)).map(|o| format!("order by calls of kind {} with code {}", o.0, o.1));
         let recordings = [0, 101, 113].into_iter().filter(|c| !self.recordings.contains_key(c)).map(|c| format!("recording with code {c}"));
-        kinds.chain(codes).chain(idle).chain(pages).chain(comparisons).chain(starts).chain(orders).chain(recordings).collect()
+        let reductions = [0, 101, 114, 115].into_iter().filter(|c| !self.reductions.contains_key(c)).map(|c| format!("reduction with code {c}"));
+        kinds.chain(codes).chain(idle).chain(pages).chain(comparisons).chain(starts).chain(orders).chain(recordings).chain(reductions).collect()
     }
 
     pub fn summary(&self) -> String {

@@ -1,0 +1,4 @@
+pub mod ReductionLaws
+pub mod ListLaws
+pub mod TrialLaws
+pub mod OutcomeLaws

@@ -1,0 +1,3 @@
+pub mod Reduction
+pub mod Trials
+pub mod Outcomes
