@@ -236,12 +236,14 @@ struct futtockfig_result futtockfig_run(
 
 /*
  * RECORDING
- *   Runs a list as futtockfig_run does, with the same result, answers and image, and keeps the image after every step.
+ *   Runs a list as futtockfig_run does and keeps the image after every step. Unless the code is FUTTOCKFIG_SHORT_COPIES,
+ *   result, answers and image are those of futtockfig_run.
  *   copies is cut into stretches of FUTTOCKFIG_IMAGE_WORDS(vertex capacity, edge capacity) words; a rest that is shorter
- *   is none. Steps are counted as they are made, through the whole list: one that is undone, cut or committed later keeps
- *   its number, and no number is given twice. A change that is refused, or that alters nothing, is no step. The k-th step
- *   made, from 1, has the k-th stretch, which begins with the words of the graph after it, always a new image. All other
- *   words of copies stay as they were. Undo, redo and going to a mark load the copy of their place; no change is undone.
+ *   is none. Steps have numbers in the order in which they are made, from the first call to the last: one that is undone,
+ *   cut or committed later keeps its own, and none is given twice. A refused change is no step, nor is one that alters
+ *   nothing. The k-th step made, from 1, has the k-th stretch, which begins with the words of the graph after it, always
+ *   a new image. All other words of copies stay as they were. Undo, redo and going to a mark load the copy of their place;
+ *   no change is undone.
  *
  *   A list that futtockfig_run refuses gets its code and number. Then a list with more calls whose kind is 1 to 16,
  *   accepted or not, than copies has stretches gets FUTTOCKFIG_SHORT_COPIES, with done and words 0. A refused list writes
@@ -263,15 +265,15 @@ struct futtockfig_result futtockfig_record(
 
 /*
  * REDUCING A LIST
- *   A list that ends with a refused call is made small, so that its last call still gets the same code. It is run as
- *   sent; then it is tried without its first call, without its second, and so on up to the one before the last; the last
- *   call always stays. As soon as the last call gets the same code again, the call left out is dropped for good, and the
- *   tries begin again at the first of those left. When all earlier calls have been tried since the last drop, it ends: the
- *   last call has the code, and without any one of the earlier calls it has another, or is accepted. Each list is run on a
- *   fresh store from start. For n calls up to 1 + n * (n - 1) / 2 lists are run.
+ *   A list that ends with a refused call is made small, and its last call keeps its code. First the whole list is run. Then
+ *   come tries, runs of the list with one call left out: each call in turn, beginning with the first, but never the last.
+ *   Where the last call has its code again, the call that was left out is gone: what remains is the list from then on, and
+ *   the next try leaves out the first call of that. It ends when, of the list as it then is, every call but the last has
+ *   been left out in vain: without any of them the last call has another code, or is accepted. Each run begins on a fresh
+ *   store with start. For n calls up to 1 + n * (n - 1) / 2 lists are run.
  *
- *   The calls kept stand in their order, five words each as they were sent, at the front of list; all other words of list
- *   stay as they were. image is only measured, and image_len must be what futtockfig_run asks.
+ *   The calls kept are written in their order to the front of list, five words each as sent; all other words of list stay
+ *   as they were. image is only measured, and image_len must be what futtockfig_run asks.
  *
  *   A list that futtockfig_run refuses gets its code and number. Then comes FUTTOCKFIG_BAD_LIST, then FUTTOCKFIG_NO_FAILURE,
  *   both with 0 and 0. With a code no word of list is written; with NO_FAILURE and OK the tables and answers hold words
@@ -357,10 +359,10 @@ struct futtockfig_page_result futtockfig_page(const uint32_t *words, size_t word
 
 /*
  * TWO IMAGES
- *   Two walks of one path, held against each other by their edges. Edges match where number, alpha and omega agree; the
- *   same number with other ends, also with the ends the other way round, is no match. The readings of matched edges
- *   agree where both are heard, no more decimetres apart than the tolerance, or where both are untested or both silent.
- *   Types, values, orders and vertices do not matter.
+ *   Two walks of one path, held against each other by their edges. An edge matches the one of the other image that has its
+ *   number, its alpha and its omega; equal numbers with other ends, be they only exchanged, are no match. The readings of
+ *   a match agree where both are untested, both silent, or both heard, no more decimetres apart than the tolerance. Types,
+ *   values and orders make no difference, and neither do vertices.
  */
 struct futtockfig_comparison {
     uint32_t code; /* 0, 105, 108, 109 or 110; with any but 0 the others are 0, and no offset is told */

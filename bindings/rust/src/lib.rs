@@ -4,9 +4,9 @@
 //! goes in and out as an image, whose parts [`part`] and [`span`] find, whose edges [`page`] puts on paper, and
 //! which [`compare`] holds against another.
 //! [`arrange_vertices`], [`arrange_edges`] and [`arrange_words`] make the calls for any order. [`record`] runs a list and
-//! keeps the image after every step.
+//! keeps the image after every step. [`reduce`] makes a list small whose last call is refused.
 //! `include/futtockfig.h` describes the graph, every kind of call ([`kind`] has their numbers), every code, the words of an
-//! image, a page, a comparison and an order.
+//! image, a page, a comparison, an order, a recorded list and a reduced one.
 //!
 //! The crate links `libfuttockfig.a`, from the folder that the environment variable `FUTTOCKFIG_LIB_DIR` names when it
 //! is built, else from `target/staticlib` of the repository. It allocates nothing and needs no standard library.
@@ -161,7 +161,8 @@ pub struct Done<'a> {
     pub image: &'a [u32],
 }
 
-/// Why a whole list or a page was refused. Nothing was written.
+/// Why a whole list or a page was refused. Nothing was written, but with [`Refused::NoFailure`]: tables and answers then hold
+/// words that mean nothing.
 #[derive(Clone, Copy, Debug, PartialEq, Eq)]
 pub enum Refused {
     /// 101: the words of the calls are no multiple of five.

@@ -12,12 +12,12 @@ pub struct Reduced<'a> {
     pub runs: usize,
 }
 
-/// Leaves out earlier calls of a list whose last call is refused, as long as the last call keeps its code.
+/// Leaves out calls of a list that ends with a refused one, as long as the last call keeps its code.
 ///
-/// The list is run as sent; then it is tried without its first call, without its second, and so on, never without its last.
-/// As soon as the last call gets the same code, that call is dropped and the tries begin again at the first of those left.
-/// What is left gets the same code, and another one, or none, without any one of its earlier calls. Each list is run on a
-/// fresh store from `start`. There may be n(n - 1) / 2 tries for n calls.
+/// First the whole list is run. Then come tries, runs with one call left out: each call in turn, beginning with the first,
+/// but never the last. Where the last call has its code again, the call that was left out is gone, and the next try leaves
+/// out the first call of what remains. So what is left has the same code, and another, or none, if any call but the last is
+/// taken away. Each run begins on a fresh store with `start`. There may be n(n - 1) / 2 tries for n calls.
 ///
 /// The calls kept are written to the front of `list`, whose other words stay; tables and answers are left with words that
 /// mean nothing, `image` is only measured. After all that [`run`](crate::run) refuses come [`Refused::List`] and

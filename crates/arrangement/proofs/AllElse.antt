@@ -3,14 +3,14 @@ use Prim.Native.Nat.{ℕ, _≤_}
 use mathlib.Core.Path.{_≡_, refl, sym, ap, _∙_}
 use mathlib.Core.Logic.{_≢_}
 use mathlib.Core.Bool.{true}
-use mathlib.Core.List.{List, map}
+use mathlib.Core.List.{List, [], _∷_, map}
 use native.Mathlib.Omega.{arith}
 use Rattle.lists.specs.Lists.{count}
 use Rattle.lists.specs.Keyed.{countBy, updateBy}
 use Rattle.lists.specs.Arranged.{inOrder}
 use Rattle.lists.proofs.Arranged.{times, order-keys, order-finds}
 use Rattle.lists.proofs.Counts.{count-by, count-same}
-use Rattle.lists.proofs.KeyedLaws.{find-upd, find-upd-other}
+use Rattle.lists.proofs.KeyedLaws.{key-upd, find-upd, find-upd-other}
 use Rattle.lists.proofs.Sums.{same-alike}
 use Rattle.graph.specs.Graph.{Vertex, Graph, vertexNumber, edgeNumber, noVertex, noEdge, vertex, edge, vertexNumbers, edgeNumbers, listOf}
 use Rattle.graph.specs.WellFormed.{sameWords}
@@ -58,6 +58,19 @@ module _ (g : Graph) (wanted : List ℕ) where
 
     pub list-ordered : 1 ≤ countBy vertexNumber v (g .vseq) → listOf after v ≡ wanted
     list-ordered h = ap (λ (x : Vertex). x .incidences) (find-upd vertexNumber (onList (λ _. wanted)) (λ y. refl) noVertex v (g .vseq) h)
+
+    pub own-kept : 1 ≤ countBy vertexNumber v (g .vseq) → vertex after v ≡ onList (λ _. wanted) (vertex g v)
+    own-kept h = find-upd vertexNumber (onList (λ _. wanted)) (λ y. refl) noVertex v (g .vseq) h
+
+    pub order-stays : vertexNumbers after ≡ vertexNumbers g
+    order-stays = numbers (g .vseq)
+      where
+        numbers : (l : List Vertex) → map vertexNumber (updateBy vertexNumber v (onList (λ _. wanted)) l) ≡ map vertexNumber l
+        numbers [] = refl
+        numbers (y ∷ l) = rw (key-upd vertexNumber (onList (λ _. wanted)) (λ y. refl) v y, numbers l)
+
+    pub rows-stay : after .eseq ≡ g .eseq
+    rows-stay = refl
 
     pub others-kept : (u : ℕ) → v ≢ u → vertex after u ≡ vertex g u
     others-kept u n = find-upd-other vertexNumber (onList (λ _. wanted)) (λ y. refl) noVertex v u (g .vseq) n

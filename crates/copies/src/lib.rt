@@ -168,7 +168,7 @@ fn to_name(set: u64, marks: &[u32], b: u32, c: u32) -> Target
     Target { code: 0, place }
 }
 
-// Where kinds 19, 20, 21 and 57 lead. No other call leads anywhere.
+// Where kinds 19, 20, 21 and 57 lead. No other call leads anywhere. With a code the place is left open.
 pub fn leads_to(store: Store, marks: &[u32], call: HistoryCall) -> Target
     requires { ⌜ Leads call × (length (now marks) ≡ markWords)
         × (store .current .position .place ≤ store .current .position .steps) ⌝ }

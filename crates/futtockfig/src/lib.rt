@@ -176,7 +176,7 @@ pub extern "C" fn futtockfig_reduce(
     ensures { λ r. ⌜ afterReduction r (now (list .exit))
         ≡ reductionOf (given start rows calls vertices edges journal answers image) (now (list .entry)) ⌝ }
     ensures { λ r. ⌜ LeavesAll r vertices edges journal answers ⌝ }
-    ensures { λ r. ⌜ IsLeast (given start rows calls vertices edges journal answers image) r ⌝ }
+    ensures { λ r. ⌜ IsLeast (given start rows calls vertices edges journal answers image) r (now (list .exit)) ⌝ }
 {
     reduce(
         start,

@@ -56,7 +56,8 @@ pub record BenchSentence (w : Parameters) (g : Graph) (xs : List Call) : Type 0 
   -- each step has the bench that stood when it was made, whatever came later
   pub signed-by : map (λ (s : Step). s .bench) (machineAfter w g xs .line .steps) ≡ benchesOf w g xs
   -- of two standing marks, the steps between them that a bench made are counted
-  pub counts : (a b p q c d : ℕ) (h i : Graph) → Kept a p h (eventsOf w g xs) → Kept b q i (eventsOf w g xs) → c < mostBenches
+  pub counts : (a b p q c d : ℕ) (h i : Graph) → Kept a p h (eventsOf w g xs) → Kept b q i (eventsOf w g xs)
+      → c < mostBenches
       → (answer w (machineAfter w g xs) (five 59 a b c d) .code ≡ 0)
       × (answer w (machineAfter w g xs) (five 59 a b c d) .number ≡ count c (benchesBetween p q (benchesOf w g xs)))
   -- what the benches made between two marks adds up to the steps between them; where a mark does not stand, both are 0

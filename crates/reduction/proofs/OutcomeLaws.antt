@@ -1,15 +1,15 @@
 -- What a reduction answers: the lists that it refuses, and what it leaves of any other.
-use Prim.Native.Nat.{ℕ, _/_, _≤_}
-use mathlib.Core.Path.{_≡_, refl, sym, ap, _∙_}
+use Prim.Native.Nat.{ℕ, _*_, _/_, _≤_}
+use mathlib.Core.Path.{_≡_, refl, sym, ap, _∙_, subst}
 use mathlib.Core.Logic.{_≢_, _⊎_, inl, inr}
 use mathlib.Core.Bool.{Bool, true, false, _||_}
-use mathlib.Core.List.{List, []}
+use mathlib.Core.List.{List, [], _∷_}
 use native.Mathlib.Omega.{arith}
-use borrow.Author.Tests.{eq-eqb, ne-eqb, ltb-false}
+use borrow.Author.Tests.{eq-eqb, ne-eqb, eqb-false, ltb-false}
 use lib.Dec.{ltb}
 use lib.ListN.{length, take, drop, length-append, length-drop, List·getD-append}
-use lib.Seq.{take-all}
-use Rattle.lists.specs.Choice.{_==_}
+use lib.Seq.{take-all, take-at}
+use Rattle.lists.specs.Choice.{_⇒_else_, _==_}
 use Rattle.lists.specs.Lists.{range, overwritten, concatMap}
 use Rattle.type_rows.specs.Closure.{closureWords}
 use Rattle.commands.specs.Calls.{Call, callAt, callsOf}
@@ -18,11 +18,11 @@ use Rattle.machine.proofs.ListRows.{Passed, passed}
 use Rattle.machine.proofs.Whole.{calls-length}
 use Rattle.engine.specs.Outcomes.{lent}
 use Rattle.reduction.specs.declared.Reduction.{Reduction}
-use Rattle.reduction.specs.Reduction.{Subsequence, finalOf}
+use Rattle.reduction.specs.Reduction.{Subsequence, finalOf, Least}
 use Rattle.reduction.specs.Trials.{callsAt, Numbered, Ready}
-use Rattle.reduction.specs.Outcomes.{wordsOf, codeOf, least, tooLong, reductionRefusal, afterReduction, reduction, Searched}
+use Rattle.reduction.specs.Outcomes.{AfterReduction, wordsOf, codeOf, least, tooLong, reductionRefusal, afterReduction, reduction, callsIn, IsLeast, Searched}
 use Rattle.reduction.proofs.ListLaws.{range-length, range-front, range-at, picks-all}
-use Rattle.reduction.proofs.ReductionLaws.{left-among}
+use Rattle.reduction.proofs.ReductionLaws.{least as still-least, left-among}
 use Rattle.reduction.proofs.TrialLaws.{calls-many}
 
 or-false : (a b : Bool) → (a || b) ≡ false → (a ≡ false) × (b ≡ false)
@@ -67,6 +67,37 @@ module _ (l : Lent) (list : List ℕ) where
           go : (b : Bool) → (codeOf l (callsOf (l .calls)) == 0) ≡ b → (reduction l list .code ≡ 0) ⊎ (reduction l list .code ≡ 115)
           go true f = inr (rw (eq-eqb (listRefusal l) 0 e, t, f))
           go false f = inl (rw (eq-eqb (listRefusal l) 0 e, t, f))
+
+-- ---- the calls that are told
+
+words-calls : (xs : List Call) → callsOf (concatMap wordsOf xs) ≡ xs
+words-calls [] = refl
+words-calls (x ∷ xs) = ap (λ (ys : List Call). x ∷ ys) (words-calls xs)
+
+words-length : (xs : List Call) → length (concatMap wordsOf xs) ≡ 5 * length xs
+words-length [] = refl
+words-length (x ∷ xs) = omega (arith, words-length xs)
+
+-- at the front of the lent list stand the calls kept
+pub kept-read : (l : Lent) (r : Reduction) (list list′ : List ℕ) → afterReduction r list′ ≡ reduction l list → r .code ≡ 0 → callsIn (r .kept) list′ ≡ least l .kept
+unfolding reduction
+kept-read l r list list′ e z = go (reductionRefusal l (length list) == 0) refl e
+  where
+    go : (t : Bool) → (reductionRefusal l (length list) == 0) ≡ t → afterReduction r list′ ≡ (t ⇒ record {
+      code = 0;
+      kept = length (least l .kept);
+      runs = least l .runs;
+      list = overwritten (concatMap wordsOf (least l .kept)) list;
+    } else record { code = reductionRefusal l (length list); kept = listNumber l; runs = 0; list = list }) → callsIn (r .kept) list′ ≡ least l .kept
+    go true t f =
+        let ws = concatMap wordsOf (least l .kept) in
+        (λ i. callsIn (f i .kept) (f i .list))
+        ∙ ap callsOf (take-at ws (drop (length ws) list) (5 * length (least l .kept)) (words-length (least l .kept)))
+        ∙ words-calls (least l .kept)
+    go false t f = absurd (eqb-false (reductionRefusal l (length list)) 0 t (sym (ap (λ (a : AfterReduction). a .code) f) ∙ z))
+
+pub is-least : (l : Lent) (r : Reduction) (list list′ : List ℕ) → afterReduction r list′ ≡ reduction l list → IsLeast l r list′
+is-least l r list list′ e z = subst (Least (codeOf l) (codeOf l (callsOf (l .calls)))) (sym (kept-read l r list list′ e z)) (still-least (codeOf l) (callsOf (l .calls)))
 
 -- the calls kept are some of those sent, in their order, with the same last one
 pub least-among : (l : Lent) (z : Call) → Subsequence (least l .kept) (callsOf (l .calls)) × (finalOf z (least l .kept) ≡ finalOf z (callsOf (l .calls)))

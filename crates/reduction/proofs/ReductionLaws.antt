@@ -42,6 +42,9 @@ module _ {A : Type 0} (code : List A → ℕ) (c : ℕ) where
         ];
       }
 
+  pub first-within : (k : ℕ) (xs : List A) → firstLoose code c 0 k xs ≤ k
+  first-within k xs = omega (arith, finds 0 k xs .high)
+
   -- one element decided: left out, or kept
   loose-here : (i k : ℕ) (xs : List A) → code (without i xs) ≡ c → firstLoose code c i (suc k) xs ≡ i
   unfolding firstLoose

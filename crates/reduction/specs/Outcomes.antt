@@ -1,5 +1,5 @@
 -- The reduction of a list: its refusals, its result, and the lent list after it.
-use Prim.Native.Nat.{ℕ, _/_, _≤_}
+use Prim.Native.Nat.{ℕ, _*_, _/_, _≤_}
 use mathlib.Core.Path.{_≡_}
 use mathlib.Core.Logic.{_≢_}
 use mathlib.Core.Bool.{Bool, _||_}
@@ -72,9 +72,14 @@ abbrev pub Untouched : Reduction → Slice → Slice → Slice → Slice → Typ
 Untouched r vertices edges journal answers =
     r .code ≢ 0 → r .code ≢ 115 → Same vertices × Same edges × Same journal × Same answers
 
--- what is left has the code of the list as sent, and another code or none without any one of its earlier calls
-abbrev pub IsLeast : Lent → Reduction → Type 0
-IsLeast l r = r .code ≡ 0 → Least (codeOf l) (codeOf l (callsOf (l .calls))) (least l .kept)
+-- so many calls at the front of a list
+abbrev pub callsIn : ℕ → List ℕ → List Call
+callsIn n list = callsOf (take (5 * n) list)
+
+-- with code 0: the calls told, at the front of the lent list, have the code of the list as sent, and another code or
+-- none without any one of the earlier ones
+abbrev pub IsLeast : Lent → Reduction → List ℕ → Type 0
+IsLeast l r list = r .code ≡ 0 → Least (codeOf l) (codeOf l (callsOf (l .calls))) (callsIn (r .kept) list)
 
 -- what a search leaves: the numbers of the calls kept, in front
 pub record Searched (calls kept : List ℕ) (n : ℕ) (r : Reduction) (s : Reduced Call) : Type 0 where

@@ -51,6 +51,11 @@ module _ {A : Type 0} (code : List A → ℕ) (c : ℕ) where
     pub alike : code xs ≡ c
     pub tight : (j : ℕ) → suc j < length xs → code (without j xs) ≢ c
 
+-- 0 + 1 + .. + (n - 1): the pairs of n elements
+abbrev pub pairs : ℕ → ℕ
+pairs zero = 0
+pairs (suc n) = n + pairs n
+
 -- the first list that is run is the whole one
 unfoldable pub reduced : {A : Type 0} → (List A → ℕ) → List A → Reduced A
 unfolding reducedFrom

@@ -339,7 +339,7 @@ pub fn reduce(
     ensures { λ r. ⌜ afterReduction r (now (list .exit))
         ≡ reduction (given start rows calls vertices edges journal answers image) (now (list .entry)) ⌝ }
     ensures { λ r. ⌜ Untouched r vertices edges journal answers ⌝ }
-    ensures { λ r. ⌜ IsLeast (given start rows calls vertices edges journal answers image) r ⌝ }
+    ensures { λ r. ⌜ IsLeast (given start rows calls vertices edges journal answers image) r (now (list .exit)) ⌝ }
 {
     let refused = refusal(
         start,

@@ -74,8 +74,10 @@ attempted x types i free g s t =
 
 pub record One (x : Change) (types i free : ℕ) (s : State) (t : List ℕ) (code cost : ℕ) (s′ : State)
     (t′ : List ℕ) : Type 0 where
-  pub comes : (g : Graph) → HoldsVE (s .vertices) (s .edges) g → outcome code cost s′ t′ ≡ attempted x types i free g s t
-  -- known only where a match has taken the change apart
+  -- whatever graph the tables hold: code, cost and all words after it
+  pub comes : (g : Graph) → HoldsVE (s .vertices) (s .edges) g
+      → outcome code cost s′ t′ ≡ attempted x types i free g s t
+  -- a caller cannot know it: a match has to take the change apart
   pub fits : ChangeFits x
 
 -- of a change that names no type: whatever types there are

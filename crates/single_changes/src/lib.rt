@@ -13,8 +13,7 @@ ghost use Rattle.single_changes.specs.One.{HoldsGraph, One};
 mod kinds; // kinds 1 and 3 to 8, one function each
 mod moves; // kinds 9 to 16
 
-// A change of one edit: `row` is its row, `free` the room in the journal. The deletion of a vertex is refused: its rows
-// are made elsewhere.
+// A change of one edit: `row` is its row, `free` the room in the journal. The deletion of a vertex is refused here.
 pub fn make(
     head: Head,
     vertices: &mut [u32],

@@ -236,8 +236,13 @@ fn first(line: &[u8]) -> u32 {
     low(wide(&n, 0))
 }
 
+// Room for the cases.
+fn room() -> [u8; 100000] {
+    [0; 100000]
+}
+
 fn main() {
-    let mut bytes = [0u8; 400000];
+    let mut bytes = room();
     let count = io::read_full(STDIN_FILENO, &mut bytes);
     cases(between(&bytes, 0, count));
 }

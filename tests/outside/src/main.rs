@@ -465,6 +465,11 @@ mod compare {
                 }
             }
         }
+        for (count, code) in reduction::MANY {
+            if let Err(message) = engine::compare_reduction(&reduction::questions(count), 5 * count, &Reduced::Refused(code, 0), 1) {
+                fail(format!("reduced, {count} calls: {message}"));
+            }
+        }
         for (code, number, case) in examples::list_codes() {
             if let Err(message) = engine::compare(&case, &Outcome::Refused(code, number), 1) {
                 fail(format!("example of code {code}: {message}"));

@@ -76,6 +76,14 @@ pub fn on_seven(calls: &[Call]) -> Case {
     case
 }
 
+/// So many questions on Seven, all of them accepted: one run says 115, where the list is not too long for any.
+pub fn questions(count: usize) -> Case {
+    on_seven(&vec![[30, 0, 0, 0, 0]; count])
+}
+
+/// How many questions are sent, with a list of as many words to write to, and the code.
+pub const MANY: [(usize, u32); 2] = [(20_000, 115), (20_001, 114)];
+
 /// A list on Seven with capacities 10, 10, 20 and one row 0, what is left of it, and the lists run.
 type Example = (&'static str, &'static [Call], &'static [Call], usize);
 
@@ -94,7 +102,7 @@ pub const EXAMPLES: [Example; 4] = [
 
 #[cfg(test)]
 mod tests {
-    use super::{on_seven, Reduced, EXAMPLES};
+    use super::{on_seven, questions, Reduced, EXAMPLES, MANY};
 
     #[test]
     fn as_worked_by_hand() {
@@ -109,5 +117,12 @@ mod tests {
         let mut four = first.clone();
         four.calls.pop();
         assert_eq!(four.reduce(0), Reduced::Refused(101, 0));
+    }
+
+    #[test]
+    fn at_the_limit() {
+        for (count, code) in MANY {
+            assert_eq!(questions(count).reduce(5 * count), Reduced::Refused(code, 0), "{count} calls");
+        }
     }
 }

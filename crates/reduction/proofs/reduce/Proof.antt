@@ -5,13 +5,11 @@ use borrow.Author.Needs.{needs}
 use borrow.Author.Tests.{lt-ltb, le-ltb}
 use lib.ListN.{length}
 use Prim.Native.Nat.{_/_}
-use Rattle.commands.specs.Calls.{callsOf}
 use Rattle.machine.specs.Run.{Lent, listRefusal, listNumber}
 use Rattle.engine.specs.Outcomes.{lent}
 use Rattle.engine.proofs.RunLaws.{lends}
-use Rattle.reduction.specs.Outcomes.{codeOf, AfterReduction}
-use Rattle.reduction.proofs.ReductionLaws.{least}
-use Rattle.reduction.proofs.OutcomeLaws.{by-run, too-long, code-free}
+use Rattle.reduction.specs.Outcomes.{AfterReduction}
+use Rattle.reduction.proofs.OutcomeLaws.{by-run, too-long, code-free, is-least}
 use Rattle.reduction.proofs.reduce.Statement.{statement}
 use Rattle.reduction.proofs.reduce.Tie as tie
 
@@ -30,19 +28,22 @@ returns : tie.Need-returns
 returns c =
     let d = c .before .before .before in
     let t = told d in
-    (by-run (given d) (c .before .before .before .before .before .before .before .before .before .before .before .before .before .args .list .now) _ _ (t .0) (t .1) (c .before .if1 .taken), (λ z y. (refl, refl, refl, refl), λ z. least (codeOf (given d)) (callsOf (given d .calls))))
+    let e = by-run (given d) (c .before .before .before .before .before .before .before .before .before .before .before .before .before .args .list .now) _ _ (t .0) (t .1) (c .before .if1 .taken) in
+    (e, (λ z y. (refl, refl, refl, refl), is-least (given d) _ _ _ e))
 
 returns-2 : tie.Need-returns-2
 returns-2 c =
     let d = c .before .before .before in
     let a = c .before .before .before .before .before .before .before .before .before .before .before .before .before .args in
-    (too-long (given d) (a .list .now) (sym (told d .0) ∙ c .before .if1 .left) (rw (lt-ltb 20000 (length (a .calls .now) / 5) (c .if2 .taken))), (λ z y. (refl, refl, refl, refl), λ z. least (codeOf (given d)) (callsOf (given d .calls))))
+    let e = too-long (given d) (a .list .now) (sym (told d .0) ∙ c .before .if1 .left) (rw (lt-ltb 20000 (length (a .calls .now) / 5) (c .if2 .taken))) in
+    (e, (λ z y. (refl, refl, refl, refl), is-least (given d) _ _ _ e))
 
 returns-3 : tie.Need-returns-3
 returns-3 c =
     let d = c .before .before .before .before in
     let a = c .before .before .before .before .before .before .before .before .before .before .before .before .before .before .args in
-    (too-long (given d) (a .list .now) (sym (told d .0) ∙ c .before .before .if1 .left) (rw (le-ltb 20000 (length (a .calls .now) / 5) (c .before .if2 .left), lt-ltb (length (a .list .now)) (length (a .calls .now)) (c .if3 .taken))), (λ z y. (refl, refl, refl, refl), λ z. least (codeOf (given d)) (callsOf (given d .calls))))
+    let e = too-long (given d) (a .list .now) (sym (told d .0) ∙ c .before .before .if1 .left) (rw (le-ltb 20000 (length (a .calls .now) / 5) (c .before .if2 .left), lt-ltb (length (a .list .now)) (length (a .calls .now)) (c .if3 .taken))) in
+    (e, (λ z y. (refl, refl, refl, refl), is-least (given d) _ _ _ e))
 
 reduced-requires : tie.Need-reduced-requires
 reduced-requires c κs =
@@ -57,7 +58,7 @@ returns-4 c =
     let e = c .before .before .before .before .before .before .before .before .before .before .reduced .ensures in
     let f = ap (λ (r : AfterReduction). r .code) e in
     let k = code-free (given d) (a .list .now) (sym (told d .0) ∙ c .before .before .before .before .before .before .before .before .before .before .before .before .before .before .before .before .before .before .if1 .left) (rw (le-ltb 20000 (length (a .calls .now) / 5) (c .before .before .before .before .before .before .before .before .before .before .before .before .before .before .before .before .before .if2 .left), le-ltb (length (a .list .now)) (length (a .calls .now)) (c .before .before .before .before .before .before .before .before .before .before .before .before .before .before .before .before .if3 .left))) in
-    (e, (λ z y. absurd (⊎-elim (λ q. z (f ∙ q)) (λ q. y (f ∙ q)) k), λ z. least (codeOf (given d)) (callsOf (given d .calls))))
+    (e, (λ z y. absurd (⊎-elim (λ q. z (f ∙ q)) (λ q. y (f ∙ q)) k), is-least (given d) _ _ _ e))
 
 pub reduce-spec : {M : Type 1} → statement M
 reduce-spec =
