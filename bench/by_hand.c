@@ -711,6 +711,7 @@ static size_t save(const struct store *s, u32 *restrict image) {
     return (size_t)(to - image);
 }
 
+#ifndef BY_HAND_NO_RUN
 struct futtockfig_result BY_HAND_RUN(
     const u32 *start, size_t start_len, const u64 *rows, size_t rows_len, const u32 *calls, size_t calls_len,
     u32 *vertices, size_t vertices_len, u32 *edges, size_t edges_len, u32 *journal, size_t journal_len,
@@ -790,3 +791,4 @@ struct futtockfig_page_result BY_HAND_PAGE(const u32 *words, size_t words_len, u
     for (; r.bytes < bytes; r.bytes += FUTTOCKFIG_PAGE_ROW, e += 6) row(page + r.bytes, e);
     return r;
 }
+#endif

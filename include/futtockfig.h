@@ -21,7 +21,8 @@
  *   the place by one step. A change made at an earlier place cuts the steps after it, and the marks that stand at places
  *   after it. A mark (1 to 64) records a place, and going to it brings back the graph held there. Commit forgets all
  *   steps and marks and keeps the graph. A step costs 1 change, deleting a vertex 1 + the number of distinct edges at
- *   it. Free changes are the journal's capacity less the costs of the steps up to the present place.
+ *   it. Free changes are the journal's capacity less the costs of the steps up to the present place; with several stores
+ *   they may be fewer (SEVERAL STORES, below).
  *   A standing mark may have a name, two words that are not both 0. No two standing marks have the same, and a name goes
  *   when its mark goes. A name may be any words; as text it is up to eight bytes, the first lowest in the first word,
  *   with zeros behind (FUTTOCKFIG_NAME_WORD).
@@ -39,7 +40,7 @@ extern "C" {
 #endif
 
 /* What a caller sees; raised with every change to it (docs/CHANGES.md). */
-#define FUTTOCKFIG_VERSION 15
+#define FUTTOCKFIG_VERSION 16
 
 /* Words a row in each table, and the most rows that a table may have. The fewest is 1. */
 #define FUTTOCKFIG_VERTEX_WORDS 8
@@ -50,8 +51,12 @@ extern "C" {
 #define FUTTOCKFIG_MOST_CHANGES 20000
 #define FUTTOCKFIG_MOST_TYPES 64
 
-/* Words a call and words an answer. */
+/* The most stores of one run. */
+#define FUTTOCKFIG_MOST_STORES 8
+
+/* Words a call, words a call to one of several stores, and words an answer. */
 #define FUTTOCKFIG_CALL_WORDS 5
+#define FUTTOCKFIG_STORE_CALL_WORDS 6
 #define FUTTOCKFIG_ANSWER_WORDS 2
 
 /* Four bytes of a name as a word: 'r', 'e', 'c', 'e' and 'i', 'v', 'e', 'd' are the two words of "received". */
@@ -150,7 +155,8 @@ enum futtockfig_code {
     FUTTOCKFIG_NOT_A_READING = 7,
     FUTTOCKFIG_OTHER_LIST = 8,         /* kinds 15, 16, 48: the words are seen from different vertices */
     FUTTOCKFIG_SAME_TWICE = 9,         /* kinds 11 to 16: a equals b */
-    FUTTOCKFIG_NO_ROOM = 10,           /* a change that would alter the graph: its cost is above the free changes */
+    FUTTOCKFIG_NO_ROOM = 10,           /* a change that would alter the graph: its cost is above the free changes; with
+                                          several stores also kinds 20, 21, 57: what they redo costs more than is free */
     FUTTOCKFIG_BAD_MARK = 11,          /* a mark named is not 1 to 64 */
     FUTTOCKFIG_MARK_STANDS = 12,       /* kind 17 */
     FUTTOCKFIG_NO_SUCH_MARK = 13,      /* kinds 18, 21, 49, 56, 59: some mark that is named is not standing */
@@ -161,10 +167,12 @@ enum futtockfig_code {
     FUTTOCKFIG_BAD_NAME = 18,          /* kind 56: both words of the name are 0, or another standing mark has it */
     FUTTOCKFIG_NO_SUCH_NAME = 19,      /* kind 57: no standing mark has that name; two zeros are no mark's */
     FUTTOCKFIG_BAD_BENCH = 20,         /* kinds 58, 59: a bench above 99 */
+    FUTTOCKFIG_NO_SUCH_STORE = 21,     /* only with several stores: the number is 0 or above theirs. It is looked at first,
+                                          so no other code is told of such a call */
     /* Of the whole list. Nothing is run and nothing is written, tables included. */
-    FUTTOCKFIG_BAD_CALLS = 101,        /* calls_len is not a multiple of 5 */
+    FUTTOCKFIG_BAD_CALLS = 101,        /* calls_len is not a multiple of 5, with several stores of 6 */
     FUTTOCKFIG_SHORT_ANSWERS = 102,    /* answers_len is under 2 a call */
-    FUTTOCKFIG_BAD_CAPACITY = 103,     /* a capacity is 0 or above its limit */
+    FUTTOCKFIG_BAD_CAPACITY = 103,     /* a capacity is 0 or above its limit; or stores is */
     FUTTOCKFIG_BAD_ROWS = 104,         /* no type row, over 64, or a bit n or above is set */
     FUTTOCKFIG_BAD_START = 105,        /* start: under six words; a length, offset or total that does not fit the
                                           counts, be it as new or as old words; a count above its capacity; edges and
@@ -233,6 +241,44 @@ struct futtockfig_result futtockfig_run(
     uint32_t *journal, size_t journal_len,
     uint32_t *answers, size_t answers_len,
     uint32_t *image, size_t image_len);
+
+/*
+ * SEVERAL STORES
+ *   One run for up to 8 stores, which are numbered from 1. Each has a graph with its history, marks, names and bench, as
+ *   if it were alone; what they have in common is the type rows, and a limit on the changes that all of them remember.
+ *
+ *   vertices, edges, journal and image are each cut into parts of length / stores words, rounded down, and store s has
+ *   the s-th part of each. A part gives the store's capacities; what futtockfig_run asks of a length is asked of a part.
+ *   Words behind the last part are not used and stay as they were. answers are not cut.
+ *   start has the image of store 1, right behind it that of store 2, and so on. An image ends where its sixth word says
+ *   and is judged by itself. The first that does not load gives 105, 108 or 109, also with words behind it; the offset is
+ *   counted from the first word of start. It is 105 where there are fewer words than the sixth says, or no sixth. When
+ *   all have loaded, words that are left over give 105.
+ *   calls has six words a call: the store's number, then the five. limit may be any word.
+ *
+ *   The joint room is limit less the costs, over all stores, of the steps up to each one's present place. A store's free
+ *   changes are the smaller of the joint room and what its own part of the journal leaves: kind 51 answers it, and it
+ *   decides about FUTTOCKFIG_NO_ROOM. A redo, or going ahead to a mark or a name, needs room for the steps that it does
+ *   again. Going back, undo and commit need none, and what they free is there for every store. Steps and marks ahead stay
+ *   while there is no room to go there.
+ *
+ *   done counts all calls, also those to no store. words is the sum of the end images' lengths; each stands at the front
+ *   of its part, and its sixth word is its length. Otherwise codes, turns, and what is written are as in futtockfig_run.
+ *   With one store, and the journal's capacity as limit, so is every word but in one case: where words stand behind the
+ *   first image of start and it has a bad record or list, the code here is 108 or 109, and there 105.
+ *
+ *   The caller's duties are those of futtockfig_run.
+ */
+struct futtockfig_result futtockfig_run_stores(
+    const uint32_t *start, size_t start_len,
+    const uint64_t *rows, size_t rows_len,
+    const uint32_t *calls, size_t calls_len,
+    uint32_t *vertices, size_t vertices_len,
+    uint32_t *edges, size_t edges_len,
+    uint32_t *journal, size_t journal_len,
+    uint32_t *answers, size_t answers_len,
+    uint32_t *image, size_t image_len,
+    uint32_t stores, uint32_t limit);
 
 /*
  * RECORDING

@@ -4,6 +4,7 @@ use outside::gen::{self, Random};
 use outside::image;
 use outside::machine::{Call, Capacities, Graph};
 use outside::run::Case;
+use outside::stores::Several;
 
 pub const CAPACITIES: Capacities = Capacities { vertices: 1_000, edges: 4_000, changes: 20_000 };
 /// Types 0 to 7, with 2 and 3 below 1 and 4 below 2.
@@ -68,6 +69,49 @@ pub fn growing() -> Vec<Vec<Load>> {
         [0, 100, 1_000, 20_000].map(list).into()
     };
     [10, 100, 1_000].map(lists).into()
+}
+
+/// A load of several stores.
+pub struct Shared {
+    pub name: String,
+    pub several: Several,
+    /// The same with fewer calls, for the plain machines.
+    pub short: Several,
+}
+
+/// The tables of the other loads cut into eight, each store with a full graph, and 20,000 edits, which the limit just
+/// allows: the stores in turn, one call or many at a time.
+pub fn eight() -> Vec<Shared> {
+    const STORES: u32 = 8;
+    let capacities = Capacities { vertices: 125, edges: 500, changes: 2_500 };
+    let most = (capacities.vertices, capacities.edges);
+    let graphs: Vec<Graph> = (1..=STORES).map(|i| gen::graph(&mut Random::new(i as u64), capacities, ROWS.len() as u32, most, true)).collect();
+    let edits: Vec<Vec<Call>> = graphs.iter().map(|g| edits(g, 2_500)).collect();
+    let whole = Case::new(CAPACITIES, &ROWS, &[]);
+    let start: Vec<u32> = graphs.iter().flat_map(image::save).collect();
+    let list = |at_a_time: usize, each: usize| {
+        let mut calls = Vec::new();
+        for from in (0..each).step_by(at_a_time) {
+            for (store, list) in (1..).zip(&edits) {
+                calls.extend(list[from..each.min(from + at_a_time)].iter().flat_map(|call| [&[store], &call[..]].concat()));
+            }
+        }
+        let answers = calls.len() / 3;
+        // As many words as eight parts ask for.
+        let image = STORES as usize * outside::run::image_room(capacities);
+        Several { case: Case { start: start.clone(), calls, answers, image, ..whole.clone() }, stores: STORES, limit: 20_000 }
+    };
+    let load = |name: &str, at_a_time| Shared { name: name.into(), several: list(at_a_time, 2_500), short: list(at_a_time, 125) };
+    vec![
+        load("20,000 edits, eight stores in turn", 1),
+        load("20,000 edits, eight stores, 10 calls at a time", 10),
+        load("20,000 edits, eight stores, 500 calls at a time", 500),
+    ]
+}
+
+/// A load of one store as one of several.
+pub fn alone(load: &Load) -> Shared {
+    Shared { name: load.name.into(), several: Several::alone(&load.case), short: Several::alone(&load.short) }
 }
 
 /// Two calls in turn, after some others.

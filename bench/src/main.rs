@@ -6,6 +6,7 @@ mod loads;
 use outside::comparison;
 use outside::gen::{self, Random};
 use outside::run::{Case, Outcome};
+use outside::stores::{Ended, Several};
 use std::time::{Duration, Instant};
 
 #[repr(C)]
@@ -21,6 +22,26 @@ type Run = unsafe extern "C" fn(
     *const u32, usize, *const u64, usize, *const u32, usize,
     *mut u32, usize, *mut u32, usize, *mut u32, usize, *mut u32, usize, *mut u32, usize,
 ) -> RunResult;
+
+#[rustfmt::skip]
+type RunStores = unsafe extern "C" fn(
+    *const u32, usize, *const u64, usize, *const u32, usize,
+    *mut u32, usize, *mut u32, usize, *mut u32, usize, *mut u32, usize, *mut u32, usize, u32, u32,
+) -> RunResult;
+
+#[rustfmt::skip]
+extern "C" {
+    fn futtockfig_run_stores(
+        start: *const u32, start_len: usize, rows: *const u64, rows_len: usize, calls: *const u32, calls_len: usize,
+        vertices: *mut u32, vertices_len: usize, edges: *mut u32, edges_len: usize, journal: *mut u32, journal_len: usize,
+        answers: *mut u32, answers_len: usize, image: *mut u32, image_len: usize, stores: u32, limit: u32,
+    ) -> RunResult;
+    fn by_hand_run_stores(
+        start: *const u32, start_len: usize, rows: *const u64, rows_len: usize, calls: *const u32, calls_len: usize,
+        vertices: *mut u32, vertices_len: usize, edges: *mut u32, edges_len: usize, journal: *mut u32, journal_len: usize,
+        answers: *mut u32, answers_len: usize, image: *mut u32, image_len: usize, stores: u32, limit: u32,
+    ) -> RunResult;
+}
 
 #[rustfmt::skip]
 extern "C" {
@@ -110,6 +131,46 @@ impl Buffers {
         (result, now() - begun)
     }
 
+    fn serve(&mut self, program: RunStores, several: &Several) -> (RunResult, Duration) {
+        let case = &several.case;
+        let begun = now();
+        // SAFETY: each pointer is to its own slice of the given length.
+        let result = unsafe {
+            program(
+                case.start.as_ptr(),
+                case.start.len(),
+                case.rows.as_ptr(),
+                case.rows.len(),
+                case.calls.as_ptr(),
+                case.calls.len(),
+                self.vertices.as_mut_ptr(),
+                self.vertices.len(),
+                self.edges.as_mut_ptr(),
+                self.edges.len(),
+                self.journal.as_mut_ptr(),
+                self.journal.len(),
+                self.answers.as_mut_ptr(),
+                self.answers.len(),
+                self.image.as_mut_ptr(),
+                self.image.len(),
+                several.stores,
+                several.limit,
+            )
+        };
+        (result, now() - begun)
+    }
+
+    fn ended(&mut self, program: RunStores, several: &Several) -> Ended {
+        let (result, _) = self.serve(program, several);
+        if result.code != 0 {
+            return Ended::Refused(result.code, result.done);
+        }
+        let part = self.image.len() / several.stores as usize;
+        let images: Vec<Vec<u32>> = self.image.chunks_exact(part).take(several.stores as usize).map(|part| part[..part[5] as usize].to_vec()).collect();
+        check("the images of several stores have other words than are told", images.iter().map(Vec::len).sum::<usize>() == result.words);
+        Ended::Done { answers: self.answers[..2 * result.done].to_vec(), images }
+    }
+
     fn outcome(&mut self, program: Run, case: &Case) -> Outcome {
         let (result, _) = self.run(program, case);
         match result.code {
@@ -145,6 +206,70 @@ fn compare(all: &[loads::Load]) {
     }
 }
 
+/// The same of several stores.
+fn compare_stores(all: &[loads::Shared]) {
+    for seed in 0..500 {
+        let several = gen::several(seed % 498);
+        check(
+            &format!("the C by hand differs from the plain machines at seed {seed}"),
+            Buffers::new(&several.case).ended(by_hand_run_stores, &several) == several.run(),
+        );
+    }
+    for load in all {
+        let mut buffers = Buffers::new(&load.short.case);
+        let plain = load.short.run();
+        check(&format!("{}: the C by hand differs from the plain machines", load.name), buffers.ended(by_hand_run_stores, &load.short) == plain);
+        check(&format!("{}: the engine differs from the plain machines", load.name), buffers.ended(futtockfig_run_stores, &load.short) == plain);
+        let mut buffers = Buffers::new(&load.several.case);
+        let by_hand = buffers.ended(by_hand_run_stores, &load.several);
+        let accepted = matches!(&by_hand, Ended::Done { answers, .. } if answers.chunks(2).all(|a| a[0] == 0));
+        check(&format!("{}: a call was refused", load.name), accepted);
+        check(&format!("{}: the engine differs from the C by hand", load.name), buffers.ended(futtockfig_run_stores, &load.several) == by_hand);
+    }
+}
+
+/// The best time of both programs of several stores.
+fn best_stores(several: &Several, time: Duration) -> [Duration; 2] {
+    let mut buffers = Buffers::new(&several.case);
+    let mut best = [Duration::MAX; 2];
+    let begun = Instant::now();
+    let mut rounds = 0;
+    while rounds < 5 || begun.elapsed() < time {
+        for (i, program) in [by_hand_run_stores as RunStores, futtockfig_run_stores].into_iter().enumerate() {
+            best[i] = best[i].min(buffers.serve(program, several).1);
+        }
+        rounds += 1;
+    }
+    best
+}
+
+/// Several stores: every load by the entry of several with one store, beside the other entry, then eight stores.
+fn several_stores(all: &[loads::Load], time: Duration) {
+    let one: Vec<loads::Shared> = all.iter().map(loads::alone).collect();
+    let eight = loads::eight();
+    compare_stores(&one);
+    compare_stores(&eight);
+    println!();
+    println!("One store by both entries:");
+    println!();
+    println!("| load | engine, five words, µs | six words, µs | six ÷ five | C by hand, six words, µs |");
+    println!("|---|---|---|---|---|");
+    for (load, shared) in all.iter().zip(&one) {
+        let five = micros(best(&load.case, &[futtockfig_run], time)[0]);
+        let [by_hand, six] = best_stores(&shared.several, time).map(micros);
+        println!("| {} | {five:.1} | {six:.1} | {:.2} | {by_hand:.1} |", load.name, six / five);
+    }
+    println!();
+    println!("Eight stores in the same tables, 125 vertices and 500 edges each, limit 20,000:");
+    println!();
+    println!("| load | C by hand, µs | engine, µs | engine ÷ C |");
+    println!("|---|---|---|---|");
+    for load in &eight {
+        let [by_hand, engine] = best_stores(&load.several, time).map(micros);
+        println!("| {} | {by_hand:.1} | {engine:.1} | {:.2} |", load.name, engine / by_hand);
+    }
+}
+
 /// The best time of each program over rounds in turn.
 fn best(case: &Case, programs: &[Run], time: Duration) -> Vec<Duration> {
     let mut buffers = Buffers::new(case);
@@ -165,10 +290,10 @@ fn micros(time: Duration) -> f64 {
 }
 
 /// A load as a file for bench/count.c: eight lengths of 64 bits (start, rows, calls, vertices, edges, journal, answers,
-/// image), then the words of start, rows and calls.
-fn save(load: &loads::Load, path: &str) {
-    let case = &load.case;
+/// image), the number of stores, 0 for a call of five words, and the limit; then the words of start, rows and calls.
+fn save(case: &Case, stores: u32, limit: u32, path: &str) {
     let lengths = [case.start.len(), case.rows.len(), case.calls.len(), case.vertices, case.edges, case.journal, case.answers, case.image];
+    let lengths = lengths.into_iter().chain([stores as usize, limit as usize]).collect::<Vec<_>>();
     let mut bytes: Vec<u8> = lengths.iter().flat_map(|n| (*n as u64).to_le_bytes()).collect();
     bytes.extend(case.start.iter().flat_map(|w| w.to_le_bytes()));
     bytes.extend(case.rows.iter().flat_map(|w| w.to_le_bytes()));
@@ -180,14 +305,22 @@ fn main() {
     let words: Vec<String> = std::env::args().skip(1).collect();
     if words.first().is_some_and(|w| w == "--save") {
         for (i, load) in loads::all().iter().enumerate() {
-            save(load, &format!("{}/{i}.load", words[1]));
+            save(&load.case, 0, 0, &format!("{}/{i}.load", words[1]));
+            println!("{}", load.name);
+        }
+        return;
+    }
+    if words.first().is_some_and(|w| w == "--save-stores") {
+        let one = loads::all().into_iter().map(|load| loads::alone(&load));
+        for (i, load) in one.chain(loads::eight()).enumerate() {
+            save(&load.several.case, load.several.stores, load.several.limit, &format!("{}/{i}.stores", words[1]));
             println!("{}", load.name);
         }
         return;
     }
     if words.first().is_some_and(|w| w == "--save-growth") {
         for (i, load) in loads::growing().iter().flatten().enumerate() {
-            save(load, &format!("{}/{i}.growth", words[1]));
+            save(&load.case, 0, 0, &format!("{}/{i}.growth", words[1]));
             println!("{} {}", load.case.vertices / 8, load.case.calls.len() / 5);
         }
         return;
@@ -224,6 +357,7 @@ fn main() {
     }
     check_alone(&all, Duration::from_secs(seconds));
     two_images(&all, Duration::from_secs(seconds));
+    several_stores(&all, Duration::from_secs(seconds));
     growth(Duration::from_secs(seconds));
 }
 

@@ -1,4 +1,5 @@
-/* Seven (REFERENCE 15.1) through the C header: answers, image, parts, page, comparison and orders are compared with worked ones. */
+/* Seven (REFERENCE 15.1) through the C header: answers, images, parts, page, comparison, orders, a recorded list, a reduced
+   one and one of several stores are compared with worked ones. */
 #include "../../include/futtockfig.h"
 
 #include <stdio.h>
@@ -112,6 +113,96 @@ static void arrange(void) {
     uint32_t calls[1];
     struct futtockfig_arrangement a = futtockfig_arrange_words(seven, sizeof seven / 4 - 1, 5, seven, 0, calls, 0);
     expect("code of order, one word short,", 0, a.code, FUTTOCKFIG_BAD_START);
+}
+
+/* Two stores, Seven in old words and the empty graph, with one limit of 3 (REFERENCE 21.11). Each table, the answers and the
+   image have a word more than the two parts, which stays. */
+static void several(void) {
+    enum { SHARED = 15, IMAGE = 2 * FUTTOCKFIG_IMAGE_WORDS(VERTICES, EDGES), START = sizeof old_seven / 4 };
+    static const struct {
+        uint32_t call[FUTTOCKFIG_STORE_CALL_WORDS], code, number;
+    } shared[SHARED] = {
+        {{1, FUTTOCKFIG_SET_VALUE, 1, 1}, 0, 1},
+        {{2, FUTTOCKFIG_CREATE_VERTEX, 1, 0, 5}, 0, 1},
+        {{1, FUTTOCKFIG_FREE_CHANGES}, 0, 1},
+        {{1, FUTTOCKFIG_SET_VALUE, 1, 2}, 0, 1},
+        {{2, FUTTOCKFIG_FREE_CHANGES}, 0, 0},
+        {{2, FUTTOCKFIG_CREATE_VERTEX, 2}, FUTTOCKFIG_NO_ROOM, 0},
+        {{1, FUTTOCKFIG_UNDO}, 0, 1},
+        {{2, FUTTOCKFIG_CREATE_VERTEX, 2}, 0, 1},
+        {{1, FUTTOCKFIG_REDO}, FUTTOCKFIG_NO_ROOM, 0},
+        {{1, FUTTOCKFIG_FREE_CHANGES}, 0, 0},
+        {{2, FUTTOCKFIG_UNDO}, 0, 1},
+        {{1, FUTTOCKFIG_REDO}, 0, 1},
+        {{3, FUTTOCKFIG_FREE_CHANGES}, FUTTOCKFIG_NO_SUCH_STORE, 0},
+        {{0, 99}, FUTTOCKFIG_NO_SUCH_STORE, 0},
+        {{1, 99}, FUTTOCKFIG_NO_SUCH_KIND, 0},
+    };
+    static uint32_t vertices[160 + 1], edges[240 + 1], journal[480 + 1], answers[2 * SHARED + 1], image[IMAGE + 1];
+    uint32_t start[START + 10], calls[6 * SHARED];
+    uint64_t rows[1] = {0};
+    for (size_t i = 0; i < SHARED; i++) memcpy(calls + 6 * i, shared[i].call, 24);
+    memset(vertices, 0xa5, sizeof vertices);
+    memset(edges, 0xa5, sizeof edges);
+    memset(journal, 0xa5, sizeof journal);
+    memset(answers, 0xff, sizeof answers);
+    memset(image, 0xff, sizeof image);
+    memcpy(start, old_seven, sizeof old_seven);
+
+    /* Lists that are refused: what stands behind Seven, the number of stores, and the words of calls and image. */
+    static const struct {
+        uint32_t behind[10];
+        size_t behind_len, calls_len, image_len;
+        uint32_t stores, code;
+        size_t done;
+    } refused[] = {
+        {{1, 0, 6, 9, 9, 9, 0, 0, 0}, 9, 90, 252, 2, FUTTOCKFIG_BAD_RECORD, 80},
+        {{1, 0, 6, 9, 9, 9, 0, 0, 0, 0}, 10, 90, 252, 2, FUTTOCKFIG_BAD_RECORD, 80},
+        {{1, 0, 6, 9, 9, 9, 1, 0, 0, 0}, 10, 90, 252, 2, FUTTOCKFIG_BAD_START, 0},
+        {{1, 0, 6, 9, 9, 9, 1, 0}, 8, 90, 252, 2, FUTTOCKFIG_BAD_START, 0},
+        {{0, 0, 6, 6, 6}, 5, 90, 252, 2, FUTTOCKFIG_BAD_START, 0},
+        {{0}, 0, 90, 252, 2, FUTTOCKFIG_BAD_START, 0},
+        {{0, 0, 6, 6, 6, 6}, 6, 90, 252, 0, FUTTOCKFIG_BAD_CAPACITY, 0},
+        {{0, 0, 6, 6, 6, 6}, 6, 90, 252, FUTTOCKFIG_MOST_STORES + 1, FUTTOCKFIG_BAD_CAPACITY, 0},
+        {{0, 0, 6, 6, 6, 6}, 6, 90, 252, 0xffffffff, FUTTOCKFIG_BAD_CAPACITY, 0},
+        {{0, 0, 6, 6, 6, 6}, 6, 85, 252, 2, FUTTOCKFIG_BAD_CALLS, 0},
+        {{0, 0, 6, 6, 6, 6}, 6, 90, 251, 2, FUTTOCKFIG_SHORT_IMAGE, 0},
+    };
+    for (size_t i = 0; i < sizeof refused / sizeof refused[0]; i++) {
+        memcpy(start + START, refused[i].behind, sizeof refused[i].behind);
+        struct futtockfig_result r = futtockfig_run_stores(
+            start, START + refused[i].behind_len, rows, 1, calls, refused[i].calls_len, vertices, 160, edges, 240, journal, 480, answers, 2 * SHARED, image,
+            refused[i].image_len, refused[i].stores, 3);
+        expect("code of refused stores", i, r.code, refused[i].code);
+        expect("offset of refused stores", i, r.done, refused[i].done);
+        expect("words of refused stores", i, r.words, 0);
+    }
+    for (size_t i = 0; i < sizeof vertices / 4; i++) expect("vertex word of refused stores", i, vertices[i], 0xa5a5a5a5);
+    for (size_t i = 0; i < sizeof edges / 4; i++) expect("edge word of refused stores", i, edges[i], 0xa5a5a5a5);
+    for (size_t i = 0; i < sizeof journal / 4; i++) expect("journal word of refused stores", i, journal[i], 0xa5a5a5a5);
+    for (size_t i = 0; i < sizeof answers / 4; i++) expect("answer word of refused stores", i, answers[i], 0xffffffff);
+    for (size_t i = 0; i < sizeof image / 4; i++) expect("image word of refused stores", i, image[i], 0xffffffff);
+
+    memcpy(start + START, (const uint32_t[]){0, 0, 6, 6, 6, 6}, 24);
+    struct futtockfig_result r = futtockfig_run_stores(
+        start, START + 6, rows, 1, calls, 6 * SHARED, vertices, 161, edges, 241, journal, 481, answers, 2 * SHARED + 1, image, IMAGE + 1, 2, 3);
+    expect("code of two stores", 0, r.code, FUTTOCKFIG_OK);
+    expect("calls done by two stores", 0, r.done, SHARED);
+    expect("words of two stores", 0, r.words, 78 + 10);
+    for (size_t i = 0; i < SHARED; i++) {
+        expect("code of a store's call", i, answers[2 * i], shared[i].code);
+        expect("number of a store's call", i, answers[2 * i + 1], shared[i].number);
+    }
+    /* The first is Seven with the value 2 at vertex 1, word 8; the second has one vertex. */
+    static const uint32_t second[] = {1, 0, 6, 10, 10, 10, 1, 0, 5, 0};
+    for (size_t i = 0; i < IMAGE + 1; i++) {
+        uint32_t wanted = i < 78 ? (i == 8 ? 2 : seven[i]) : i - IMAGE / 2 < 10 ? second[i - IMAGE / 2] : 0xffffffff;
+        expect("image word of two stores", i, image[i], wanted);
+    }
+    expect("answer word beyond those of two stores", 0, answers[2 * SHARED], 0xffffffff);
+    expect("vertex word behind two parts", 0, vertices[160], 0xa5a5a5a5);
+    expect("edge word behind two parts", 0, edges[240], 0xa5a5a5a5);
+    expect("journal word behind two parts", 0, journal[480], 0xa5a5a5a5);
 }
 
 int main(void) {
@@ -322,6 +413,8 @@ int main(void) {
     }
     for (size_t i = 10; i < 22; i++) expect("word beyond the reduced list", i, kept[i], 77);
 
-    if (!wrong) printf("seven: %d calls, a page, comparisons, orders, a recorded list and a reduced one through the C header, as worked out\n", CALLS);
+    several();
+
+    if (!wrong) printf("seven: %d calls, a page, comparisons, orders, a list recorded, one reduced and one of two stores through the C header, as worked out\n", CALLS);
     return wrong;
 }

@@ -4,9 +4,10 @@
 //! goes in and out as an image, whose parts [`part`] and [`span`] find, whose edges [`page`] puts on paper, and
 //! which [`compare`] holds against another.
 //! [`arrange_vertices`], [`arrange_edges`] and [`arrange_words`] make the calls for any order. [`record`] runs a list and
-//! keeps the image after every step. [`reduce`] makes a list small whose last call is refused.
+//! keeps the image after every step. [`reduce`] makes a list small whose last call is refused. [`run_stores`] runs a list on
+//! several stores with one limit.
 //! `include/futtockfig.h` describes the graph, every kind of call ([`kind`] has their numbers), every code, the words of an
-//! image, a page, a comparison, an order, a recorded list and a reduced one.
+//! image, a page, a comparison, an order, a recorded list, a reduced one and a list of several stores.
 //!
 //! The crate links `libfuttockfig.a`, from the folder that the environment variable `FUTTOCKFIG_LIB_DIR` names when it
 //! is built, else from `target/staticlib` of the repository. It allocates nothing and needs no standard library.
@@ -37,6 +38,8 @@ mod recording;
 pub use recording::{record, Recorded};
 mod reduction;
 pub use reduction::{reduce, Reduced};
+mod stores;
+pub use stores::{run_stores, Served, StoreCall};
 
 use core::fmt;
 use core::ops::Range;
@@ -44,7 +47,7 @@ use raw::{futtockfig_arrange_edges, futtockfig_arrange_vertices, futtockfig_arra
 use raw::{futtockfig_compare, futtockfig_page, futtockfig_part, futtockfig_run};
 
 /// The version of what a caller sees, that of `include/futtockfig.h`.
-pub const VERSION: u32 = 15;
+pub const VERSION: u32 = 16;
 
 /// Kind, a, b, c, d.
 pub type Call = [u32; 5];
@@ -58,6 +61,9 @@ pub const VERTEX_WORDS: usize = 8;
 pub const EDGE_WORDS: usize = 12;
 /// Words of a row of the journal.
 pub const CHANGE_WORDS: usize = 12;
+
+/// The most stores of one run.
+pub const MOST_STORES: u32 = 8;
 
 /// Bytes of a row of a page.
 pub const PAGE_ROW: usize = 25;
@@ -165,11 +171,11 @@ pub struct Done<'a> {
 /// words that mean nothing.
 #[derive(Clone, Copy, Debug, PartialEq, Eq)]
 pub enum Refused {
-    /// 101: the words of the calls are no multiple of five.
+    /// 101: the words of the calls are no multiple of five, with several stores of six.
     Calls,
     /// 102: fewer than two words a call for the answers.
     Answers,
-    /// 103: a capacity out of range.
+    /// 103: a capacity out of range, or the number of stores.
     Capacity,
     /// 104: no type row, over 64, or a bit set that names no type.
     Rows,
@@ -245,9 +251,9 @@ impl Refused {
 impl fmt::Display for Refused {
     fn fmt(&self, f: &mut fmt::Formatter<'_>) -> fmt::Result {
         let why = match self {
-            Refused::Calls => "calls are not a multiple of five words",
+            Refused::Calls => "calls are not a multiple of five words, with several stores of six",
             Refused::Answers => "answers have under two words a call",
-            Refused::Capacity => "a capacity is out of range",
+            Refused::Capacity => "a capacity, or the number of stores, is out of range",
             Refused::Rows => "the type rows are not 1 to 64 rows of bits below their number",
             Refused::Start => "the words have no sound header within the capacities",
             Refused::Image => "the image has too few words for the capacities",
@@ -299,7 +305,7 @@ pub fn run<'a>(start: &[u32], rows: &[u64], calls: &[u32], lent: Lent<'a>) -> Re
     }
 }
 
-/// The answers one by one: the number of an accepted call, or the code (1 to 20) of a refused one.
+/// The answers one by one: the number of an accepted call, or the code (1 to 21) of a refused one.
 pub fn answers(words: &[u32]) -> impl Iterator<Item = Result<u32, u32>> + '_ {
     words.chunks_exact(2).map(|answer| match answer[0] {
         0 => Ok(answer[1]),

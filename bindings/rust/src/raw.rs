@@ -101,6 +101,26 @@ extern "C" {
         list: *mut u32,
         list_len: usize,
     ) -> Reduction;
+    pub fn futtockfig_run_stores(
+        start: *const u32,
+        start_len: usize,
+        rows: *const u64,
+        rows_len: usize,
+        calls: *const u32,
+        calls_len: usize,
+        vertices: *mut u32,
+        vertices_len: usize,
+        edges: *mut u32,
+        edges_len: usize,
+        journal: *mut u32,
+        journal_len: usize,
+        answers: *mut u32,
+        answers_len: usize,
+        image: *mut u32,
+        image_len: usize,
+        stores: u32,
+        limit: u32,
+    ) -> RunResult;
     pub fn futtockfig_part(words: *const u32, words_len: usize, part: u32) -> Span;
     pub fn futtockfig_page(words: *const u32, words_len: usize, page: *mut u8, page_len: usize) -> PageResult;
     pub fn futtockfig_compare(first: *const u32, first_len: usize, second: *const u32, second_len: usize, tolerance: u32) -> Comparison;

@@ -21,17 +21,17 @@ use Rattle.engine.specs.Refusals.{inLimits, lengthsCode, Lends}
 
 -- ---- three tests first
 
-abbrev Beside : ℕ → ℕ → Type 0
+abbrev pub Beside : ℕ → ℕ → Type 0
 Beside c n = (o : ℕ) → n ≡ numberBeside c o
 
-stopped : (x y z : Bool) (c r : ℕ) → c ≡ (x ⇒ 101 else y ⇒ 102 else z ⇒ 103 else 0) → (c ≡ 0 → ⊥) →
+pub stopped : (x y z : Bool) (c r : ℕ) → c ≡ (x ⇒ 101 else y ⇒ 102 else z ⇒ 103 else 0) → (c ≡ 0 → ⊥) →
     (c ≡ (x ⇒ 101 else y ⇒ 102 else z ⇒ 103 else r)) × Beside c 0
 stopped true y z c r e n = (e, λ o. rw e)
 stopped false true z c r e n = (e, λ o. rw e)
 stopped false false true c r e n = (e, λ o. rw e)
 stopped false false false c r e n = absurd (n e)
 
-gone-on : (x y z : Bool) (r : ℕ) → _≡_ {A = ℕ} (x ⇒ 101 else y ⇒ 102 else z ⇒ 103 else 0) 0 → (z ≡ false) × (_≡_ {A = ℕ} (x ⇒ 101 else y ⇒ 102 else z ⇒ 103 else r) r)
+pub gone-on : (x y z : Bool) (r : ℕ) → _≡_ {A = ℕ} (x ⇒ 101 else y ⇒ 102 else z ⇒ 103 else 0) 0 → (z ≡ false) × (_≡_ {A = ℕ} (x ⇒ 101 else y ⇒ 102 else z ⇒ 103 else r) r)
 gone-on true y z r e = absurd (omega arith)
 gone-on false true z r e = absurd (omega arith)
 gone-on false false true r e = absurd (omega arith)

@@ -111,7 +111,7 @@ module _ (start rows calls vertices edges journal answers image : List ℕ) (e :
         (past .start-loads)
 
     pub ends : (y : Store) (mem : Memory) (answers′ image′ : List ℕ) (n : ℕ) →
-        AfterCalls w (fresh (load start)) (callsOf calls) y mem closed types answers answers′ → Saved (tablesOf y mem) image image′ n →
+        AfterCalls w (w .changes) (fresh (load start)) (callsOf calls) y mem closed types answers answers′ → Saved (tablesOf y mem) image image′ n →
         runResult (record { code = 0; done = length calls / 5; words = n }) answers′ image′ ≡ accepted l
     unfolding accepted
     ends y mem answers′ image′ n g s =

@@ -19,7 +19,9 @@ use Rattle.history_calls.proofs.Present.{holds-present, sized-present}
 use Rattle.history.specs.Machine.{Machine, freeOf, present}
 use Rattle.timeline.proofs.Steps.{journal-free}
 use Rattle.machine.specs.Rules.{nothing, effected, deed, Rule, answered, followed, changeRule, historyRule}
+use Rattle.machine.specs.HistoryCodes.{outOfReach}
 use Rattle.machine.specs.Calls.{Parameters, boundsIn}
+use Rattle.commands.specs.Commands.{historyCall, callOf}
 use Rattle.commands.specs.declared.HistoryCall.{HistoryCall}
 use Rattle.commands.specs.declared.Question.{Question}
 use Rattle.commands.specs.declared.PriceCall.{PriceCall}
@@ -81,10 +83,10 @@ module _ (w : Parameters) (m : Machine) (x : Store) (mem : Memory) (closed : Lis
     }
 
     -- a history call
-    pub recall-answers : (c : HistoryCall) (d : Called) (mem′ : Memory) → length (mem′ .journal) ≡ length (mem .journal) →
+    pub recall-answers : (c : HistoryCall) → outOfReach n m (historyCall c) ≡ false → (d : Called) (mem′ : Memory) → length (mem′ .journal) ≡ length (mem .journal) →
         Follows (historyRule n c) m (boundsIn w) d mem′ → Answered w n m (History c) d mem′ closed types
-    recall-answers c d mem′ l f =
-        follows-answers (History c) (historyRule n c) (history-refusal v m c) refl d mem′ l f
+    recall-answers c r d mem′ l f =
+        follows-answers (History c) (historyRule n c) (history-refusal v m c r) refl d mem′ l f
 
     -- a function that only answers, by a rule whose machine stays
     pub obeys-answers : (c : Command) (a : Answer) → deedOf v c m .effect ≡ nothing → a ≡ answered (ruleOf v c) m → Answered w n m c (record { store = x; answer = a }) mem closed types
@@ -99,7 +101,7 @@ module _ (w : Parameters) (m : Machine) (x : Store) (mem : Memory) (closed : Lis
         pick false = refl
 
     -- a command that is refused by a code, whatever it is
-    refused-answers : (c : Command) (code : ℕ) → code ≡ refusal v m c → (code ≡ 0 → ⊥) → Answered w n m c (done x code 0) mem closed types
+    pub refused-answers : (c : Command) (code : ℕ) → code ≡ refusal v m c → (code ≡ 0 → ⊥) → Answered w n m c (done x code 0) mem closed types
     unfolding answerTo stepTo
     refused-answers c code e d = let z = ne-eqb code 0 d in record { answered = rw (← e, z); after = rw (← e, z) h }
 

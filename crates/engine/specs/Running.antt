@@ -1,7 +1,7 @@
 -- What the state of a run, the lent words and the closed type rows have to do with the plain machine.
 use Prim.Native.Nat.{ℕ, _*_, _/_, _≤_}
 use mathlib.Core.Path.{_≡_}
-use mathlib.Core.Bool.{true}
+use mathlib.Core.Bool.{true, false}
 use mathlib.Core.List.{List}
 use lib.ListN.{length}
 use denote.Ref.{RefT, now}
@@ -16,6 +16,8 @@ use Rattle.history_calls.specs.Represents.{Represents}
 use Rattle.machine.specs.Calls.{Parameters, boundsIn}
 use Rattle.machine.specs.Run.{Limits}
 use Rattle.commands.specs.declared.Command.{Command}
+use Rattle.commands.specs.Commands.{callOf}
+use Rattle.machine.specs.HistoryCodes.{outOfReach}
 use Rattle.machine.specs.Machine.{answerTo, stepTo}
 
 -- the capacities, the types and the limits are those of w
@@ -56,8 +58,16 @@ Runs x vertices edges journal marks closed types =
 abbrev pub Granted : ℕ → Store → RefT (List ℕ) → Type 0
 Granted capacity x journal = (x .current .position .used ≤ capacity) × (12 * capacity ≤ length (now journal))
 
--- whatever run stood there, the answer is its machine's to the command at this capacity of changes, and so is what
--- stands afterwards
+-- whatever run stood there that the command leads no farther than the capacity of changes allows: the answer is its
+-- machine's at this capacity, and so is what stands afterwards
+abbrev pub AnswersNear : Command → ℕ → Store → Called → Slice → Slice → Slice → Slice → Slice → ℕ → Type 0
+AnswersNear c capacity x d vertices edges journal marks closed types =
+    (w : Parameters) → (m : Machine)
+    → Running w x (entry vertices edges journal marks) (now (closed .entry)) types m
+    → outOfReach capacity m (callOf c) ≡ false
+    → Answered w capacity m c d (exit vertices edges journal marks) (now (closed .entry)) types
+
+-- the same of any command
 abbrev pub Answers : Command → ℕ → Store → Called → Slice → Slice → Slice → Slice → Slice → ℕ → Type 0
 Answers c capacity x d vertices edges journal marks closed types =
     (w : Parameters) → (m : Machine)

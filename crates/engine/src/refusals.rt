@@ -19,7 +19,7 @@ pub struct Refused {
     pub number: u32,
 }
 
-fn at_most(most: u32, n: usize) -> bool
+pub fn at_most(most: u32, n: usize) -> bool
     ensures { λ r. ⌜ r ≡ within 1 most n ⌝ }
 {
     if n < 1 {
@@ -28,7 +28,7 @@ fn at_most(most: u32, n: usize) -> bool
     n <= most as usize
 }
 
-fn in_limits(vertices: usize, edges: usize, changes: usize) -> bool
+pub fn in_limits(vertices: usize, edges: usize, changes: usize) -> bool
     ensures { λ r. ⌜ r ≡ inLimits vertices edges changes ⌝ }
 {
     if !at_most(MOST_VERTICES, vertices) {

@@ -5,10 +5,12 @@ use history_calls::Store;
 use question_calls::reply;
 ghost use Rattle.history_calls.specs.Memory.{entry, exit};
 ghost use Rattle.history_calls.specs.Outcomes.{Leaves};
-ghost use Rattle.engine.specs.Running.{Runs, Granted, Answers};
+ghost use Rattle.engine.specs.Running.{Runs, Granted, AnswersNear};
 
-// Any command, where so many changes may be remembered up to the place. A refused one leaves every lent word; else
-// those of tables, journal and marks are left open, but for the machine that they stand for.
+// Any command, where so many changes may be remembered up to the place. What a redo, or a call to a mark or a name,
+// that needs more answers is left open: with all rows of the journal there is none, and who lends fewer tests it before.
+// A refused command leaves every lent word; else those of tables, journal and marks are left open, but for the machine
+// that they stand for.
 pub fn step(
     store: Store,
     vertices: &mut [u32],
@@ -21,7 +23,7 @@ pub fn step(
     command: Command,
 ) -> Called
     requires { ⌜ Runs store vertices edges journal marks closed types × Granted capacity store journal ⌝ }
-    ensures { λ r. ⌜ Answers command capacity store r vertices edges journal marks closed types ⌝ }
+    ensures { λ r. ⌜ AnswersNear command capacity store r vertices edges journal marks closed types ⌝ }
     ensures { λ r. ⌜ Leaves store (entry vertices edges journal marks) r (exit vertices edges journal marks) ⌝ }
 {
     match command {

@@ -1,5 +1,5 @@
-// The run, the parts of an image, the page, the comparison of two images, calls for an order, the recorded run and the
-// reduction of a list, for programs in C and Rust: include/futtockfig.h says the same in C.
+// The run of one store and of several, the parts of an image, the page, the comparison of two images, calls for an
+// order, the recorded run and the reduction of a list, for programs in C and Rust: include/futtockfig.h says it in C.
 use arrangement::Arrangement;
 use arrangement::arrange_edges;
 use arrangement::arrange_vertices;
@@ -13,6 +13,7 @@ use page::print;
 use recorder::record_run;
 use reduction::Reduction;
 use reduction::reduce;
+use stores::run::run as run_stores;
 ghost use mathlib.Core.Path.{_≡_};
 ghost use lib.ListN.{length};
 ghost use Rattle.machine.specs.Demands.{Demand2};
@@ -20,6 +21,9 @@ ghost use Rattle.machine.specs.Run.{run as runOf};
 ghost use Rattle.image.specs.Image.{part as partOf};
 ghost use Rattle.image.specs.Parts.{partStart};
 ghost use Rattle.engine.specs.Outcomes.{given, left, Untouched, MeetsDemand1, MeetsDemand3};
+ghost use Rattle.machine.specs.StoreRun.{runIn};
+ghost use Rattle.machine.specs.StoreDemands.{Demand2In};
+ghost use Rattle.stores.specs.Outcomes.{several, UntouchedIn, BehindStays, MeetsDemand1In, MeetsDemand3In};
 ghost use Rattle.page.specs.Page.{pageOf, printed};
 ghost use Rattle.arrangement.specs.Orders.{outcome, vertexOrder, edgeOrder, wordOrder};
 ghost use Rattle.comparison.specs.Comparison.{comparison};
@@ -49,6 +53,47 @@ pub extern "C" fn futtockfig_run(
         (left r answers image) ⌝ }
 {
     run(start, rows, calls, vertices, edges, journal, answers, image)
+}
+
+// Up to eight stores in one run, six words a call, and one limit on the changes that all of them remember. What their
+// parts of the tables hold afterwards is left open.
+#[no_mangle]
+pub extern "C" fn futtockfig_run_stores(
+    start: &[u32],
+    rows: &[u64],
+    calls: &[u32],
+    vertices: &mut [u32],
+    edges: &mut [u32],
+    journal: &mut [u32],
+    answers: &mut [u32],
+    image: &mut [u32],
+    stores: u32,
+    limit: u32,
+) -> RunResult
+    ensures { λ r. ⌜ left r answers image
+        ≡ runIn (several (given start rows calls vertices edges journal answers image) stores limit) ⌝ }
+    ensures { λ r. ⌜ UntouchedIn (several (given start rows calls vertices edges journal answers image) stores limit)
+        vertices edges journal ⌝ }
+    ensures { λ r. ⌜ BehindStays stores vertices edges journal ⌝ }
+    ensures { λ r. ⌜ MeetsDemand1In (several (given start rows calls vertices edges journal answers image) stores limit)
+        (left r answers image) vertices edges journal ⌝ }
+    ensures { λ r. ⌜ Demand2In (several (given start rows calls vertices edges journal answers image) stores limit)
+        (left r answers image) ⌝ }
+    ensures { λ r. ⌜ MeetsDemand3In (several (given start rows calls vertices edges journal answers image) stores limit)
+        (left r answers image) ⌝ }
+{
+    run_stores(
+        start,
+        rows,
+        calls,
+        vertices,
+        edges,
+        journal,
+        answers,
+        image,
+        stores,
+        limit,
+    )
 }
 
 // Where a part of an image lies, in words. No function that C calls can return a part itself.

@@ -11,7 +11,7 @@ use lib.Seq.{length-take-le}
 use borrow.Author.Tests.{ltb-false, le-ltb}
 use Rattle.lists.specs.Choice.{_⇒_else_}
 use Rattle.graph.specs.Graph.{Graph}
-use Rattle.history.specs.Machine.{Step, Machine, gone, at, graphAt, costs, freeOf, cut, present, afterChange, movedTo}
+use Rattle.history.specs.Machine.{Step, Timeline, onward, Machine, gone, at, graphAt, costs, freeOf, cut, present, afterChange, movedTo}
 
 -- ---- steps 1 to p and the new one
 
@@ -43,6 +43,28 @@ costs-new : (p : ℕ) (ss : List Step) (s : Step) → p ≤ length ss → costs 
 costs-new zero ss s h = omega arith
 costs-new (suc p) [] s h = absurd (omega arith)
 costs-new (suc p) (x ∷ ss) s h = omega (arith, costs-new p ss s (omega arith))
+
+-- ---- what going to a place takes again
+
+take-le : (p q : ℕ) (ss : List Step) → q ≤ p → costs (take q ss) ≤ costs (take p ss)
+take-le p zero ss h = omega arith
+take-le zero (suc q) ss h = absurd (omega arith)
+take-le (suc p) (suc q) [] h = omega arith
+take-le (suc p) (suc q) (s ∷ ss) h = omega (arith, take-le p q ss (omega arith))
+
+-- nothing on the way back
+pub onward-back : (q : ℕ) (t : Timeline) → q ≤ t .place → onward q t ≡ 0
+onward-back q t h = omega (arith, take-le (t .place) q (t .steps) h)
+
+take-all : (ss : List Step) (q : ℕ) → length ss ≤ q → costs (take q ss) ≡ costs ss
+take-all [] zero h = refl
+take-all [] (suc q) h = refl
+take-all (s ∷ ss) zero h = absurd (omega arith)
+take-all (s ∷ ss) (suc q) h = omega (arith, take-all ss q (omega arith))
+
+-- nor behind the last step
+pub onward-end : (q : ℕ) (t : Timeline) → length (t .steps) ≤ t .place → onward q t ≡ 0
+onward-end q t h = omega (arith, take-all (t .steps) (t .place) h, costs-take q (t .steps))
 
 -- ---- a change that makes s
 

@@ -75,6 +75,14 @@ costs ss = sumOf (λ (s : Step). s .cost) ss
 abbrev pub freeOf : ℕ → Timeline → ℕ
 freeOf capacity t = capacity - costs (take (t .place) (t .steps))
 
+-- the costs of steps 1 to p
+abbrev pub spent : Timeline → ℕ
+spent t = costs (take (t .place) (t .steps))
+
+-- what going to place q takes again: the costs of the steps from p on, up to it; 0 where it is not ahead
+abbrev pub onward : ℕ → Timeline → ℕ
+onward q t = costs (take q (t .steps)) - costs (take (t .place) (t .steps))
+
 -- how many steps lie between two places
 abbrev pub distance : ℕ → ℕ → ℕ
 distance p q = (p - q) + (q - p)

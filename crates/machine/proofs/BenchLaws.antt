@@ -22,7 +22,10 @@ use Rattle.machine.specs.Codes.{refusal}
 use Rattle.machine.specs.HistoryCodes.{noBench}
 use Rattle.machine.specs.Rules.{Effect, steps, marks, unmarks, goes, names, benches, clears, nothing, effected}
 use Rattle.machine.specs.Machine.{deedOf, answerTo, answer, step, last}
-use Rattle.machine.specs.Marks.{eventOf, events}
+use Rattle.machine.specs.Marks.{Event, eventOf, events, Kept}
+use Rattle.machine.specs.Posed.{Posed, roomed, lastAt, eventsAt}
+use Rattle.machine.specs.Sentences.{BenchSentenceAt}
+use Rattle.machine.proofs.Reached.{Reached, here, by, reached, reached-at}
 use Rattle.machine.specs.Benches.{setsBench, benchAfter, signs, benchesAfter, benchesBetween, BenchSentence}
 use Rattle.machine.proofs.Accepts.{code-is, accepted-step, refused-step}
 use Rattle.machine.proofs.Families.{Makes, change-effect, history-makes}
@@ -49,10 +52,9 @@ bench-step w m x = go (refusal w m (commandOf x) == 0) refl ∙ sym (benches-is 
     go true f = rw (accepted-step w m (commandOf x) f, code-is w m (commandOf x) true f) (bench-next (deedOf w (commandOf x) m .effect) m)
     go false f = rw (refused-step w m (commandOf x) f, code-is w m (commandOf x) false f)
 
-bench-last : (w : Parameters) (m : Machine) (xs : List Call) → last w m xs .bench ≡ benchAfter (m .bench) (events w m xs)
-unfolding last events
-bench-last w m [] = refl
-bench-last w m (x ∷ xs) = bench-last w (step w m x) xs ∙ ap (λ (b : ℕ). benchAfter b (events w (step w m x) xs)) (bench-step w m x)
+bench-last : {m n : Machine} {es : List Event} → Reached m es n → n .bench ≡ benchAfter (m .bench) es
+bench-last here = refl
+bench-last (by {m} {n} {es} w x r) = bench-last r ∙ ap (λ (b : ℕ). benchAfter b es) (bench-step w m x)
 
 -- ---- each step has the bench that stood when it was made
 
@@ -97,12 +99,9 @@ signs-step w m x = go (refusal w m (commandOf x) == 0) refl ∙ sym (signs-is w 
     go true f = rw (accepted-step w m (commandOf x) f, code-is w m (commandOf x) true f) (signs-next (deedOf w (commandOf x) m .effect) m (makes-signed w m (commandOf x)))
     go false f = rw (refused-step w m (commandOf x) f, code-is w m (commandOf x) false f)
 
-signs-last : (w : Parameters) (m : Machine) (xs : List Call) → benchesIn (last w m xs .line .steps) ≡ benchesAfter (m .bench) (benchesIn (m .line .steps)) (events w m xs)
-unfolding last events
-signs-last w m [] = refl
-signs-last w m (x ∷ xs) =
-    signs-last w (step w m x) xs
-    ∙ (λ i. benchesAfter (bench-step w m x i) (signs-step w m x i) (events w (step w m x) xs))
+signs-last : {m n : Machine} {es : List Event} → Reached m es n → benchesIn (n .line .steps) ≡ benchesAfter (m .bench) (benchesIn (m .line .steps)) es
+signs-last here = refl
+signs-last (by {m} {n} {es} w x r) = signs-last r ∙ (λ i. benchesAfter (bench-step w m x i) (signs-step w m x i) es)
 
 -- ---- every bench is below 100
 
@@ -179,10 +178,9 @@ benched-step w m x h = let b = go (refusal w m (commandOf x) == 0) refl in recor
     go true f = rw (accepted-step w m (commandOf x) f) (benched-next (deedOf w (commandOf x) m .effect) m (proper w m (commandOf x) f) (makes-benched w m (commandOf x) (h .present)) (h .present, h .earlier))
     go false f = rw (refused-step w m (commandOf x) f) (h .present, h .earlier)
 
-benched-last : (w : Parameters) (m : Machine) (xs : List Call) → Benched m → Benched (last w m xs)
-unfolding last
-benched-last w m [] h = h
-benched-last w m (x ∷ xs) h = benched-last w (step w m x) xs (benched-step w m x h)
+benched-last : {m n : Machine} {es : List Event} → Reached m es n → Benched m → Benched n
+benched-last here h = h
+benched-last (by {m} {n} {es} w x r) h = benched-last r (benched-step w m x h)
 
 -- ---- the counts add up
 
@@ -262,14 +260,43 @@ module _ (w : Parameters) (m : Machine) (a b p q c d : ℕ) (ra : within 1 64 a 
     rw (by-command a b c d, by-accepted, ea, eb) (made-counts c (stepsBetween p q (m .line .steps)) ∙ ap (count c) (between-benches p q (m .line .steps))),
   )
 
+-- ---- the sentence, of every machine that calls have led to
+
+module _ (g : Graph) (m : Machine) (es : List Event) (z : Reached (fresh g) es m) where
+  benched : Benched m
+  benched = benched-last z (record { present = omega arith; earlier = done; places = fresh-places g })
+
+  -- at any parameters
+  counted : (w : Parameters) (a b p q c d : ℕ) (h i : Graph) → Kept a p h es → Kept b q i es → c < 100 →
+      (answer w m (five 59 a b c d) .code ≡ 0) × (answer w m (five 59 a b c d) .number ≡ count c (benchesBetween p q (benchesAfter 0 [] es)))
+  counted w a b p q c d h i k r l =
+      let n = by-marks w m a b p q c d (kept-range z a p h k) (kept-range z b q i r) (kept-from z a p h k) (kept-from z b q i r) l in
+      (n .0, n .1 ∙ ap (λ (bs : List ℕ). count c (benchesBetween p q bs)) (signs-last z))
+
+-- one store alone
 pub bench-sentence : (w : Parameters) (g : Graph) (xs : List Call) → BenchSentence w g xs
-bench-sentence w g xs = record {
-  bench-is = bench-last w (fresh g) xs;
-  sets = λ a b c d l. set-code w (last w (fresh g) xs) a b c d l;
-  signed-by = signs-last w (fresh g) xs;
-  counts = λ a b p q c d h i k r l.
-      let m = last w (fresh g) xs in
-      let n = by-marks w m a b p q c d (kept-range w (fresh g) xs a p h k) (kept-range w (fresh g) xs b q i r) (kept-from w (fresh g) xs a p h k) (kept-from w (fresh g) xs b q i r) l in
-      (n .0, n .1 ∙ ap (λ (bs : List ℕ). count c (benchesBetween p q bs)) (signs-last w (fresh g) xs));
-  adds = λ a b d e f. counts-add w (last w (fresh g) xs) (benched-last w (fresh g) xs (record { present = omega arith; earlier = done; places = fresh-places g })) a b d e f;
-}
+bench-sentence w g xs =
+    let m = last w (fresh g) xs in
+    let es = events w (fresh g) xs in
+    let z = reached w (fresh g) xs in
+    record {
+      bench-is = bench-last z;
+      sets = λ a b c d l. set-code w m a b c d l;
+      signed-by = signs-last z;
+      counts = counted g m es z w;
+      adds = counts-add w m (benched g m es z);
+    }
+
+-- one of several, at the joint room that each call finds
+pub bench-sentence-at : (w : Parameters) (g : Graph) (ys : List Posed) → BenchSentenceAt w g ys
+bench-sentence-at w g ys =
+    let m = lastAt w (fresh g) ys in
+    let es = eventsAt w (fresh g) ys in
+    let z = reached-at w (fresh g) ys in
+    record {
+      bench-is = bench-last z;
+      sets = λ r a b c d l. set-code (roomed w m r) m a b c d l;
+      signed-by = signs-last z;
+      counts = λ r. counted g m es z (roomed w m r);
+      adds = λ r. counts-add (roomed w m r) m (benched g m es z);
+    }

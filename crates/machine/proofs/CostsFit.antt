@@ -9,7 +9,7 @@ use borrow.Author.Tests.{ltb-false}
 use Rattle.lists.specs.Choice.{_==_}
 use Rattle.graph.specs.Graph.{Graph}
 use Rattle.graph.specs.Changes.{cost}
-use Rattle.history.specs.Machine.{Machine, costs, fresh, present}
+use Rattle.history.specs.Machine.{Step, Machine, costs, fresh, present}
 use Rattle.history.proofs.Timelines.{costs-cut, costs-take}
 use Rattle.history.specs.Machine.{stepOf}
 use Rattle.machine.specs.Rules.{Effect, steps, marks, unmarks, goes, names, benches, clears, nothing, effected}
@@ -22,11 +22,13 @@ use Rattle.machine.proofs.Families.{Makes, change-effect, history-makes
 use Rattle.machine.specs.Calls.{Parameters}
 use Rattle.machine.specs.Codes.{free, refusal}
 use Rattle.machine.specs.Machine.{deedOf, stepTo, step, last}
+use Rattle.machine.specs.Posed.{Posed, roomed, stepAt, lastAt}
+use Rattle.machine.proofs.Rooms.{free-roomed}
 
 unfoldable pub CostsFit : Parameters → Machine → Type 0
 CostsFit w m = costs (m .line .steps) ≤ w .changes
 
-no-left : (a b : Bool) → (a && b) ≡ false → b ≡ true → a ≡ false
+pub no-left : (a b : Bool) → (a && b) ≡ false → b ≡ true → a ≡ false
 no-left true b e f = sym f ∙ e
 no-left false b e f = refl
 
@@ -61,6 +63,37 @@ costs-fit-step w m x p = go (refusal w m c == 0) refl
     go true e = rw (accepted-step w m c e) (costs-fit-next w (deedOf w c m .effect) m (makes-room w m c e) p)
     go false e = rw (refused-step w m c e) p
 
+-- the same where less than the store's own room is found
+weaker : {P Q : Step → Type 0} → ((s : Step) → P s → Q s) → (e : Effect) → Makes P e → Makes Q e
+weaker f (steps s) h = f s h
+weaker f (marks n) h = tt
+weaker f (unmarks n) h = tt
+weaker f (goes p) h = tt
+weaker f (names k n) h = tt
+weaker f (benches b) h = tt
+weaker f clears h = tt
+weaker f nothing h = tt
+
+costs-fit-posed : (w : Parameters) (m : Machine) (y : Posed) → CostsFit w m → CostsFit w (stepAt w m y)
+costs-fit-posed w m y p = go (refusal v m c == 0) refl
+  where
+    v : Parameters
+    v = roomed w m (y .room)
+
+    c : Command
+    c = commandOf (y .call)
+
+    go : (t : Bool) → (refusal v m c == 0) ≡ t → CostsFit w (stepTo v m c)
+    go true e =
+        rw (accepted-step v m c e)
+        (costs-fit-next w (deedOf v c m .effect) m (weaker (λ s h. omega (arith, h, free-roomed w m (y .room))) (deedOf v c m .effect) (makes-room v m c e)) p)
+    go false e = rw (refused-step v m c e) p
+
+pub costs-fit-at : (w : Parameters) (m : Machine) (ys : List Posed) → CostsFit w m → CostsFit w (lastAt w m ys)
+unfolding lastAt
+costs-fit-at w m [] p = p
+costs-fit-at w m (y ∷ ys) p = costs-fit-at w (stepAt w m y) ys (costs-fit-posed w m y p)
+
 pub costs-fit-last : (w : Parameters) (m : Machine) (xs : List Call) → CostsFit w m → CostsFit w (last w m xs)
 unfolding last
 costs-fit-last w m [] p = p
@@ -77,3 +110,11 @@ unfolding free CostsFit
 exact w g xs =
     let p = costs-fit-last w (fresh g) xs (costs-fit-fresh w g) in
     omega (arith, p, costs-take (last w (fresh g) xs .line .place) (last w (fresh g) xs .line .steps))
+
+pub costs-last : (w : Parameters) (g : Graph) (xs : List Call) → costs (last w (fresh g) xs .line .steps) ≤ w .changes
+unfolding CostsFit
+costs-last w g xs = costs-fit-last w (fresh g) xs (costs-fit-fresh w g)
+
+pub costs-at : (w : Parameters) (g : Graph) (ys : List Posed) → costs (lastAt w (fresh g) ys .line .steps) ≤ w .changes
+unfolding CostsFit
+costs-at w g ys = costs-fit-at w (fresh g) ys (costs-fit-fresh w g)

@@ -38,7 +38,7 @@ use Rattle.machine.proofs.Whole.{demand-3}
 -- ---- one call
 
 module _ (w : Parameters) (m : Machine) (x : Call) where
-  by-table : ByTable w m x (answer w m x)
+  pub by-table : ByTable w m x (answer w m x)
   unfolding answerTo
   by-table = record {
     refused-by = λ k. (λ e. turn-to k (codeTable w m x) (on-words w m x ∙ e), λ h. sym (on-words w m x) ∙ turn-from k h);
@@ -51,7 +51,7 @@ module _ (w : Parameters) (m : Machine) (x : Call) where
   unfolding answerTo
   number-of c e z = let t : (refusal w m (commandOf x) == 0) ≡ true = eq-eqb _ 0 z in rw t (ap (λ (d : Command). deedOf w d m .number) e)
 
-  of-the-graph : OfTheGraph w m x (answer w m x)
+  pub of-the-graph : OfTheGraph w m x (answer w m x)
   of-the-graph = record { question = λ q e z. number-of _ e z; price = λ p e z. number-of _ e z }
 
 each : (P : Machine → Call → Answer → Type 0) (w : Parameters) → ((m : Machine) (x : Call) → P m x (answer w m x)) → (m : Machine) (xs : List Call) → Each P w m xs (answers w m xs)
@@ -65,7 +65,7 @@ not-refused : (l : Lent) → NoneApplies (listTable l) → listRefusal l ≡ 0
 unfolding listRefusal
 not-refused l h = none-from {rs = listTable l} h
 
-refused-is : (l : Lent) (k : ℕ) → listRefusal l ≡ suc k → run l ≡ refused (suc k) (listNumber l) l
+pub refused-is : (l : Lent) (k : ℕ) → listRefusal l ≡ suc k → run l ≡ refused (suc k) (listNumber l) l
 unfolding run
 refused-is l k e = rw (e, ne-eqb (suc k) 0 (omega arith))
 

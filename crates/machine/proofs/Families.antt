@@ -9,13 +9,14 @@ use lib.ListN.{length}
 use borrow.Author.Tests.{ne-eqb, eqb-true, eqb-false, leb-true}
 use Rattle.lists.specs.Choice.{_⇒_else_, _==_}
 use Rattle.lists.specs.Lists.{All, done, more}
+use Rattle.lists.proofs.Bools.{ft}
 use Rattle.lists.proofs.Sums.{all-bool}
 use Rattle.graph.specs.declared.Change.{Change}
 use Rattle.graph.specs.declared.Change.the-variants.{CreateVertex, DeleteVertex, CreateEdge, DeleteEdge, RetypeVertex, RetypeEdge, SetValue, SetReading, SetAlpha, SetOmega, VertexBefore, VertexAfter, EdgeBefore, EdgeAfter, WordBefore, WordAfter}
 use Rattle.graph.specs.Changes.{cost}
 use Rattle.graph.specs.Same.{alters}
 use Rattle.history.specs.Machine.{Step, stepOf, Machine, present}
-use Rattle.machine.specs.HistoryCodes.{tooDear, historyTable, laterTable}
+use Rattle.machine.specs.HistoryCodes.{tooDear, outOfReach, historyTable, laterTable}
 use Rattle.machine.specs.Rules.{Effect, steps, marks, unmarks, goes, names, benches, clears, nothing, deed, changeDeed, historyDeed, firstCode, changeRule, historyRule}
 use Rattle.commands.specs.declared.HistoryCall.{HistoryCall}
 use Rattle.commands.specs.declared.HistoryCall.the-variants.{SetMark, DropMark, Undo, Redo, GoTo, Commit, Between, Standing, Free, NameMark, GoToName, SetBench, MadeBy}
@@ -25,7 +26,7 @@ use Rattle.commands.specs.declared.PriceCall.{PriceCall}
 use Rattle.commands.specs.declared.PriceCall.the-variants.{Range, Grade}
 use Rattle.commands.specs.declared.Command.the-variants.{Alter, History, Ask, Quote}
 use Rattle.commands.specs.Tables.{Row, lowest}
-use Rattle.commands.specs.Commands.{changeOf, changeCall}
+use Rattle.commands.specs.Commands.{changeOf, changeCall, historyCall}
 use Rattle.machine.specs.Calls.{Parameters, boundsIn}
 use Rattle.machine.specs.Codes.{chartTable, lastTable, refusal, changeCode, questionCode, priceCode}
 
@@ -85,21 +86,39 @@ module _ (w : Parameters) (m : Machine) where
 
   -- ---- the other families
 
-  pub history-refusal : (h : HistoryCall) → refusal w m (History h) ≡ historyRule (w .changes) h .code m
+  -- where a history call is within reach
+  pub history-refusal : (h : HistoryCall) → outOfReach (w .changes) m (historyCall h) ≡ false → refusal w m (History h) ≡ historyRule (w .changes) h .code m
   unfolding refusal
-  history-refusal (SetMark k) = refl
-  history-refusal (DropMark k) = refl
-  history-refusal Undo = refl
-  history-refusal Redo = refl
-  history-refusal (GoTo k) = refl
-  history-refusal Commit = refl
-  history-refusal (Between j k) = refl
-  history-refusal Standing = refl
-  history-refusal Free = refl
-  history-refusal (NameMark k b c) = refl
-  history-refusal (GoToName b c) = refl
-  history-refusal (SetBench k) = refl
-  history-refusal (MadeBy j k b) = refl
+  history-refusal (SetMark k) r = refl
+  history-refusal (DropMark k) r = refl
+  history-refusal Undo r = refl
+  history-refusal Redo r = rw r
+  history-refusal (GoTo k) r = rw r
+  history-refusal Commit r = refl
+  history-refusal (Between j k) r = refl
+  history-refusal Standing r = refl
+  history-refusal Free r = refl
+  history-refusal (NameMark k b c) r = refl
+  history-refusal (GoToName b c) r = rw r
+  history-refusal (SetBench k) r = refl
+  history-refusal (MadeBy j k b) r = refl
+
+  -- and where it is not
+  pub history-beyond : (h : HistoryCall) → outOfReach (w .changes) m (historyCall h) ≡ true → refusal w m (History h) ≡ 10
+  unfolding refusal
+  history-beyond (SetMark k) r = ft r
+  history-beyond (DropMark k) r = ft r
+  history-beyond Undo r = ft r
+  history-beyond Redo r = rw r
+  history-beyond (GoTo k) r = rw r
+  history-beyond Commit r = ft r
+  history-beyond (Between j k) r = ft r
+  history-beyond Standing r = ft r
+  history-beyond Free r = ft r
+  history-beyond (NameMark k b c) r = ft r
+  history-beyond (GoToName b c) r = rw r
+  history-beyond (SetBench k) r = ft r
+  history-beyond (MadeBy j k b) r = ft r
 
   pub question-refusal : (q : Question) → refusal w m (Ask q) ≡ questionCode (length (w .rows)) (present m) q
   unfolding refusal

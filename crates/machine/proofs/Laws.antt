@@ -5,15 +5,17 @@ use mathlib.Core.Logic.{_↔_}
 use mathlib.Core.Bool.{Bool, true, false}
 use native.Mathlib.Omega.{arith}
 use lib.ListN.{length}
-use borrow.Author.Tests.{eqb-true, eq-eqb, ne-eqb}
+use borrow.Author.Tests.{eqb-true, eq-eqb, ne-eqb, le-ltb}
 use Rattle.lists.specs.Choice.{_⇒_else_, _==_}
-use Rattle.history.specs.Machine.{Machine, movedTo, freshAt, present}
+use Rattle.history.specs.Machine.{Machine, onward, movedTo, freshAt, present}
 use Rattle.commands.specs.declared.HistoryCall.the-variants.{Undo, Redo, Commit}
 use Rattle.commands.specs.declared.Command.the-variants.{History}
 use Rattle.machine.specs.Calls.{Parameters}
 use Rattle.machine.specs.Codes.{free, refusal}
 use Rattle.commands.specs.declared.Answer.{Answer}
 use Rattle.machine.specs.Machine.{answerTo, stepTo}
+use Rattle.machine.specs.HistoryCodes.{tooFar}
+use Rattle.history.proofs.Timelines.{onward-end}
 
 abbrev accepts : ℕ → Answer
 accepts n = record { code = 0; number = n }
@@ -36,22 +38,28 @@ module _ (w : Parameters) (m : Machine) where
       let q : m .line .place - 1 ≡ p = omega arith in
       (rw f, rw (f, q))
 
-  -- ---- redo: refused exactly where p is m, else it answers 1 and gives the graph after
+  -- ---- redo: refused with 14 exactly where p is m, with 10 where the step costs more than is free, else it answers 1 and
+  -- gives the graph after
 
   pub redo-refused : (m .line .place ≡ length (m .line .steps)) ↔ (refusal w m (History Redo) ≡ 14)
   unfolding refusal
   redo-refused =
-      (λ e. rw (eq-eqb (m .line .place) (length (m .line .steps)) e), λ e. go (m .line .place == length (m .line .steps)) refl e)
+      (λ e. rw (eq-eqb (m .line .place) (length (m .line .steps)) e, last-free e), λ e. go (tooFar (w .changes) m (suc (m .line .place))) (m .line .place == length (m .line .steps)) refl e)
     where
-      go : (t : Bool) → (m .line .place == length (m .line .steps)) ≡ t → _≡_ {A = ℕ} (t ⇒ 14 else 0) 14 → m .line .place ≡ length (m .line .steps)
-      go true f e = eqb-true (m .line .place) (length (m .line .steps)) f
-      go false f e = absurd (omega arith)
+      last-free : m .line .place ≡ length (m .line .steps) → tooFar (w .changes) m (suc (m .line .place)) ≡ false
+      last-free e = le-ltb _ (onward (suc (m .line .place)) (m .line)) (omega (arith, onward-end (suc (m .line .place)) (m .line) (omega (arith, e))))
 
-  pub redo-made : (m .line .place ≡ length (m .line .steps) → ⊥) → (answerTo w m (History Redo) ≡ accepts 1) × (stepTo w m (History Redo) ≡ movedTo (suc (m .line .place)) m)
+      go : (u t : Bool) → (m .line .place == length (m .line .steps)) ≡ t → _≡_ {A = ℕ} (u ⇒ 10 else t ⇒ 14 else 0) 14 → m .line .place ≡ length (m .line .steps)
+      go true t f e = absurd (omega arith)
+      go false true f e = eqb-true (m .line .place) (length (m .line .steps)) f
+      go false false f e = absurd (omega arith)
+
+  pub redo-made : (m .line .place ≡ length (m .line .steps) → ⊥) → tooFar (w .changes) m (suc (m .line .place)) ≡ false →
+      (answerTo w m (History Redo) ≡ accepts 1) × (stepTo w m (History Redo) ≡ movedTo (suc (m .line .place)) m)
   unfolding answerTo stepTo refusal
-  redo-made e =
+  redo-made e t =
       let f : (m .line .place == length (m .line .steps)) ≡ false = ne-eqb (m .line .place) (length (m .line .steps)) e in
-      (rw f, rw f)
+      (rw (f, t), rw (f, t))
 
   -- ---- commit: always accepted; it answers p, keeps the graph and the bench and gives back everything
 

@@ -1,5 +1,7 @@
 pub mod Accepts
 pub mod MarkCalls
+pub mod Reached
+pub mod Rooms
 pub mod Stands
 pub mod MarkLaws
 pub mod NameLaws
@@ -22,3 +24,12 @@ pub mod Lowest
 pub mod OnWords
 pub mod StepsAlter
 pub mod Demands
+pub mod StoreLaws
+pub mod StoreGoing
+pub mod StoreWhole
+pub mod OneStart
+pub mod OneStore
+pub mod StoreCases
+pub mod StoreStarts
+pub mod StoreEnds
+pub mod StoreDemands

@@ -61,6 +61,18 @@ pub none-from : {rs : List Row} → NoneApplies rs → inTurn rs ≡ 0
 none-from none = refl
 none-from (passed f h) = rw f (none-from h)
 
+pub turn-either : (rs : List Row) → Coded rs → NoneApplies rs ⊎ ((k : ℕ) × First (suc k) rs)
+turn-either rs c = go (inTurn rs) refl
+  where
+    go : (n : ℕ) → inTurn rs ≡ n → NoneApplies rs ⊎ ((k : ℕ) × First (suc k) rs)
+    go zero e = inl (none-to rs c e)
+    go (suc k) e = inr (k, turn-to k rs e)
+
+-- a row with another code does not apply, where a later one is the first
+pub later-than : {k : ℕ} {r : Row} {rs : List Row} → First k (r ∷ rs) → (r .code ≡ k → ⊥) → (r .applies ≡ false) × First k rs
+later-than (found f e) n = absurd (n e)
+later-than (later f h) n = (f, h)
+
 -- ---- the lowest
 
 -- each code is above the one before it, the first above p
@@ -113,11 +125,11 @@ module _ (w : Parameters) (m : Machine) (c : Command) where
   unfolding refusal
   none-given = (none-to (codeTable w m (callOf c)) (coded w m (callOf c)), none-from)
 
--- what row 10 says
-pub no-room : (w : Parameters) (m : Machine) (x : Call) → (noRoom (w .changes) m x ≡ true) ↔ ((isChange (x .kind) ≡ true) × (free w m < cost (changeOf x) (present m)) × (alters (changeOf x) (present m) ≡ true))
+-- what row 10 says of a change
+pub no-room : (w : Parameters) (m : Machine) (x : Call) → isChange (x .kind) ≡ true → (noRoom (w .changes) m x ≡ true) ↔ ((free w m < cost (changeOf x) (present m)) × (alters (changeOf x) (present m) ≡ true))
 unfolding free
-no-room w m x =
-    (λ e. let p = and-true _ _ e in let q = and-true _ _ (p .1) in (p .0, ltb-true _ _ (q .0), q .1), λ h. rw (h .0, lt-ltb _ _ (h .1), h .2))
+no-room w m x k =
+    rw k (λ e. let q = and-true _ _ e in (ltb-true _ _ (q .0), q .1), λ h. rw (lt-ltb _ _ (h .0), h .1))
 
 -- ---- the table of a list
 
@@ -131,9 +143,4 @@ list-coded l = all-bool (λ (r : Row). leb 1 (r .code)) (λ r e. leb-true 1 (r .
 
 -- a list has a code, or no row applies
 pub list-either : (l : Lent) → NoneApplies (listTable l) ⊎ ((k : ℕ) × First (suc k) (listTable l))
-unfolding listRefusal
-list-either l = go (listRefusal l) refl
-  where
-    go : (n : ℕ) → listRefusal l ≡ n → NoneApplies (listTable l) ⊎ ((k : ℕ) × First (suc k) (listTable l))
-    go zero e = inl (none-to (listTable l) (list-coded l) e)
-    go (suc k) e = inr (k, list-code-given l k .0 e)
+list-either l = turn-either (listTable l) (list-coded l)

@@ -1,19 +1,19 @@
 -- When marks stand and what going to one gives: REFERENCE 4.11 and 4.12.
-use Prim.Native.Nat.{ℕ, _≤_}
+use Prim.Native.Nat.{ℕ, suc, _≤_}
 use mathlib.Core.Path.{_≡_, refl, sym, ap, _∙_}
-use mathlib.Core.Logic.{_⊎_, inl, inr}
+use mathlib.Core.Logic.{_⊎_, inl, inr, _↔_}
 use mathlib.Core.Bool.{Bool, true, false}
 use mathlib.Core.List.{List, [], _∷_}
 use native.Mathlib.Omega.{arith}
 use lib.Dec.{ltb}
 use lib.ListN.{length}
 use borrow.Author.Tests.{ltb-false, eqb-true, eqb-false}
-use Rattle.lists.specs.Choice.{_==_, within}
+use Rattle.lists.specs.Choice.{_⇒_else_, _==_, within}
 use Rattle.lists.specs.Lists.{any}
 use Rattle.lists.proofs.Bools.{tf, ft, and-true, or-none}
 use Rattle.graph.specs.Graph.{Graph}
-use Rattle.history.specs.Machine.{Machine, MarkPlace, gone, at, placeOr, graphAt, distance, fresh, present, name, holderOf}
-use Rattle.history.proofs.Timelines.{length-cut, graph-kept}
+use Rattle.history.specs.Machine.{Machine, MarkPlace, gone, at, placeOr, graphAt, onward, distance, fresh, present, name, holderOf}
+use Rattle.history.proofs.Timelines.{length-cut, graph-kept, onward-back}
 use Rattle.machine.specs.Rules.{Effect, steps, marks, unmarks, goes, names, benches, clears, nothing, effected}
 use Rattle.commands.specs.declared.HistoryCall.the-variants.{SetMark, DropMark, Undo, Redo, GoTo, Commit, Between, Standing as StandingMarks, Free, NameMark, GoToName, SetBench, MadeBy}
 use Rattle.commands.specs.declared.Command.{Command}
@@ -23,10 +23,16 @@ use Rattle.commands.specs.Commands.{commandOf}
 use Rattle.machine.specs.Calls.{Parameters}
 use Rattle.machine.specs.Codes.{refusal}
 use Rattle.machine.specs.Machine.{deedOf, answerTo, answer, step, last}
-use Rattle.machine.specs.Marks.{eventOf, events, setsMark, endsMark, Kept, set-here, set-later, goTo, MarkSentence}
+use Rattle.machine.specs.Marks.{Event, eventOf, events, setsMark, endsMark, Kept, set-here, set-later, goTo, MarkSentence}
 use Rattle.machine.proofs.Families.{change-effect}
 use Rattle.machine.proofs.Accepts.{code-is, accepted-step, refused-step, not-refused}
 use Rattle.machine.proofs.MarkCalls.{setsBy, endsBy, sets-is, ends-is}
+use Rattle.machine.specs.HistoryCodes.{tooFar}
+use Rattle.machine.specs.Posed.{Posed, roomed, lastAt, eventsAt}
+use Rattle.machine.specs.Sentences.{Goes, MarkSentenceAt}
+use Rattle.machine.proofs.CostsFit.{costs-last, costs-at}
+use Rattle.machine.proofs.Rooms.{own-reach, near, far}
+use Rattle.machine.proofs.Reached.{Reached, here, by, reached, reached-at}
 use Rattle.machine.proofs.Stands.{gone-at, cut-at, set-to, drop-to, KeptOrStanding, last-to, kept-from}
 
 -- ---- the places stay within the graphs, and a kept place keeps its graph
@@ -41,11 +47,12 @@ fresh-places g = record { place-in = omega arith; marks-in = λ k q e. gone-at e
 -- code 14
 redo-room : (w : Parameters) (m : Machine) → (refusal w m (History Redo) == 0) ≡ true → (m .line .place == length (m .line .steps)) ≡ false
 unfolding refusal
-redo-room w m f = go (m .line .place == length (m .line .steps)) refl
+redo-room w m f = go (tooFar (w .changes) m (suc (m .line .place))) (m .line .place == length (m .line .steps)) f
   where
-    go : (t : Bool) → (m .line .place == length (m .line .steps)) ≡ t → t ≡ false
-    go true e = sym (rw e at f)
-    go false e = refl
+    go : (u t : Bool) → ((u ⇒ 10 else t ⇒ 14 else 0) == 0) ≡ true → t ≡ false
+    go true t e = ft e
+    go false true e = ft e
+    go false false e = refl
 
 -- code 11
 pub set-range : (w : Parameters) (m : Machine) (k : ℕ) → (refusal w m (History (SetMark k)) == 0) ≡ true → within 1 64 k ≡ true
@@ -194,21 +201,19 @@ holds-sets w m x k q g h i e =
     let f = not-refused w m (commandOf x) (a .0) in
     rw (accepted-step w m (commandOf x) f) (holds-next (deedOf w (commandOf x) m .effect) m q g h i (sets-loses (deedOf w (commandOf x) m .effect) k q (m .line .place) (a .1)))
 
-stay-graph : (w : Parameters) (m : Machine) (xs : List Call) (k q : ℕ) (g : Graph) → PlacesInRange m → Holds m q g → any (endsMark k q) (events w m xs) ≡ false →
-    Holds (last w m xs) q g
-unfolding last events
-stay-graph w m [] k q g h i e = i
-stay-graph w m (x ∷ xs) k q g h i e =
-    stay-graph w (step w m x) xs k q g (places-step w m x h)
+stay-graph : {m n : Machine} {es : List Event} → Reached m es n → (k q : ℕ) (g : Graph) → PlacesInRange m → Holds m q g → any (endsMark k q) es ≡ false → Holds n q g
+stay-graph here k q g h i e = i
+stay-graph (by {m} {n} {es} w x r) k q g h i e =
+    stay-graph r k q g (places-step w m x h)
     (holds-ends w m x k q g h i (or-none (endsMark k q (eventOf w m x)) _ e .0))
     (or-none (endsMark k q (eventOf w m x)) _ e .1)
 
-pub kept-graph : (w : Parameters) (m : Machine) (xs : List Call) (k q : ℕ) (g : Graph) → PlacesInRange m → Kept k q g (events w m xs) → Holds (last w m xs) q g
-unfolding last events Holds
-kept-graph w m (x ∷ xs) k q g h (set-here s p c nz) =
-    stay-graph w (step w m x) xs k q g (places-step w m x h)
+pub kept-graph : {m n : Machine} {es : List Event} → Reached m es n → (k q : ℕ) (g : Graph) → PlacesInRange m → Kept k q g es → Holds n q g
+unfolding Holds
+kept-graph (by {m} {n} {es} w x r) k q g h (set-here s p c nz) =
+    stay-graph r k q g (places-step w m x h)
     (holds-sets w m x k q g h (rw p at (h .place-in), ap (λ (i : ℕ). graphAt i (m .line .start) (m .line .steps)) (sym p) ∙ c) s) nz
-kept-graph w m (x ∷ xs) k q g h (set-later r) = kept-graph w (step w m x) xs k q g (places-step w m x h) r
+kept-graph (by {m} {n} {es} w x r) k q g h (set-later t) = kept-graph r k q g (places-step w m x h) t
 
 sets-range : (w : Parameters) (m : Machine) (c : Command) (k : ℕ) → (refusal w m c == 0) ≡ true → setsBy (deedOf w c m .effect) k ≡ true → within 1 64 k ≡ true
 sets-range w m (History (SetMark n)) k f e = ap (within 1 64) (eqb-true k n e) ∙ set-range w m n f
@@ -229,12 +234,11 @@ sets-range w m (Ask q) k f e = ft e
 sets-range w m (Quote p) k f e = ft e
 sets-range w m Unknown k f e = ft e
 
-pub kept-range : (w : Parameters) (m : Machine) (xs : List Call) (k q : ℕ) (g : Graph) → Kept k q g (events w m xs) → within 1 64 k ≡ true
-unfolding events
-kept-range w m (x ∷ xs) k q g (set-here s p c nz) =
+pub kept-range : {m n : Machine} {es : List Event} → Reached m es n → (k q : ℕ) (g : Graph) → Kept k q g es → within 1 64 k ≡ true
+kept-range (by {m} {n} {es} w x r) k q g (set-here s p c nz) =
     let a = and-true _ _ (sym (sets-is w m k q x) ∙ s) in
     sets-range w m (commandOf x) k (not-refused w m (commandOf x) (a .0)) (a .1)
-kept-range w m (x ∷ xs) k q g (set-later r) = kept-range w (step w m x) xs k q g r
+kept-range (by {m} {n} {es} w x r) k q g (set-later t) = kept-range r k q g t
 
 -- ---- going to a standing mark
 
@@ -242,37 +246,80 @@ go-command : (k b c d : ℕ) → commandOf (goTo k b c d) ≡ History (GoTo k)
 unfolding commandOf
 go-command k b c d = refl
 
-go-accepted : (w : Parameters) (m : Machine) (k q : ℕ) → within 1 64 k ≡ true → m .marks k ≡ at q → refusal w m (History (GoTo k)) ≡ 0
+go-refusal : (w : Parameters) (m : Machine) (k q : ℕ) → within 1 64 k ≡ true → m .marks k ≡ at q → refusal w m (History (GoTo k)) ≡ (tooFar (w .changes) m q ⇒ 10 else 0)
 unfolding refusal
-go-accepted w m k q r e = rw (r, e)
+go-refusal w m k q r e = rw (r, e)
 
+-- at any parameters
 module _ (w : Parameters) (m : Machine) (k q b c d : ℕ) (r : within 1 64 k ≡ true) (e : m .marks k ≡ at q) where
-  zero-test : (refusal w m (History (GoTo k)) == 0) ≡ true
-  zero-test = rw (go-accepted w m k q r e)
-
-  go-code : answer w m (goTo k b c d) .code ≡ 0
+  go-too-far : tooFar (w .changes) m q ≡ true → answer w m (goTo k b c d) .code ≡ 10
   unfolding answerTo
-  go-code = rw (go-command k b c d) (go-accepted w m k q r e)
+  go-too-far t = rw (go-command k b c d) (go-refusal w m k q r e ∙ ap (λ (u : Bool). u ⇒ 10 else 0) t)
 
-  go-number : answer w m (goTo k b c d) .number ≡ distance (m .line .place) q
-  unfolding answerTo
-  go-number = rw (go-command k b c d, zero-test, e)
+  module _ (t : tooFar (w .changes) m q ≡ false) where
+    go-accepted : refusal w m (History (GoTo k)) ≡ 0
+    go-accepted = go-refusal w m k q r e ∙ ap (λ (u : Bool). u ⇒ 10 else 0) t
 
-  go-graph : (g : Graph) → Holds m q g → present (step w m (goTo k b c d)) ≡ g
-  unfolding Holds
-  go-graph g h = rw (go-command k b c d, accepted-step w m (History (GoTo k)) zero-test, e) (h .1)
+    zero-test : (refusal w m (History (GoTo k)) == 0) ≡ true
+    zero-test = rw go-accepted
 
+    go-code : answer w m (goTo k b c d) .code ≡ 0
+    unfolding answerTo
+    go-code = rw (go-command k b c d) go-accepted
+
+    go-number : answer w m (goTo k b c d) .number ≡ distance (m .line .place) q
+    unfolding answerTo
+    go-number = rw (go-command k b c d, zero-test, e)
+
+    go-graph : (g : Graph) → Holds m q g → present (step w m (goTo k b c d)) ≡ g
+    unfolding Holds
+    go-graph g h = rw (go-command k b c d, accepted-step w m (History (GoTo k)) zero-test, e) (h .1)
+
+-- ---- the sentence, of every machine that calls have led to
+
+module _ (g : Graph) (m : Machine) (es : List Event) (z : Reached (fresh g) es m) where
+  pub stands-iff : (k q : ℕ) → (m .marks k ≡ at q) ↔ ((h : Graph) × Kept k q h es)
+  unfolding KeptOrStanding
+  stands-iff k q = (λ e. only (last-to z k q e), λ h. kept-from z k q (h .0) (h .1))
+    where
+      only : KeptOrStanding (fresh g) es k q → (h : Graph) × Kept k q h es
+      only (inl h) = h
+      only (inr h) = gone-at (h .0)
+
+  module _ (w : Parameters) (k q : ℕ) (h : Graph) (b c d : ℕ) (r : Kept k q h es) where
+    goes-to : tooFar (w .changes) m q ≡ false → (answer w m (goTo k b c d) .code ≡ 0) × (present (step w m (goTo k b c d)) ≡ h) × (answer w m (goTo k b c d) .number ≡ distance (m .line .place) q)
+    goes-to t =
+        let s = kept-range z k q h r in
+        let e = kept-from z k q h r in
+        let i = kept-graph z k q h (fresh-places g) r in
+        (go-code w m k q b c d s e t, go-graph w m k q b c d s e t h i, go-number w m k q b c d s e t)
+
+    no-way : tooFar (w .changes) m q ≡ true → answer w m (goTo k b c d) .code ≡ 10
+    no-way t = go-too-far w m k q b c d (kept-range z k q h r) (kept-from z k q h r) t
+
+-- one store alone, which has room for all its steps
 pub mark-sentence : (w : Parameters) (g : Graph) (xs : List Call) → MarkSentence w g xs
-unfolding KeptOrStanding
 mark-sentence w g xs = record {
-  stands-iff = λ k q. (λ e. only k q (last-to w (fresh g) xs k q e), λ h. kept-from w (fresh g) xs k q (h .0) (h .1));
+  stands-iff = stands-iff g (last w (fresh g) xs) (events w (fresh g) xs) (reached w (fresh g) xs);
   going = λ k q h b c d r.
-      let s = kept-range w (fresh g) xs k q h r in
-      let e = kept-from w (fresh g) xs k q h r in
-      let i = kept-graph w (fresh g) xs k q h (fresh-places g) r in
-      (go-code w (last w (fresh g) xs) k q b c d s e, go-graph w (last w (fresh g) xs) k q b c d s e h i, go-number w (last w (fresh g) xs) k q b c d s e);
+      goes-to g (last w (fresh g) xs) (events w (fresh g) xs) (reached w (fresh g) xs) w k q h b c d r (own-reach w (last w (fresh g) xs) (costs-last w g xs) q);
 }
-  where
-    only : (k q : ℕ) → KeptOrStanding w (fresh g) xs k q → (h : Graph) × Kept k q h (events w (fresh g) xs)
-    only k q (inl h) = h
-    only k q (inr h) = gone-at (h .0)
+
+-- one of several, at the joint room that each call finds
+module _ (w : Parameters) (g : Graph) (ys : List Posed) where
+  abbrev end : Machine
+  end = lastAt w (fresh g) ys
+
+  goes-at : (r k q : ℕ) (h : Graph) (b c d : ℕ) → Kept k q h (eventsAt w (fresh g) ys) → onward q (end .line) ≤ r → Goes w end r (goTo k b c d) q h
+  goes-at r k q h b c d l n =
+      let a = goes-to g end (eventsAt w (fresh g) ys) (reached-at w (fresh g) ys) (roomed w end r) k q h b c d l (near w end (costs-at w g ys) q r n) in
+      record { accepted = a .0; graph = a .1; moved = a .2 }
+
+  pub mark-sentence-at : MarkSentenceAt w g ys
+  mark-sentence-at = record {
+    stands-iff = stands-iff g end (eventsAt w (fresh g) ys) (reached-at w (fresh g) ys);
+    going = goes-at;
+    too-far = λ r k q h b c d l n.
+        no-way g end (eventsAt w (fresh g) ys) (reached-at w (fresh g) ys) (roomed w end r) k q h b c d l (far w end q r n);
+    going-back = λ r k q h b c d l n. goes-at r k q h b c d l (omega (arith, onward-back q (end .line) n));
+  }

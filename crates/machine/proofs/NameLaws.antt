@@ -1,19 +1,25 @@
 -- When marks have names and what going by one gives.
-use Prim.Native.Nat.{ℕ}
+use Prim.Native.Nat.{ℕ, _≤_}
 use mathlib.Core.Path.{_≡_, refl, sym, ap, _∙_}
-use mathlib.Core.Logic.{_⊎_, inl, inr, _≢_}
+use mathlib.Core.Logic.{_⊎_, inl, inr, _≢_, _↔_}
 use mathlib.Core.Bool.{Bool, true, false, not, _&&_, _||_}
 use mathlib.Core.List.{List, [], _∷_}
 use native.Mathlib.Omega.{arith}
-use borrow.Author.Tests.{eqb-true, eqb-false, eq-eqb, ne-eqb, not-false}
+use borrow.Author.Tests.{eqb-true, eqb-false, eq-eqb, ne-eqb, not-false, le-ltb}
 use Rattle.lists.specs.Choice.{_⇒_else_, _==_, within}
 use Rattle.lists.specs.Lists.{any}
 use Rattle.lists.proofs.Bools.{tf, ft, and-true, and-both, or-none, or-left, or-right, within-range}
 use Rattle.lists.proofs.Picks.{same, differ, same?}
 use Rattle.graph.specs.Graph.{Graph}
-use Rattle.history.specs.Machine.{Machine, MarkPlace, gone, at, stands, cut, Name, name, noName, isName, sameName, named, bears, holderBut, holderOf, distance, fresh, present}
+use Rattle.history.specs.Machine.{Machine, MarkPlace, gone, at, stands, cut, Name, name, noName, isName, sameName, named, bears, holderBut, holderOf, placeOr, onward, distance, fresh, present}
 use Rattle.history.proofs.Seeking.{seek-none, seek-all, seek-found}
-use Rattle.machine.specs.HistoryCodes.{nameTaken}
+use Rattle.machine.specs.HistoryCodes.{nameTaken, tooFar, placeOf}
+use Rattle.history.proofs.Timelines.{onward-back}
+use Rattle.machine.specs.Posed.{Posed, roomed, lastAt, eventsAt}
+use Rattle.machine.specs.Sentences.{Goes, NameSentenceAt}
+use Rattle.machine.proofs.CostsFit.{costs-last, costs-at}
+use Rattle.machine.proofs.Rooms.{own-reach, near, far}
+use Rattle.machine.proofs.Reached.{Reached, here, by, reached, reached-at}
 use Rattle.machine.specs.Rules.{Effect, steps, marks, unmarks, goes, names, benches, clears, nothing, effected}
 use Rattle.commands.specs.declared.HistoryCall.the-variants.{SetMark, DropMark, Undo, Redo, GoTo, Commit, Between, Standing as StandingMarks, Free, NameMark, GoToName, SetBench, MadeBy}
 use Rattle.commands.specs.declared.Command.{Command}
@@ -29,7 +35,7 @@ use Rattle.machine.proofs.Families.{change-effect}
 use Rattle.machine.proofs.Accepts.{not-refused, code-is, accepted-step, refused-step}
 use Rattle.machine.proofs.MarkCalls.{endsBy, renamesBy, namesBy, ends-is, renames-is, gives-is}
 use Rattle.machine.proofs.Stands.{gone-at, cut-at, set-to, drop-to, KeptOrStanding, last-to, kept-from}
-use Rattle.machine.proofs.MarkLaws.{set-range, Holds, kept-graph, kept-range, fresh-places, mark-sentence}
+use Rattle.machine.proofs.MarkLaws.{set-range, Holds, kept-graph, kept-range, fresh-places, stands-iff}
 
 -- ---- names
 
@@ -236,10 +242,9 @@ naming-step w m x h = go (refusal w m (commandOf x) == 0) refl
     go true f = rw (accepted-step w m (commandOf x) f) (naming-next (deedOf w (commandOf x) m .effect) m h (proper w m (commandOf x) f))
     go false f = rw (refused-step w m (commandOf x) f) h
 
-naming-last : (w : Parameters) (m : Machine) (xs : List Call) → Naming m → Naming (last w m xs)
-unfolding last
-naming-last w m [] h = h
-naming-last w m (x ∷ xs) h = naming-last w (step w m x) xs (naming-step w m x h)
+naming-last : {m n : Machine} {es : List Event} → Reached m es n → Naming m → Naming n
+naming-last here h = h
+naming-last (by {m} {n} {es} w x r) h = naming-last r (naming-step w m x h)
 
 -- ---- a mark that stands has the name that it was given last
 
@@ -339,42 +344,42 @@ kept-ends k q (set-here {e} {es} s p c nz) =
 kept-ends k q (set-later {e} {es} r) = or-right (endsName k q e) _ (kept-ends k q r)
 
 -- a mark that stands at the end and was not ended stood before
-was-standing : (w : Parameters) (m : Machine) (xs : List Call) (k q : ℕ) → last w m xs .marks k ≡ at q → any (endsName k q) (events w m xs) ≡ false → m .marks k ≡ at q
+was-standing : {m o : Machine} {es : List Event} → Reached m es o → (k q : ℕ) → o .marks k ≡ at q → any (endsName k q) es ≡ false → m .marks k ≡ at q
 unfolding KeptOrStanding
-was-standing w m xs k q a nz = go (last-to w m xs k q a)
+was-standing {m} {o} {es} z k q a nz = go (last-to z k q a)
   where
-    go : ((h : Graph) × Kept k q h (events w m xs)) ⊎ ((m .marks k ≡ at q) × (any (endsMark k q) (events w m xs) ≡ false)) → m .marks k ≡ at q
+    go : ((h : Graph) × Kept k q h es) ⊎ ((m .marks k ≡ at q) × (any (endsMark k q) es ≡ false)) → m .marks k ≡ at q
     go (inl h) = ft (sym nz ∙ kept-ends k q (h .1))
     go (inr h) = h .0
 
-module _ (w : Parameters) (k q : ℕ) (n : Name) where
-  name-last : (m : Machine) (xs : List Call) → isName n ≡ true → last w m xs .marks k ≡ at q → last w m xs .names k ≡ n →
-      (NameKept k q n (events w m xs)) ⊎ ((m .names k ≡ n) × (any (endsName k q) (events w m xs) ≡ false))
-  unfolding last events AfterCall
-  name-last m [] r a e = inr (e, refl)
-  name-last m (x ∷ xs) r a e = go (name-last (step w m x) xs r a e)
+module _ (k q : ℕ) (n : Name) where
+  abbrev NamedOrBefore : Machine → List Event → Type 0
+  NamedOrBefore m es = (NameKept k q n es) ⊎ ((m .names k ≡ n) × (any (endsName k q) es ≡ false))
+
+  name-last : {m o : Machine} {es : List Event} → Reached m es o → isName n ≡ true → o .marks k ≡ at q → o .names k ≡ n → NamedOrBefore m es
+  unfolding AfterCall
+  name-last here r a e = inr (e, refl)
+  name-last (by {m} {es} w x z) r a e = go (name-last z r a e)
     where
-      one : any (endsName k q) (events w (step w m x) xs) ≡ false → AfterCall w m x k q n →
-          (NameKept k q n (events w m (x ∷ xs))) ⊎ ((m .names k ≡ n) × (any (endsName k q) (events w m (x ∷ xs)) ≡ false))
+      one : any (endsName k q) es ≡ false → AfterCall w m x k q n → NamedOrBefore m (eventOf w m x ∷ es)
       one nz (inl h) = inl (named-here h nz)
       one nz (inr h) = inr (h .0, neither (h .1) nz)
 
-      go : (NameKept k q n (events w (step w m x) xs)) ⊎ ((step w m x .names k ≡ n) × (any (endsName k q) (events w (step w m x) xs) ≡ false)) →
-          (NameKept k q n (events w m (x ∷ xs))) ⊎ ((m .names k ≡ n) × (any (endsName k q) (events w m (x ∷ xs)) ≡ false))
+      go : NamedOrBefore (step w m x) es → NamedOrBefore m (eventOf w m x ∷ es)
       go (inl h) = inl (named-later h)
-      go (inr h) = one (h .1) (step-to w m x k q n r (was-standing w (step w m x) xs k q a (h .1)) (h .0))
+      go (inr h) = one (h .1) (step-to w m x k q n r (was-standing z k q a (h .1)) (h .0))
 
-  name-stays : (m : Machine) (xs : List Call) → last w m xs .marks k ≡ at q → m .names k ≡ n → any (endsName k q) (events w m xs) ≡ false → last w m xs .names k ≡ n
-  unfolding last events AfterCall
-  name-stays m [] a e nz = e
-  name-stays m (x ∷ xs) a e nz =
+  name-stays : {m o : Machine} {es : List Event} → Reached m es o → o .marks k ≡ at q → m .names k ≡ n → any (endsName k q) es ≡ false → o .names k ≡ n
+  unfolding AfterCall
+  name-stays here a e nz = e
+  name-stays (by {m} {es} w x z) a e nz =
       let b = or-none (endsName k q (eventOf w m x)) _ nz in
-      name-stays (step w m x) xs a (step-from w m x k q n (was-standing w (step w m x) xs k q a (b .1)) (inr (e, b .0))) (b .1)
+      name-stays z a (step-from w m x k q n (was-standing z k q a (b .1)) (inr (e, b .0))) (b .1)
 
-  name-kept : (m : Machine) (xs : List Call) → last w m xs .marks k ≡ at q → NameKept k q n (events w m xs) → last w m xs .names k ≡ n
-  unfolding last events AfterCall
-  name-kept m (x ∷ xs) a (named-here s nz) = name-stays (step w m x) xs a (step-from w m x k q n (was-standing w (step w m x) xs k q a nz) (inl s)) nz
-  name-kept m (x ∷ xs) a (named-later r) = name-kept (step w m x) xs a r
+  name-kept : {m o : Machine} {es : List Event} → Reached m es o → o .marks k ≡ at q → NameKept k q n es → o .names k ≡ n
+  unfolding AfterCall
+  name-kept (by {m} {es} w x z) a (named-here s nz) = name-stays z a (step-from w m x k q n (was-standing z k q a nz) (inl s)) nz
+  name-kept (by {m} {es} w x z) a (named-later t) = name-kept z a t
 
 -- ---- a name that was given is one
 
@@ -389,12 +394,11 @@ given-real (benches b) m k n p h = ft h
 given-real clears m k n p h = ft h
 given-real nothing m k n p h = ft h
 
-kept-real : (w : Parameters) (m : Machine) (xs : List Call) (k q : ℕ) (n : Name) → NameKept k q n (events w m xs) → isName n ≡ true
-unfolding events
-kept-real w m (x ∷ xs) k q n (named-here s nz) =
+kept-real : {m o : Machine} {es : List Event} → Reached m es o → (k q : ℕ) (n : Name) → NameKept k q n es → isName n ≡ true
+kept-real (by {m} {es} w x z) k q n (named-here s nz) =
     let a = and-true _ _ (sym (gives-is w m k q x n) ∙ s) in
     given-real (deedOf w (commandOf x) m .effect) m k n (proper w m (commandOf x) (not-refused w m (commandOf x) (a .0))) (a .1)
-kept-real w m (x ∷ xs) k q n (named-later r) = kept-real w (step w m x) xs k q n r
+kept-real (by {m} {es} w x z) k q n (named-later t) = kept-real z k q n t
 
 -- ---- giving a name
 
@@ -424,88 +428,169 @@ by-command : (n : Name) (c d : ℕ) → commandOf (goBy n c d) ≡ History (GoTo
 unfolding commandOf
 by-command n c d = refl
 
-by-code : (w : Parameters) (m : Machine) (n : Name) → refusal w m (History (GoToName (n .first) (n .second))) ≡ ((holderOf n m == 0) ⇒ 19 else 0)
+by-code : (w : Parameters) (m : Machine) (n : Name) → refusal w m (History (GoToName (n .first) (n .second))) ≡ (tooFar (w .changes) m (placeOf m (holderOf n m)) ⇒ 10 else (holderOf n m == 0) ⇒ 19 else 0)
 unfolding refusal
 by-code w m n = refl
 
 module _ (w : Parameters) (m : Machine) (k q c d : ℕ) (n : Name) (z : k ≢ 0) (i : holderOf n m ≡ k) (e : m .marks k ≡ at q) where
-  by-accepted : refusal w m (History (GoToName (n .first) (n .second))) ≡ 0
-  by-accepted = by-code w m n ∙ ap (λ (t : Bool). t ⇒ 19 else 0) (ap (λ (j : ℕ). j == 0) i ∙ ne-eqb k 0 z)
+  by-refusal : refusal w m (History (GoToName (n .first) (n .second))) ≡ (tooFar (w .changes) m q ⇒ 10 else 0)
+  by-refusal =
+      by-code w m n
+      ∙ (λ j. tooFar (w .changes) m ((ap (placeOf m) i ∙ ap (placeOr (m .line .place)) e) j) ⇒ 10 else ((ap (λ (j : ℕ). j == 0) i ∙ ne-eqb k 0 z) j ⇒ 19 else 0))
 
-  zero-test : (refusal w m (History (GoToName (n .first) (n .second))) == 0) ≡ true
-  zero-test = rw by-accepted
-
-  to-code : answer w m (goBy n c d) .code ≡ 0
+  to-far : tooFar (w .changes) m q ≡ true → answer w m (goBy n c d) .code ≡ 10
   unfolding answerTo
-  to-code = rw (by-command n c d) by-accepted
+  to-far t = rw (by-command n c d) (by-refusal ∙ ap (λ (u : Bool). u ⇒ 10 else 0) t)
 
-  to-number : answer w m (goBy n c d) .number ≡ distance (m .line .place) q
-  unfolding answerTo
-  to-number = rw (by-command n c d, zero-test, i, e)
+  module _ (t : tooFar (w .changes) m q ≡ false) where
+    by-accepted : refusal w m (History (GoToName (n .first) (n .second))) ≡ 0
+    by-accepted = by-refusal ∙ ap (λ (u : Bool). u ⇒ 10 else 0) t
 
-  to-graph : (g : Graph) → Holds m q g → present (step w m (goBy n c d)) ≡ g
-  unfolding Holds
-  to-graph g h = rw (by-command n c d, accepted-step w m (History (GoToName (n .first) (n .second))) zero-test, i, e) (h .1)
+    zero-test : (refusal w m (History (GoToName (n .first) (n .second))) == 0) ≡ true
+    zero-test = rw by-accepted
 
-no-holder : (w : Parameters) (m : Machine) (n : Name) (c d : ℕ) → ((k : ℕ) → bears m n k ≡ false) → answer w m (goBy n c d) .code ≡ 19
+    to-code : answer w m (goBy n c d) .code ≡ 0
+    unfolding answerTo
+    to-code = rw (by-command n c d) by-accepted
+
+    to-number : answer w m (goBy n c d) .number ≡ distance (m .line .place) q
+    unfolding answerTo
+    to-number = rw (by-command n c d, zero-test, i, e)
+
+    to-graph : (g : Graph) → Holds m q g → present (step w m (goBy n c d)) ≡ g
+    unfolding Holds
+    to-graph g h = rw (by-command n c d, accepted-step w m (History (GoToName (n .first) (n .second))) zero-test, i, e) (h .1)
+
+-- there is no mark 0, so that nothing is ahead
+no-holder : (w : Parameters) (m : Machine) (n : Name) (c d : ℕ) → m .marks 0 ≡ gone → ((k : ℕ) → bears m n k ≡ false) → answer w m (goBy n c d) .code ≡ 19
 unfolding answerTo holderBut
-no-holder w m n c d h =
+no-holder w m n c d o h =
     let z : holderOf n m ≡ 0 = seek-none 64 1 (λ j. not (j == 0) && bears m n j) (λ j. none (not (j == 0)) (bears m n j) (h j)) in
-    rw (by-command n c d) (by-code w m n ∙ ap (λ (t : Bool). t ⇒ 19 else 0) (eq-eqb _ 0 z))
+    let p : placeOf m (holderOf n m) ≡ m .line .place = ap (placeOf m) z ∙ ap (placeOr (m .line .place)) o in
+    let t : tooFar (w .changes) m (m .line .place) ≡ false = le-ltb _ (onward (m .line .place) (m .line)) (omega (arith, onward-back (m .line .place) (m .line) (omega arith))) in
+    rw (by-command n c d) (by-code w m n ∙ (λ j. (ap (tooFar (w .changes) m) p ∙ t) j ⇒ 10 else (eq-eqb _ 0 z j ⇒ 19 else 0)))
   where
     none : (a b : Bool) → b ≡ false → (a && b) ≡ false
     none true b e = e
     none false b e = refl
 
+-- ---- the sentence, of every machine that calls have led to
+
+module _ (g : Graph) (m : Machine) (es : List Event) (z : Reached (fresh g) es m) where
+  now : Naming m
+  now = naming-last z (fresh-naming g)
+
+  bearing : (k q : ℕ) (h : Graph) (n : Name) → HasName k q h n es → Bearing m n k
+  bearing k q h n x =
+      let a = kept-from z k q h (x .standing) in
+      record { standing = ap stands a; real = kept-real z k q n (x .given); has = name-kept k q n z a (x .given) }
+
+  told : (k : ℕ) (n : Name) → Bearing m n k → (q : ℕ) × (h : Graph) × HasName k q h n es
+  told k n b = go (m .marks k) refl (b .standing)
+    where
+      only : (q : ℕ) → NamedOrBefore k q n (fresh g) es → NameKept k q n es
+      only q (inl h) = h
+      only q (inr h) = no-name n (b .real) (h .0)
+
+      go : (s : MarkPlace) → m .marks k ≡ s → stands s ≡ true → (q : ℕ) × (h : Graph) × HasName k q h n es
+      go gone e t = ft t
+      go (at q) e t =
+          let s = stands-iff g m es z k q .0 e in
+          (q, s .0, record { standing = s .1; given = only q (name-last k q n z (b .real) e (b .has)) })
+
+  named-is : (k : ℕ) (n : Name) → (bears m n k ≡ true) ↔ ((q : ℕ) × (h : Graph) × HasName k q h n es)
+  named-is k n = (λ e. told k n (to-bearing m n k e), λ x. from-bearing m n k (bearing k (x .0) (x .1) n (x .2)))
+
+  none-bears : (k : ℕ) (n : Name) → ((k q : ℕ) (h : Graph) → HasName k q h n es → ⊥) → bears m n k ≡ false
+  none-bears k n f = go (bears m n k) refl
+    where
+      go : (t : Bool) → bears m n k ≡ t → t ≡ false
+      go true e = let x = told k n (to-bearing m n k e) in absurd (f k (x .0) (x .1) (x .2))
+      go false e = refl
+
+  unheld : (k : ℕ) (n : Name) → ((j p : ℕ) (f : Graph) → HasName j p f n es → j ≡ k) → holderBut k n m ≡ 0
+  unfolding holderBut
+  unheld k n f = seek-none 64 1 (λ j. not (j == k) && bears m n j) (λ j. go j (j == k) refl (bears m n j) refl)
+    where
+      go : (j : ℕ) (s : Bool) → (j == k) ≡ s → (t : Bool) → bears m n j ≡ t → (not s && t) ≡ false
+      go j true d t e = refl
+      go j false d true e = let x = told j n (to-bearing m n j e) in absurd (eqb-false j k d (f j (x .0) (x .1) (x .2)))
+      go j false d false e = refl
+
+  no-mark-0 : m .marks 0 ≡ gone
+  no-mark-0 = go (m .marks 0) refl
+    where
+      go : (s : MarkPlace) → m .marks 0 ≡ s → s ≡ gone
+      go gone e = refl
+      go (at q) e = ft (now .ranged 0 q e)
+
+  -- at any parameters
+  module _ (w : Parameters) where
+    is-named : (k q : ℕ) (h : Graph) (n : Name) (d : ℕ) → isName n ≡ true → Kept k q h es → ((j p : ℕ) (f : Graph) → HasName j p f n es → j ≡ k) → answer w m (nameIt k n d) .code ≡ 0
+    is-named k q h n d r s only = naming-code w m k n d (kept-range z k q h s) (ap stands (kept-from z k q h s)) r (unheld k n only)
+
+    is-missing : (n : Name) (c d : ℕ) → ((k q : ℕ) (h : Graph) → HasName k q h n es → ⊥) → answer w m (goBy n c d) .code ≡ 19
+    is-missing n c d f = no-holder w m n c d no-mark-0 (λ k. none-bears k n f)
+
+    module _ (k q : ℕ) (h : Graph) (n : Name) (c d : ℕ) (x : HasName k q h n es) where
+      stood : m .marks k ≡ at q
+      stood = kept-from z k q h (x .standing)
+
+      nonzero : k ≢ 0
+      nonzero j = omega (arith, within-range 1 64 k (kept-range z k q h (x .standing)) .0, j)
+
+      holder : holderOf n m ≡ k
+      holder = holder-is m k n now (bearing k q h n x)
+
+      goes-by : tooFar (w .changes) m q ≡ false → (answer w m (goBy n c d) .code ≡ 0) × (present (step w m (goBy n c d)) ≡ h) × (answer w m (goBy n c d) .number ≡ distance (m .line .place) q)
+      goes-by t = (
+        to-code w m k q c d n nonzero holder stood t,
+        to-graph w m k q c d n nonzero holder stood t h (kept-graph z k q h (fresh-places g) (x .standing)),
+        to-number w m k q c d n nonzero holder stood t,
+      )
+
+      no-way-by : tooFar (w .changes) m q ≡ true → answer w m (goBy n c d) .code ≡ 10
+      no-way-by t = to-far w m k q c d n nonzero holder stood t
+
+-- one store alone, which has room for all its steps
 pub name-sentence : (w : Parameters) (g : Graph) (xs : List Call) → NameSentence w g xs
-unfolding holderBut
-name-sentence w g xs = record {
-  named-iff = λ k n. (λ e. told k n (to-bearing m n k e), λ x. from-bearing m n k (bearing k (x .0) (x .1) n (x .2)));
-  unnamed = λ k e. now .bare k e;
-  one-holder = λ j k p q f h n a b. now .apart j k n (bearing j p f n a) (bearing k q h n b);
-  naming = λ k q h n d r s only.
-      naming-code w m k n d (kept-range w (fresh g) xs k q h s) (ap stands (kept-from w (fresh g) xs k q h s)) r (unheld k n only);
-  going = λ k q h n c d x.
-      let a = kept-from w (fresh g) xs k q h (x .standing) in
-      let f = within-range 1 64 k (kept-range w (fresh g) xs k q h (x .standing)) in
-      let i = holder-is m k n now (bearing k q h n x) in
-      let z : k ≢ 0 = λ j. omega (arith, f .0, j) in
-      (to-code w m k q c d n z i a, to-graph w m k q c d n z i a h (kept-graph w (fresh g) xs k q h (fresh-places g) (x .standing)), to-number w m k q c d n z i a);
-  missing = λ n c d f. no-holder w m n c d (λ k. unborne k n f (bears m n k) refl);
-}
-  where
-    m : Machine
-    m = last w (fresh g) xs
+name-sentence w g xs =
+    let m = last w (fresh g) xs in
+    let es = events w (fresh g) xs in
+    let z = reached w (fresh g) xs in
+    record {
+      named-iff = named-is g m es z;
+      unnamed = λ k e. now g m es z .bare k e;
+      one-holder = λ j k p q f h n a b. now g m es z .apart j k n (bearing g m es z j p f n a) (bearing g m es z k q h n b);
+      naming = is-named g m es z w;
+      going = λ k q h n c d x. goes-by g m es z w k q h n c d x (own-reach w m (costs-last w g xs) q);
+      missing = is-missing g m es z w;
+    }
 
-    now : Naming m
-    now = naming-last w (fresh g) xs (fresh-naming g)
+-- one of several, at the joint room that each call finds
+module _ (w : Parameters) (g : Graph) (ys : List Posed) where
+  abbrev end : Machine
+  end = lastAt w (fresh g) ys
 
-    bearing : (k q : ℕ) (h : Graph) (n : Name) → HasName k q h n (events w (fresh g) xs) → Bearing m n k
-    bearing k q h n x =
-        let a = kept-from w (fresh g) xs k q h (x .standing) in
-        record { standing = ap stands a; real = kept-real w (fresh g) xs k q n (x .given); has = name-kept w k q n (fresh g) xs a (x .given) }
+  abbrev told-of : List Event
+  told-of = eventsAt w (fresh g) ys
 
-    only : (k q : ℕ) (n : Name) → (NameKept k q n (events w (fresh g) xs)) ⊎ ((fresh g .names k ≡ n) × (any (endsName k q) (events w (fresh g) xs) ≡ false)) → isName n ≡ true → NameKept k q n (events w (fresh g) xs)
-    only k q n (inl h) r = h
-    only k q n (inr h) r = no-name n r (h .0)
+  came : Reached (fresh g) told-of end
+  came = reached-at w (fresh g) ys
 
-    told : (k : ℕ) (n : Name) → Bearing m n k → (q : ℕ) × (h : Graph) × HasName k q h n (events w (fresh g) xs)
-    told k n b = go (m .marks k) refl (b .standing)
-      where
-        go : (s : MarkPlace) → m .marks k ≡ s → stands s ≡ true → (q : ℕ) × (h : Graph) × HasName k q h n (events w (fresh g) xs)
-        go gone e t = ft t
-        go (at q) e t =
-            let s = mark-sentence w g xs .stands-iff k q .0 e in
-            (q, s .0, record { standing = s .1; given = only k q n (name-last w k q n (fresh g) xs (b .real) e (b .has)) (b .real) })
+  goes-at : (r k q : ℕ) (h : Graph) (n : Name) (c d : ℕ) → HasName k q h n told-of → onward q (end .line) ≤ r → Goes w end r (goBy n c d) q h
+  goes-at r k q h n c d x l =
+      let a = goes-by g end told-of came (roomed w end r) k q h n c d x (near w end (costs-at w g ys) q r l) in
+      record { accepted = a .0; graph = a .1; moved = a .2 }
 
-    unborne : (k : ℕ) (n : Name) → ((k q : ℕ) (h : Graph) → HasName k q h n (events w (fresh g) xs) → ⊥) → (t : Bool) → bears m n k ≡ t → t ≡ false
-    unborne k n f true e = let x = told k n (to-bearing m n k e) in absurd (f k (x .0) (x .1) (x .2))
-    unborne k n f false e = refl
-
-    unheld : (k : ℕ) (n : Name) → ((j p : ℕ) (f : Graph) → HasName j p f n (events w (fresh g) xs) → j ≡ k) → holderBut k n m ≡ 0
-    unheld k n f = seek-none 64 1 (λ j. not (j == k) && bears m n j) (λ j. go j (j == k) refl (bears m n j) refl)
-      where
-        go : (j : ℕ) (s : Bool) → (j == k) ≡ s → (t : Bool) → bears m n j ≡ t → (not s && t) ≡ false
-        go j true d t e = refl
-        go j false d true e = let x = told j n (to-bearing m n j e) in absurd (eqb-false j k d (f j (x .0) (x .1) (x .2)))
-        go j false d false e = refl
+  pub name-sentence-at : NameSentenceAt w g ys
+  name-sentence-at = record {
+    named-iff = named-is g end told-of came;
+    unnamed = λ k e. now g end told-of came .bare k e;
+    one-holder = λ j k p q f h n a b. now g end told-of came .apart j k n (bearing g end told-of came j p f n a) (bearing g end told-of came k q h n b);
+    naming = λ r. is-named g end told-of came (roomed w end r);
+    going = goes-at;
+    too-far = λ r k q h n c d x l. no-way-by g end told-of came (roomed w end r) k q h n c d x (far w end q r l);
+    going-back = λ r k q h n c d x l. goes-at r k q h n c d x (omega (arith, onward-back q (end .line) l));
+    missing = λ r. is-missing g end told-of came (roomed w end r);
+  }

@@ -16,10 +16,11 @@ use Rattle.commands.specs.Calls.{Call}
 use Rattle.commands.specs.Commands.{commandOf}
 use Rattle.machine.specs.Calls.{Parameters}
 use Rattle.machine.specs.Codes.{refusal}
-use Rattle.machine.specs.Machine.{deedOf, step, last}
-use Rattle.machine.specs.Marks.{eventOf, events, setsMark, endsMark, Kept, set-here, set-later}
+use Rattle.machine.specs.Machine.{deedOf, step}
+use Rattle.machine.specs.Marks.{Event, eventOf, setsMark, endsMark, Kept, set-here, set-later}
 use Rattle.machine.proofs.Accepts.{code-is, accepted-step, refused-step}
 use Rattle.machine.proofs.MarkCalls.{setsBy, endsBy, sets-is, ends-is}
+use Rattle.machine.proofs.Reached.{Reached, here, by}
 
 -- mark k stands at q after an effect e at place p: the call set it there, or it stood there before and the call did not end it
 After : Effect → Machine → ℕ → ℕ → Type 0
@@ -113,36 +114,35 @@ step-from w m x k q e = go (refusal w m (commandOf x) == 0) refl
 -- ---- the first sentence, from any machine
 
 -- set among the events and kept, or standing before them and not ended
-unfoldable pub KeptOrStanding : Parameters → Machine → List Call → ℕ → ℕ → Type 0
-KeptOrStanding w m xs k q =
-    ((h : Graph) × Kept k q h (events w m xs)) ⊎ ((m .marks k ≡ at q) × (any (endsMark k q) (events w m xs) ≡ false))
+unfoldable pub KeptOrStanding : Machine → List Event → ℕ → ℕ → Type 0
+KeptOrStanding m es k q =
+    ((h : Graph) × Kept k q h es) ⊎ ((m .marks k ≡ at q) × (any (endsMark k q) es ≡ false))
 
 no-more : {a b : Bool} → a ≡ false → b ≡ false → (a || b) ≡ false
 no-more e f = rw e f
 
-pub last-to : (w : Parameters) (m : Machine) (xs : List Call) (k q : ℕ) → last w m xs .marks k ≡ at q → KeptOrStanding w m xs k q
-unfolding last events KeptOrStanding AfterCall
-last-to w m [] k q e = inr (e, refl)
-last-to w m (x ∷ xs) k q e = go (last-to w (step w m x) xs k q e)
+pub last-to : {m n : Machine} {es : List Event} → Reached m es n → (k q : ℕ) → n .marks k ≡ at q → KeptOrStanding m es k q
+unfolding KeptOrStanding AfterCall
+last-to here k q e = inr (e, refl)
+last-to (by {m} {n} {es} w x r) k q e = go (last-to r k q e)
   where
-    one : any (endsMark k q) (events w (step w m x) xs) ≡ false → AfterCall w m x k q → KeptOrStanding w m (x ∷ xs) k q
+    one : any (endsMark k q) es ≡ false → AfterCall w m x k q → KeptOrStanding m (eventOf w m x ∷ es) k q
     one nz (inl h) = inl (present m, set-here (h .0) (h .1) refl nz)
     one nz (inr h) = inr (h .0, no-more (h .1) nz)
 
-    go : KeptOrStanding w (step w m x) xs k q → KeptOrStanding w m (x ∷ xs) k q
+    go : KeptOrStanding (step w m x) es k q → KeptOrStanding m (eventOf w m x ∷ es) k q
     go (inl h) = inl (h .0, set-later (h .1))
     go (inr h) = one (h .1) (step-to w m x k q (h .0))
 
-stay-from : (w : Parameters) (m : Machine) (xs : List Call) (k q : ℕ) → m .marks k ≡ at q → any (endsMark k q) (events w m xs) ≡ false →
-    last w m xs .marks k ≡ at q
-unfolding last events AfterCall
-stay-from w m [] k q e nz = e
-stay-from w m (x ∷ xs) k q e nz =
-    stay-from w (step w m x) xs k q
+stay-from : {m n : Machine} {es : List Event} → Reached m es n → (k q : ℕ) → m .marks k ≡ at q → any (endsMark k q) es ≡ false → n .marks k ≡ at q
+unfolding AfterCall
+stay-from here k q e nz = e
+stay-from (by {m} {n} {es} w x r) k q e nz =
+    stay-from r k q
     (step-from w m x k q (inr (e, or-none (endsMark k q (eventOf w m x)) _ nz .0)))
     (or-none (endsMark k q (eventOf w m x)) _ nz .1)
 
-pub kept-from : (w : Parameters) (m : Machine) (xs : List Call) (k q : ℕ) (h : Graph) → Kept k q h (events w m xs) → last w m xs .marks k ≡ at q
-unfolding last events AfterCall
-kept-from w m (x ∷ xs) k q h (set-here s p c nz) = stay-from w (step w m x) xs k q (step-from w m x k q (inl (s, p))) nz
-kept-from w m (x ∷ xs) k q h (set-later r) = kept-from w (step w m x) xs k q h r
+pub kept-from : {m n : Machine} {es : List Event} → Reached m es n → (k q : ℕ) (h : Graph) → Kept k q h es → n .marks k ≡ at q
+unfolding AfterCall
+kept-from (by {m} {n} {es} w x r) k q h (set-here s p c nz) = stay-from r k q (step-from w m x k q (inl (s, p))) nz
+kept-from (by {m} {n} {es} w x r) k q h (set-later t) = kept-from r k q h t

@@ -30,6 +30,9 @@ use Rattle.machine.specs.Rules.{Effect, steps, marks, unmarks, goes, nam
 use Rattle.machine.specs.Calls.{Parameters, boundsIn}
 use Rattle.machine.specs.Codes.{lacksVertex, lacksEdge, changeCode, refusal}
 use Rattle.machine.specs.Machine.{deedOf, answerTo, stepTo, step, last}
+use Rattle.machine.specs.Marks.{Event}
+use Rattle.machine.specs.Posed.{Posed, lastAt}
+use Rattle.machine.proofs.Reached.{Reached, here, by, reached, reached-at}
 use Rattle.machine.specs.Demand.{Altering}
 use Rattle.machine.proofs.Accepts.{accepted-step, refused-step}
 use Rattle.machine.proofs.Families.{Makes, change-effect, history-makes, change-passed}
@@ -128,10 +131,9 @@ differ-step w m x i a = go (refusal w m c == 0) refl
     go true e = rw (accepted-step w m c e) (differ-next (deedOf w c m .effect) m (i .place-in) (makes-another w m c e) a)
     go false e = rw (refused-step w m c e) a
 
-differ-last : (w : Parameters) (m : Machine) (xs : List Call) → PlacesInRange m → Differ (m .line .start) (m .line .steps) → Differ (last w m xs .line .start) (last w m xs .line .steps)
-unfolding last
-differ-last w m [] i a = a
-differ-last w m (x ∷ xs) i a = differ-last w (step w m x) xs (places-step w m x i) (differ-step w m x i a)
+differ-last : {m n : Machine} {es : List Event} → Reached m es n → PlacesInRange m → Differ (m .line .start) (m .line .steps) → Differ (n .line .start) (n .line .steps)
+differ-last here i a = a
+differ-last (by {m} {n} {es} w x r) i a = differ-last r (places-step w m x i) (differ-step w m x i a)
 
 differ-at : (i : ℕ) (g : Graph) (ss : List Step) → Differ g ss → i < length ss → graphAt i g ss ≡ graphAt (suc i) g ss → ⊥
 differ-at i g [] a h = absurd (omega arith)
@@ -140,7 +142,10 @@ differ-at (suc i) g (s ∷ ss) a h = differ-at i (s .graph) ss (a .1) (omega ari
 
 -- in a machine that calls reach, Gi and Gi+1 are never the same
 pub steps-alter : (w : Parameters) (g : Graph) (xs : List Call) → Altering (last w (fresh g) xs .line)
-steps-alter w g xs i = differ-at i _ _ (differ-last w (fresh g) xs (fresh-places g) tt)
+steps-alter w g xs i = differ-at i _ _ (differ-last (reached w (fresh g) xs) (fresh-places g) tt)
+
+pub steps-alter-at : (w : Parameters) (g : Graph) (ys : List Posed) → Altering (lastAt w (fresh g) ys .line)
+steps-alter-at w g ys i = differ-at i _ _ (differ-last (reached-at w (fresh g) ys) (fresh-places g) tt)
 
 -- an accepted change that alters nothing answers 0 and leaves the machine as it is
 pub unaltered : (w : Parameters) (m : Machine) (c : Change) → refusal w m (Alter c) ≡ 0 → alters c (present m) ≡ false →

@@ -62,7 +62,7 @@ demand-3 l e = record {
 
 -- ---- the slices keep their lengths
 
-over-length : (ws slice : List ℕ) → length ws ≤ length slice → length (overwritten ws slice) ≡ length slice
+pub over-length : (ws slice : List ℕ) → length ws ≤ length slice → length (overwritten ws slice) ≡ length slice
 over-length ws slice h = rw (length-append, length-drop) (omega arith)
 
 pub calls-length : (n : ℕ) (ws : List ℕ) → 5 * n ≤ length ws → length ws < 5 * n + 5 → length (callsOf ws) ≡ n

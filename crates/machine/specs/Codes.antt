@@ -1,4 +1,5 @@
--- The table of codes 1 to 20: when each applies, and the lowest that does.
+-- The table of codes 1 to 20, of a call on its store: when each applies, and the lowest that does. A number of no
+-- store has 21 before all of them (Stores).
 use Prim.Native.Nat.{ℕ}
 use mathlib.Core.Bool.{Bool, false, not, _&&_}
 use mathlib.Core.List.{List, [], _∷_, _++_}

@@ -1,5 +1,5 @@
 -- Rows 10 to 14 and 18 to 20 of the table of codes, read on a call's words and the machine as the call begins.
-use Prim.Native.Nat.{ℕ}
+use Prim.Native.Nat.{ℕ, suc}
 use mathlib.Core.Bool.{Bool, false, not, _&&_, _||_}
 use mathlib.Core.List.{List, [], _∷_}
 use lib.ListN.{length}
@@ -13,7 +13,19 @@ use Rattle.graph.specs.Same.{alters}
 use Rattle.commands.specs.Calls.{Call}
 use Rattle.commands.specs.Tables.{Row, row, some}
 use Rattle.commands.specs.Commands.{changeOf}
-use Rattle.history.specs.Machine.{Machine, freeOf, stands, present, isMark, name, isName, holderBut, holderOf}
+use Rattle.history.specs.Machine.{
+  Machine,
+  freeOf,
+  onward,
+  stands,
+  placeOr,
+  present,
+  isMark,
+  name,
+  isName,
+  holderBut,
+  holderOf,
+}
 
 abbrev pub isChange : ℕ → Bool
 isChange k = within 1 16 k
@@ -29,9 +41,26 @@ marksNamed x =
 abbrev pub tooDear : ℕ → Machine → Change → Bool
 tooDear capacity m c = ltb (freeOf capacity (m .line)) (cost c (present m)) && alters c (present m)
 
+-- the steps that going to place q redoes cost more than is free
+abbrev pub tooFar : ℕ → Machine → ℕ → Bool
+tooFar capacity m q = ltb (freeOf capacity (m .line)) (onward q (m .line))
+
+-- where mark k is; p where it does not stand
+abbrev pub placeOf : Machine → ℕ → ℕ
+placeOf m k = placeOr (m .line .place) (m .marks k)
+
+-- REFERENCE 21.6: a redo, or a call to a mark or a name, leads too far. A store alone has room for all its steps
+-- (proofs/CostsFit)
+abbrev pub outOfReach : ℕ → Machine → Call → Bool
+outOfReach capacity m x =
+    (x .kind == 20) ⇒ tooFar capacity m (suc (m .line .place)) else
+    (x .kind == 21) ⇒ tooFar capacity m (placeOf m (x .a)) else
+    (x .kind == 57) ⇒ tooFar capacity m (placeOf m (holderOf (name (x .a) (x .b)) m)) else
+    false
+
 -- REFERENCE 7.10
 abbrev pub noRoom : ℕ → Machine → Call → Bool
-noRoom capacity m x = isChange (x .kind) && tooDear capacity m (changeOf x)
+noRoom capacity m x = isChange (x .kind) ⇒ tooDear capacity m (changeOf x) else outOfReach capacity m x
 
 -- REFERENCE 7.11
 abbrev pub markOutside : Call → Bool
@@ -52,14 +81,16 @@ atAnEnd m x =
     (x .kind == 20) ⇒ (m .line .place == length (m .line .steps)) else
     false
 
-abbrev pub historyTable : ℕ → Machine → Call → List Row
-historyTable capacity m x =
-    row 10 (noRoom capacity m x) ∷
+abbrev pub markTable : Machine → Call → List Row
+markTable m x =
     row 11 (markOutside x) ∷
     row 12 (markStands m x) ∷
     row 13 (markMissing m x) ∷
     row 14 (atAnEnd m x) ∷
     []
+
+abbrev pub historyTable : ℕ → Machine → Call → List Row
+historyTable capacity m x = row 10 (noRoom capacity m x) ∷ markTable m x
 
 -- REFERENCE 7.18: zeros, or the name of another standing mark
 abbrev pub nameTaken : Machine → ℕ → ℕ → ℕ → Bool

@@ -6,7 +6,13 @@ pub mod Machine
 pub mod Marks
 pub mod Names
 pub mod Benches
+pub mod Posed
+pub mod Sentences
+pub mod Stores
+pub mod Going
 pub mod Run
 pub mod Demand
+pub mod StoreRun
 pub mod Demands
+pub mod StoreDemands
 pub mod Seven

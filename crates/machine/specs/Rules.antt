@@ -49,7 +49,7 @@ use Rattle.history.specs.Machine.{
   afterCommit,
   holderOf,
 }
-use Rattle.machine.specs.HistoryCodes.{tooDear, historyTable, laterTable}
+use Rattle.machine.specs.HistoryCodes.{tooDear, markTable, laterTable}
 use Rattle.machine.specs.Codes.{changeCode}
 
 -- what an accepted call does: a step, a mark set, dropped or named, another place, another bench, a commit,
@@ -133,9 +133,10 @@ changeRule b capacity c = record {
   deed = changeDeed c;
 }
 
+-- a history call that is within reach: the lowest of 11 to 14 and 18 to 20. One out of reach is refused with 10
+-- (HistoryCodes): its mark stands or its step is there, so none of these applies
 abbrev pub historyRule : ℕ → HistoryCall → Rule
 historyRule capacity h = record {
-  code = λ m. lowest
-      (historyTable capacity m (historyCall h) ++ laterTable m (historyCall h));
+  code = λ m. lowest (markTable m (historyCall h) ++ laterTable m (historyCall h));
   deed = historyDeed capacity h;
 }

@@ -237,8 +237,8 @@ fn record_all(
         → Running w store (entry vertices edges journal marks) (now (closed .entry)) types m
         → Covers w (now (start .entry)) (now (copies .entry)) (now (copies .entry)) (now (numbers .entry))
         (now (used .entry)) [] 0 m → size ≡ stretch w
-        → AfterCalls w m (callsOf (now (calls .entry))) r (exit vertices edges journal marks) (now (closed .entry))
-        types (now (answers .entry)) (now (answers .exit))
+        → AfterCalls w (w .changes) m (callsOf (now (calls .entry))) r (exit vertices edges journal marks)
+        (now (closed .entry)) types (now (answers .entry)) (now (answers .exit))
         × (now (copies .exit) ≡ recorded (stretch w) (made w m (callsOf (now (calls .entry))))
         (now (copies .entry)))) ⌝ }
 {

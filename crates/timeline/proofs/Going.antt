@@ -1,11 +1,12 @@
 -- The way to another place, row by row and step by step.
-use Prim.Native.Nat.{ℕ, _+_, _-_, _*_, _<_}
+use Prim.Native.Nat.{ℕ, _+_, _-_, _*_, _≤_, _<_}
 use mathlib.Core.Path.{_≡_, refl, sym, ap, subst, _∙_}
 use mathlib.Core.Logic.{_≢_}
 use mathlib.Core.Bool.{Bool, true, false}
 use mathlib.Core.List.{List}
 use native.Mathlib.Omega.{arith}
 use lib.ListN.{length}
+use Rattle.lists.proofs.Bools.{tf, ft}
 use Rattle.lists.proofs.Picks.{same, differ, same?}
 use Rattle.graph.specs.Graph.{Graph}
 use Rattle.graph.specs.WellFormed.{Bounds}
@@ -94,6 +95,10 @@ module _ (t : List ℕ) (g : Graph) (ss : List Step) (q u : ℕ) (a : Ahead) whe
     side = subst (λ (i : ℕ). Side back i (a .end)) (sym e) (nearer-end back k n);
   }
 
+-- where the present step ends
+pub aims-here : (t : List ℕ) (g : Graph) (ss : List Step) (back : Bool) (q u : ℕ) (a : Ahead) → Aims t g ss back q u a → Aims t g ss back q (a .end) a
+aims-here t g ss back q u a k = record { place = k .place; behind = k .behind; reach = k .reach; goal = k .goal; side = side-same back (a .end) }
+
 -- after the last row
 none-left : (back : Bool) (n p : ℕ) → n ≡ 0 → shifted back n p ≡ p
 none-left true n p e = omega (arith, e)
@@ -142,3 +147,17 @@ pub record Going (t : List ℕ) (back : Bool) (s₀ : State) (u₀ : ℕ) (a₀ 
   pub elen : length (s .edges) ≡ length (s₀ .edges)
   pub goes : (b : Bounds) (g : Graph) (ss : List Step) (q : ℕ) → JournalRows b t g (rowsTo 0 (length ss) ss) s₀ u₀ → Aims t g ss back q u₀ a₀
       → JournalRows b t g (rowsTo 0 (length ss) ss) s u × Aims t g ss back q u a
+
+-- ---- the direction
+
+pub shifted-back : (back : Bool) (n p : ℕ) → back ≡ true → shifted back n p ≤ p
+shifted-back true n p e = omega arith
+shifted-back false n p e = ft e
+
+pub shifted-on : (back : Bool) (n p : ℕ) → back ≡ false → shifted back n p ≡ p + n
+shifted-on true n p e = tf e
+shifted-on false n p e = refl
+
+pub reach-on : (back : Bool) (n p m : ℕ) → back ≡ false → Reach back n p m → p + n ≤ m
+reach-on true n p m e h = tf e
+reach-on false n p m e h = h

@@ -1,17 +1,19 @@
 -- The steps in the rows: undo, redo, a step more, commit, free changes.
-use Prim.Native.Nat.{ℕ, zero, suc, _+_, _-_, _*_, _^_, _≤_, _<_}
+use Prim.Native.Nat.{ℕ, zero, suc, _+_, _-_, _*_, _/_, _^_, _≤_, _<_}
 use mathlib.Core.Path.{_≡_, refl, sym, ap, subst, _∙_}
 use mathlib.Core.Bool.{Bool, true, false}
 use mathlib.Core.List.{List, [], _∷_, _++_}
 use native.Mathlib.Omega.{arith}
+use lib.Dec.{ltb}
 use lib.ListN.{length, take}
+use borrow.Author.Tests.{le-ltb}
 use Rattle.lists.proofs.Picks.{same, differ, same?}
 use Rattle.graph.specs.declared.Edit.{Edit}
 use Rattle.graph.specs.Graph.{Graph}
 use Rattle.graph.specs.WellFormed.{Bounds, WellFormed, Within}
 use Rattle.graph.specs.Edits.{Applies, EditIn, apply}
-use Rattle.history.specs.Machine.{Step, Timeline, begun, graphAt, presentIn, placed, extended, costs, freeOf}
-use Rattle.history.proofs.Timelines.{length-cut}
+use Rattle.history.specs.Machine.{Step, Timeline, begun, graphAt, presentIn, placed, extended, costs, freeOf, onward}
+use Rattle.history.proofs.Timelines.{length-cut, costs-take, onward-back}
 use Rattle.journal.specs.Rows.{RowStep, costing, rowAt, stepAt, signed, SameBelow}
 use Rattle.journal.specs.Written.{Written}
 use Rattle.journal.proofs.RowLaws.{below-less, stepAt-agree, rowed-below, rowed-step, rowed-length, benchAt-agree, signed-length, signed-below, signed-row, signed-step, signed-bench}
@@ -334,3 +336,41 @@ rows-total i (suc p) (x ∷ ss) = omega (arith, rows-total (i + x .cost) p ss)
 
 pub journal-free : (b : Bounds) (j : Position) (s : State) (t : List ℕ) (l : Timeline) (capacity : ℕ) → Journal b j s t l → capacity - j .used ≡ freeOf capacity l
 journal-free b j s t l capacity k = omega (arith, k .used, rows-total 0 (l .place) (l .steps))
+
+-- ---- the room for the steps on the way to place q
+
+module _ (b : Bounds) (j : Position) (s : State) (t : List ℕ) (l : Timeline) (k : Journal b j s t l) (free q : ℕ) where
+  pub journal-back : q ≤ l .place → false ≡ ltb free (onward q l)
+  journal-back h = sym (le-ltb free (onward q l) (omega (arith, onward-back q l h)))
+
+  -- where all rows of the journal are free, every step has room
+  pub journal-room : length t / 12 ≤ j .used + free → false ≡ ltb free (onward q l)
+  journal-room h = sym (le-ltb free (onward q l) (omega (
+    arith,
+    h,
+    k .rows .within,
+    k .used,
+    rows-total 0 (l .place) (l .steps),
+    rows-total 0 (length (l .steps)) (l .steps),
+    take-length (l .steps),
+    costs-take q (l .steps),
+  )))
+    where
+      take-length : (ss : List Step) → costs (take (length ss) ss) ≡ costs ss
+      take-length [] = refl
+      take-length (x ∷ ss) = omega (arith, take-length ss)
+
+  -- else the rows behind q decide
+  pub journal-on : (rows : ℕ) → rows ≡ rowsTo 0 q (l .steps) → ltb free (rows - j .used) ≡ ltb free (onward q l)
+  journal-on rows e =
+      let z : rows - j .used ≡ onward q l = omega (arith, e, k .used, rows-total 0 (l .place) (l .steps), rows-total 0 q (l .steps)) in
+      ap (ltb free) z
+
+  pub journal-above : l .place ≤ q → (rows : ℕ) → rows ≡ rowsTo 0 q (l .steps) → j .used ≤ rows
+  journal-above h rows e = omega (arith, e, k .used, rows-on 0 (l .place) q (l .steps) h)
+    where
+      rows-on : (i p q : ℕ) (ss : List Step) → p ≤ q → rowsTo i p ss ≤ rowsTo i q ss
+      rows-on i zero q ss h = rows-from i q ss
+      rows-on i (suc p) zero ss h = absurd (omega arith)
+      rows-on i (suc p) (suc q) [] h = omega arith
+      rows-on i (suc p) (suc q) (x ∷ ss) h = rows-on (i + x .cost) p q ss (omega arith)

@@ -7,19 +7,19 @@ pub mod lent; // the record that every change updates, lent to thin functions
 ghost use mathlib.Core.Path.{_≡_};
 ghost use mathlib.Core.Bool.{true, false, _&&_};
 ghost use mathlib.Core.List.{List};
-ghost use Prim.Native.Nat.{ℕ, _-_, _^_, _<_};
-ghost use lib.Dec.{leb};
+ghost use Prim.Native.Nat.{ℕ, _+_, _-_, _^_, _<_, _≤_};
+ghost use lib.Dec.{leb, ltb};
 ghost use lib.ListN.{length, take, drop};
 ghost use Rattle.lists.specs.Choice.{_==_, toBit};
 ghost use Rattle.graph.specs.Graph.{Graph};
 ghost use Rattle.graph.specs.WellFormed.{Bounds, Within};
-ghost use Rattle.history.specs.Machine.{Step, Timeline, begun, placed, madeBy};
+ghost use Rattle.history.specs.Machine.{Step, Timeline, begun, placed, onward, madeBy};
 ghost use Rattle.graph_tables.specs.Tables.{State, state, entryState, exitState};
 ghost use Rattle.graph_tables.specs.Capacities.{Sized};
 ghost use Rattle.graph_tables.specs.Holds.{Holds};
 ghost use Rattle.timeline.specs.Current.{noSteps};
 ghost use Rattle.timeline.specs.JournalRows.{shifted, Reach, crossed, JournalRows};
-ghost use Rattle.timeline.specs.Steps.{Journal, Behind, Unfinished, Advances, Aims};
+ghost use Rattle.timeline.specs.Steps.{rowsTo, Journal, Behind, Unfinished, Advances, Aims};
 
 // The place p, the number of steps m, and the rows of steps 1 to p.
 pub struct Position {
@@ -185,6 +185,39 @@ pub fn on(
     }
     let place = shifted_by(current.position.place, steps, false);
     lent::moved(current, h, place, u)
+}
+
+// The rows behind the place so many steps on.
+fn rows_on(journal: &[u32], used: u32, steps: u32) -> u32
+    requires { ⌜ ((g : Graph) × (ss : List Step) × (p : ℕ) × Behind (now journal) g ss p used
+        × Reach false steps p (length ss)) ⌝ }
+    ensures { λ r. ⌜ ((g : Graph) → (ss : List Step) → (p : ℕ) → Behind (now (journal .entry)) g ss p used
+        → Reach false steps p (length ss) → r ≡ rowsTo 0 (p + steps) ss) ⌝ }
+{
+    let mut a = Ahead {
+        end: used,
+        left: steps,
+    };
+    while a.left != 0 {
+        let u = a.end;
+        a = next_ahead(journal, u, a, false);
+    }
+    a.end
+}
+
+// Do so many steps on cost more than is free? Where all rows that are not used are free, there is room for every step,
+// and none is counted.
+pub fn too_far(position: Position, journal: &[u32], free: u32, steps: u32) -> bool
+    requires { ⌜ position .place + steps ≤ position .steps ⌝ }
+    requires { ⌜ ((b : Bounds) × (s : State) × (l : Timeline) × Journal b position s (now journal) l) ⌝ }
+    ensures { λ r. ⌜ ((b : Bounds) → (s : State) → (l : Timeline) → Journal b position s (now (journal .entry)) l
+        → r ≡ ltb free (onward (l .place + steps) l)) ⌝ }
+{
+    if journal.len() / 12 <= position.used as usize + free as usize {
+        return false;
+    }
+    let rows = rows_on(journal, position.used, steps);
+    free < rows - position.used
 }
 
 // 1 where the step after place p lies above `low` and the bench is the one asked for, else 0.

@@ -14,6 +14,8 @@ mod recording;
 pub use recording::compare_recording;
 mod reduction;
 pub use reduction::compare_reduction;
+mod stores;
+pub use stores::compare_stores;
 
 /// Words before and after each lent slice, which no run may touch.
 const GUARD: usize = 64;

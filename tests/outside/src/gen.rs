@@ -4,10 +4,12 @@ mod images;
 mod orders;
 mod pages;
 mod pairs;
+mod several;
 pub use images::words;
 pub use orders::{right_order, wrong_order};
 pub use pages::{image_text, page};
 pub use pairs::pair;
+pub use several::several;
 
 use crate::machine::{is_change, Call, Capacities, Edge, Graph, Machine, Name, Reading, Types, Vertex};
 use crate::run::{image_room, Case};

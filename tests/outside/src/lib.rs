@@ -13,5 +13,6 @@ pub mod page;
 pub mod recording;
 pub mod reduction;
 pub mod run;
+pub mod stores;
 pub mod sums;
 pub mod text;

@@ -310,11 +310,13 @@ pub struct Machine {
     pub marks: BTreeMap<u32, usize>,
     /// The name of each standing mark that has one.
     pub names: BTreeMap<u32, Name>,
+    /// What is left to all stores of a run; of one alone, no limit.
+    pub joint: u32,
 }
 
 impl Machine {
     pub fn new(capacities: Capacities, types: Types, start: Graph) -> Machine {
-        Machine { capacities, types, graphs: vec![start], steps: vec![], bench: 0, place: 0, marks: BTreeMap::new(), names: BTreeMap::new() }
+        Machine { capacities, types, graphs: vec![start], steps: vec![], bench: 0, place: 0, marks: BTreeMap::new(), names: BTreeMap::new(), joint: u32::MAX }
     }
 
     /// Gp
@@ -333,9 +335,25 @@ impl Machine {
         self.names.retain(|mark, _| marks.contains_key(mark));
     }
 
-    /// REFERENCE 4.4.
+    /// The costs of steps 1 to p.
+    pub fn spent(&self) -> u32 {
+        self.steps[..self.place].iter().map(|s| s.cost).sum::<u32>()
+    }
+
+    /// REFERENCE 4.4; no more than is left to all stores.
     pub fn free(&self) -> u32 {
-        self.capacities.changes - self.steps[..self.place].iter().map(|s| s.cost).sum::<u32>()
+        (self.capacities.changes - self.spent()).min(self.joint)
+    }
+
+    /// What the steps cost that a call would redo.
+    fn redone(&self, [kind, a, b, ..]: Call) -> u32 {
+        let to = match kind {
+            20 => Some(self.steps.len().min(self.place + 1)),
+            21 => self.marks.get(&a).copied(),
+            57 => self.named([a, b]).map(|mark| self.marks[&mark]),
+            _ => None,
+        };
+        to.filter(|to| *to > self.place).map_or(0, |to| self.steps[self.place..to].iter().map(|s| s.cost).sum())
     }
 
     /// REFERENCE 3.10.
@@ -379,6 +397,7 @@ impl Machine {
                 test(10, self.cost(call) > self.free() && self.changed(call) != *g);
             }
         }
+        test(10, self.redone(call) > self.free());
         test(11, marks.iter().any(|m| !(1..=64).contains(m)));
         test(12, kind == 17 && self.marks.contains_key(&a));
         test(13, kind != 17 && marks.iter().any(|m| !self.marks.contains_key(m)));

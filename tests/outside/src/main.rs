@@ -18,6 +18,7 @@ use outside::order::Order;
 use outside::page;
 use outside::reduction;
 use outside::run::{Case, Outcome};
+use outside::stores::{Ended, Several};
 use outside::sums;
 use outside::text;
 use reached::Reached;
@@ -95,7 +96,7 @@ fn fail(message: String) -> ! {
     exit(1)
 }
 
-/// The plain machine alone, held to REFERENCE 4.11, 4.12 and 4.16 to 4.20 call by call.
+/// The plain machine alone, held to REFERENCE 4.11, 4.12, 4.16 to 4.20 and, of several stores, 21.5 to 21.7 call by call.
 fn run_alone(options: &Options) {
     let begun = Instant::now();
     let mut reached = Reached::default();
@@ -135,6 +136,13 @@ fn run_alone(options: &Options) {
                 fail(format!("seed {seed}: two images disagree about {compared:?}"));
             }
         }
+        let several = gen::several(seed);
+        let ended = several.run();
+        if let Err(message) = demands_of_each(&several, &ended, &mut reached) {
+            fail(format!("seed {seed}: {message}\n{several:?}"));
+        }
+        reached.several(&several, &ended);
+        one_store(seed, &case, &outcome, Several::alone(&case).run());
         orders_alone(seed, &mut reached);
         if seed % 10 == 0 {
             text::chartrun(&gen::text(seed));
@@ -203,33 +211,83 @@ struct Mark {
     name: Option<Name>,
 }
 
-/// REFERENCE 4.11, 4.12 and 4.16 to 4.19 on the plain machine, by a record of its own of what each mark stood for and which
-/// bench made each step.
+/// A step, by the bench that made it and its cost.
+type Made = (u32, u32);
+
 fn demands(case: &Case, outcome: &Outcome, reached: &mut Reached) -> Result<(), String> {
-    let Ok(mut machine) = case.machine() else { return Ok(()) };
+    let Ok(machine) = case.machine() else { return Ok(()) };
     let Outcome::Done { answers, image: end } = outcome else { return Err("refused and not refused".into()) };
-    let types = case.rows.len() as u32;
+    let calls = case.calls.chunks(5).zip(answers.chunks(2));
+    let turns = calls.map(|(call, answer)| (u32::MAX, call.try_into().unwrap(), (answer[0], answer[1])));
+    held(machine, turns, end, reached).map(|_| ())
+}
+
+/// The same of each of several stores, by its own calls alone, each at the joint room before it; and that room, by what the
+/// stores have spent.
+fn demands_of_each(several: &Several, ended: &Ended, reached: &mut Reached) -> Result<(), String> {
+    let Ended::Done { images, .. } = ended else { return Ok(()) };
+    let turns = several.turns();
+    let mut spent = Vec::new();
+    for (store, machine) in several.machines().unwrap().into_iter().enumerate() {
+        let own = turns.iter().filter(|turn| turn.store == store).map(|turn| (turn.room, turn.call, turn.answer));
+        spent.push(held(machine, own, &images[store], reached).map_err(|message| format!("store {}, {message}", store + 1))?.into_iter());
+    }
+    let mut now = vec![0; spent.len()];
+    for (i, turn) in turns.iter().enumerate() {
+        let all: u32 = now.iter().sum();
+        if all > several.limit || turn.room != several.limit - all {
+            return Err(format!("call {i} of a store: another room is left, or more is spent than the limit allows"));
+        }
+        now[turn.store] = spent[turn.store].next().unwrap();
+    }
+    Ok(())
+}
+
+/// REFERENCE 21.9: one of several stores is one store, but for the code of words that are left over behind a bad record or list.
+fn one_store(seed: u64, case: &Case, outcome: &Outcome, ended: Ended) {
+    let by_part = |code: &u32| matches!(code, 108 | 109) && *outcome == Outcome::Refused(105, 0);
+    let other = matches!(&ended, Ended::Refused(code, _) if Several::left_over(case) && by_part(code));
+    if !other && ended.one() != *outcome {
+        fail(format!("seed {seed}: one of several stores is another machine\n{}", cases::told(case)));
+    }
+}
+
+/// REFERENCE 4.11, 4.12 and 4.16 to 4.19 on the plain machine, by a record of its own of what each mark stood for and which
+/// bench made each step, and 21.6; tells what was spent after each call. A turn is the joint room, the call and its answer.
+fn held(mut machine: Machine, turns: impl Iterator<Item = (u32, Call, (u32, u32))>, end: &[u32], reached: &mut Reached) -> Result<Vec<u32>, String> {
+    let (capacities, types) = (machine.capacities, machine.types.count());
     let mut set: BTreeMap<u32, Mark> = BTreeMap::new();
-    let (mut bench, mut made): (u32, Vec<u32>) = (0, vec![]);
-    for (i, call) in case.calls.chunks(5).enumerate() {
-        let call: Call = call.try_into().unwrap();
+    let (mut bench, mut made): (u32, Vec<Made>) = (0, vec![]);
+    let mut spent_after = Vec::new();
+    for (i, (room, call, answer)) in turns.enumerate() {
         let [kind, a, b, c, _] = call;
+        machine.joint = room;
         let state = |m: &Machine| (m.place, m.steps.len(), m.bench, m.marks.clone(), m.names.clone(), m.free());
-        let (place, free) = (machine.place, machine.free());
+        let place = machine.place;
+        let costs = |from: usize, to: usize| made[from.min(to)..to].iter().map(|step| step.1).sum::<u32>();
+        let (spent, free) = (costs(0, place), room.min(capacities.changes - costs(0, place)));
         let (before, graph) = (state(&machine), machine.present().clone());
         let (code, number) = machine.call(call);
         let wrong = |what: &str| Err(format!("call {i}, {call:?}: {what}"));
-        if answers[2 * i..2 * i + 2] != [code, number] {
+        if answer != (code, number) {
             return wrong("two answers");
         }
         let named = |name: Name| set.iter().find(|mark| mark.1.name == Some(name)).map(|mark| *mark.0);
         let found = match kind {
-            21 => Some(a),
+            21 if set.contains_key(&a) => Some(a),
             57 => named([a, b]),
             _ => None,
         };
-        if kind == 57 && code != if found.is_some() { 0 } else { 19 } {
-            return wrong("a name is found that no mark has, or is not found");
+        if kind == 57 && found.is_none() && code != 19 {
+            return wrong("a name is found that no mark has");
+        }
+        // Where it leads, and what is needed for that.
+        let to = if kind == 20 && place < made.len() { Some(place + 1) } else { found.map(|mark| set[&mark].place) };
+        if to.is_some_and(|to| code != if costs(place, to) > free { 10 } else { 0 }) {
+            return wrong("refused with room enough, or accepted without");
+        }
+        if kind == 51 && number != free {
+            return wrong("not what is free");
         }
         let taken = [b, c] == [0, 0] || named([b, c]).is_some_and(|holder| holder != a);
         if kind == 56 && set.contains_key(&a) && code != if taken { 18 } else { 0 } {
@@ -247,11 +305,12 @@ fn demands(case: &Case, outcome: &Outcome, reached: &mut Reached) -> Result<(), 
             1..=16 => {
                 set.retain(|_, mark| mark.place <= place);
                 made.truncate(place);
-                made.push(bench);
+                made.push((bench, number));
                 if *machine.present() == graph
                     || machine.place != place + 1
-                    || machine.free() + number != free
-                    || !image::is_chart(machine.present(), case.capacities(), types)
+                    || number > free
+                    || machine.spent() != spent + number
+                    || !image::is_chart(machine.present(), capacities, types)
                 {
                     return wrong("not a step");
                 }
@@ -277,7 +336,7 @@ fn demands(case: &Case, outcome: &Outcome, reached: &mut Reached) -> Result<(), 
             59 => {
                 let places = [set[&a].place, set[&b].place];
                 let between = &made[*places.iter().min().unwrap()..*places.iter().max().unwrap()];
-                if between.iter().filter(|by| **by == c).count() != number as usize {
+                if between.iter().filter(|by| by.0 == c).count() != number as usize {
                     return wrong("not the steps of that bench");
                 }
             }
@@ -293,16 +352,17 @@ fn demands(case: &Case, outcome: &Outcome, reached: &mut Reached) -> Result<(), 
         if machine.bench != bench || machine.steps.len() != made.len() {
             return wrong("another bench, or other steps");
         }
+        spent_after.push(made[..machine.place].iter().map(|step| step.1).sum());
         reached.longest = reached.longest.max(machine.steps.len());
     }
-    if !machine.steps.iter().map(|step| step.bench).eq(made) {
-        return Err("a step has another bench than made it".into());
+    if !machine.steps.iter().map(|step| (step.bench, step.cost)).eq(made) {
+        return Err("a step has another bench or cost than made it".into());
     }
     let g = machine.present();
-    if image::save(g) != *end || image::load(end, case.capacities(), types).as_ref() != Some(g) {
+    if image::save(g) != *end || image::load(end, capacities, types).as_ref() != Some(g) {
         return Err("saved and loaded is another graph".into());
     }
-    Ok(())
+    Ok(spent_after)
 }
 
 #[cfg(not(feature = "engine"))]
@@ -318,7 +378,7 @@ mod compare {
     use super::*;
     use outside::gen::Size;
     use outside::reduction::Reduced;
-    use outside::{engine, examples, recording};
+    use outside::{engine, examples, recording, stores};
     use std::sync::atomic::{AtomicU64, Ordering};
     use std::time::Duration;
 
@@ -411,6 +471,21 @@ mod compare {
             if let Err(message) = engine::compare_images(&one, &one, tolerance) {
                 fail(format!("seed {seed}: comparison with itself within {tolerance}: {message}\nwords {one:?}"));
             }
+            let several = gen::several(seed);
+            let ended = several.run();
+            if let Err(message) = engine::compare_stores(&several, &ended, seed) {
+                fail(format!("seed {seed}: {message}\n{several:?}"));
+            }
+            reached.several(&several, &ended);
+            if gen::size_of(seed) != Size::Full {
+                // One store by the other entry.
+                let alone = Several::alone(&case);
+                let ended = alone.run();
+                if let Err(message) = engine::compare_stores(&alone, &ended, seed) {
+                    fail(format!("seed {seed}: one of several: {message}\n{alone:?}"));
+                }
+                one_store(seed, &case, &outcome, ended);
+            }
             for order in orders(seed) {
                 match engine::compare_order(&order, seed) {
                     Err(message) => fail(format!("seed {seed}: order: {message}\n{order:?}")),
@@ -468,6 +543,22 @@ mod compare {
         for (count, code) in reduction::MANY {
             if let Err(message) = engine::compare_reduction(&reduction::questions(count), 5 * count, &Reduced::Refused(code, 0), 1) {
                 fail(format!("reduced, {count} calls: {message}"));
+            }
+        }
+        for calls in [&stores::SHARED[..], &stores::AHEAD] {
+            let several = stores::two(calls);
+            let ended = several.run();
+            let due: Vec<u32> = calls.iter().flat_map(|call| [call.1 .0, call.1 .1]).collect();
+            if !matches!(&ended, Ended::Done { answers, .. } if *answers == due) {
+                fail("two stores: the plain machines answer otherwise".into());
+            }
+            if let Err(message) = engine::compare_stores(&several, &ended, 1) {
+                fail(format!("two stores: {message}"));
+            }
+        }
+        for (name, several, code, number) in stores::refused() {
+            if let Err(message) = engine::compare_stores(&several, &Ended::Refused(code, number), 1) {
+                fail(format!("two stores, {name}: {message}"));
             }
         }
         for (code, number, case) in examples::list_codes() {

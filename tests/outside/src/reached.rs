@@ -5,7 +5,20 @@ use outside::machine::{is_change, is_kind};
 use outside::recording::Recorded;
 use outside::reduction::Reduced;
 use outside::run::{Case, Outcome};
+use outside::stores::{Ended, Several};
 use std::collections::BTreeMap;
+
+/// What lists of several stores are lent, accepted and refused ones.
+const LENT: [&str; 8] = [
+    "eight stores",
+    "no length a multiple of their number",
+    "a limit of 0",
+    "the largest limit",
+    "no store",
+    "nine stores",
+    "the largest number of stores",
+    "words left over behind the bad record of one store",
+];
 
 /// What the generated calls reached.
 #[derive(Default)]
@@ -32,6 +45,11 @@ pub struct Reached {
     /// Codes of lists that were reduced, 0 among them; the calls sent and kept, and the lists run.
     reductions: BTreeMap<u32, u64>,
     shrunk: (usize, usize, usize),
+    /// Of several stores: the codes of lists, 0 among them, and of calls; the kinds refused for want of room to redo; and what
+    /// was lent.
+    several: BTreeMap<u32, u64>,
+    too_far: BTreeMap<u32, u64>,
+    lent: BTreeMap<&'static str, u64>,
     /// What came of starts with vertices, by the size of their records and the code; a wrong degree by its own.
     starts: BTreeMap<(usize, &'static str), u64>,
 }
@@ -110,6 +128,39 @@ impl Reached {
         format!("{lists} lists reduced, {} calls to {} by {} runs", self.shrunk.0, self.shrunk.1, self.shrunk.2)
     }
 
+    pub fn several(&mut self, several: &Several, ended: &Ended) {
+        let case = &several.case;
+        let code = match ended {
+            Ended::Refused(code, _) => *code,
+            Ended::Done { answers, images } => {
+                for (call, answer) in case.calls.chunks(6).zip(answers.chunks(2)).filter(|pair| pair.1[0] != 0) {
+                    if answer[0] == 10 && !is_change(call[1]) {
+                        *self.too_far.entry(call[1]).or_default() += 1;
+                    } else {
+                        *self.several.entry(answer[0]).or_default() += 1;
+                    }
+                }
+                let k = images.len();
+                let rest = [case.vertices, case.edges, case.journal, case.image].iter().all(|len| len % k != 0);
+                let found = [(LENT[0], k == 8), (LENT[1], rest), (LENT[2], several.limit == 0), (LENT[3], several.limit == u32::MAX)];
+                for (what, _) in found.iter().filter(|found| found.1) {
+                    *self.lent.entry(what).or_default() += 1;
+                }
+                0
+            }
+        };
+        *self.several.entry(code).or_default() += 1;
+        let found = [
+            (LENT[4], code == 103 && several.stores == 0),
+            (LENT[5], code == 103 && several.stores == 9),
+            (LENT[6], code == 103 && several.stores == u32::MAX),
+            (LENT[7], code == 108 && several.stores == 1 && Several::left_over(case)),
+        ];
+        for (what, _) in found.iter().filter(|found| found.1) {
+            *self.lent.entry(what).or_default() += 1;
+        }
+    }
+
     /// Kinds never accepted, changes that never altered nothing, and codes never given.
     pub fn missing(&self) -> Vec<String> {
         let kinds = (0..100).filter(|k| is_kind(*k) && !self.kinds.contains_key(k)).map(|k| format!("kind {k}"));
@@ -124,7 +175,22 @@ impl Reached {
         let orders = orders.filter(|o| !self.orders.contains_key(o)).map(|o| format!("order by calls of kind {} with code {}", o.0, o.1));
         let recordings = [0, 101, 113].into_iter().filter(|c| !self.recordings.contains_key(c)).map(|c| format!("recording with code {c}"));
         let reductions = [0, 101, 114, 115].into_iter().filter(|c| !self.reductions.contains_key(c)).map(|c| format!("reduction with code {c}"));
-        kinds.chain(codes).chain(idle).chain(pages).chain(comparisons).chain(starts).chain(orders).chain(recordings).chain(reductions).collect()
+        let several = (0..=21).chain(101..=106).chain([108, 109]).filter(|c| !self.several.contains_key(c)).map(|c| format!("several stores with code {c}"));
+        let too_far = [20, 21, 57].into_iter().filter(|k| !self.too_far.contains_key(k)).map(|k| format!("several stores, kind {k} with code 10"));
+        let lent = LENT.into_iter().filter(|what| !self.lent.contains_key(what)).map(|what| format!("several stores: {what}"));
+        kinds
+            .chain(codes)
+            .chain(idle)
+            .chain(pages)
+            .chain(comparisons)
+            .chain(starts)
+            .chain(orders)
+            .chain(recordings)
+            .chain(reductions)
+            .chain(several)
+            .chain(too_far)
+            .chain(lent)
+            .collect()
     }
 
     pub fn summary(&self) -> String {
@@ -133,11 +199,13 @@ impl Reached {
         let points = self.points;
         let comparisons: u64 = self.comparisons.values().sum();
         let arrived = [12, 14, 16].map(|kind| self.orders.get(&(kind, 0)).copied().unwrap_or(0).to_string()).join(" + ");
+        let served: u64 = self.several.get(&0).copied().unwrap_or(0);
+        let several: u64 = self.several.iter().filter(|c| *c.0 > 100).map(|c| c.1).sum();
         let wrong: u64 = self.orders.iter().filter(|o| o.0 .1 != 0).map(|o| o.1).sum();
         let recorded: u64 = self.recordings.values().sum();
         let copies = self.copies;
         format!(
-            "{} lists ({refused} refused), {} calls ({} accepted), {pages} pages, {comparisons} comparisons, {arrived} orders that arrive, {wrong} refused, {points} sums over benches, {recorded} recorded lists with {copies} copies",
+            "{} lists ({refused} refused), {} calls ({} accepted), {pages} pages, {comparisons} comparisons, {arrived} orders that arrive, {wrong} refused, {served} lists of several stores, {several} refused, {points} sums over benches, {recorded} recorded lists with {copies} copies",
             self.lists, self.calls, self.accepted
         )
     }

@@ -3,8 +3,8 @@ use mathlib.Core.Path.{refl, sym, _∙_}
 use native.Mathlib.Omega.{arith}
 use borrow.Author.Needs.{needs}
 use Rattle.commands.specs.Calls.{callAt}
-use Rattle.commands.specs.Commands.{commandOf}
-use Rattle.engine.proofs.CallLaws.{capacity-is, at-capacity}
+use Rattle.commands.specs.Commands.{commandOf, historyCall}
+use Rattle.engine.proofs.CallLaws.{capacity-is, at-capacity, never-far}
 use Rattle.engine.proofs.StepLaws.{recall-answers}
 use Rattle.copies.proofs.RoleLaws.{moves}
 use Rattle.recorder.proofs.CoverLaws.{answered-as}
@@ -27,7 +27,7 @@ returns c =
     let s = c .before .before .before .before .before .before .before .before .before .before .before .before .before .before .before .before .before .before .before in
     let k = moves (commandOf (callAt (s .args .call .now))) _ (sym (s .pre .0 .1) ∙ c .before .before .before .before .before .before .before .before .before .before .role .given .1) in
     λ w m lent gs n r f e.
-    answered-as w m _ _ _ _ _ _ (k .0) (recall-answers w m _ _ _ _ r (w .changes) _ _ _ refl (c .before .before .before .before .go-by-copy .ensures w m lent gs n (r .represents) f e (w .changes)))
+    answered-as w m _ _ _ _ _ _ (k .0) (recall-answers w m _ _ _ _ r (w .changes) _ (never-far w m _ _ _ _ r _ refl (historyCall (c .before .before .before .before .before .before .before .before .before .before .role .given .0 .0))) _ _ refl (c .before .before .before .before .go-by-copy .ensures w m lent gs n (r .represents) f e (w .changes)))
 
 returns-2 : tie.Need-returns-2
 returns-2 c = λ w m lent gs n r f e. at-capacity _ _ (capacity-is w m _ _ _ _ r _ refl) (c .before .before .before .before .before .before .before .before .one .ensures w m r)

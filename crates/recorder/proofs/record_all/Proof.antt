@@ -13,7 +13,7 @@ use Rattle.machine.proofs.Whole.{calls-length}
 use Rattle.history_calls.specs.Memory.{memory}
 use Rattle.engine.specs.Running.{Running}
 use Rattle.engine.specs.Calls.{AfterCalls}
-use Rattle.engine.proofs.CallLaws.{after-calls-none, after-calls-more, after-calls-all}
+use Rattle.engine.proofs.CallLaws.{reads-five, after-calls-none, after-calls-more, after-calls-all}
 use Rattle.copies.specs.Copies.{made, stretch, recorded}
 use Rattle.copies.specs.Recording.{Covers}
 use Rattle.copies.proofs.MadeLaws.{part-five}
@@ -25,14 +25,14 @@ abbrev Inv-loop : tie.InvT-loop
 Inv-loop start vertices₀ edges₀ journal₀ marks₀ closed types calls answers₀ copies₀ size numbers₀ used₀ n y₀ count₀ k₀ vertices edges journal marks answers copies numbers used y count k =
     (k ≤ n) × (length vertices ≡ length vertices₀) × (length edges ≡ length edges₀) × (length journal ≡ length journal₀) × (length marks ≡ length marks₀) × (length answers ≡ length answers₀) × (length copies ≡ length copies₀)
     × ((w : Parameters) → (m : Machine) → Running w y₀ (memory vertices₀ edges₀ journal₀ marks₀) closed types m → Covers w start copies₀ copies₀ numbers₀ used₀ [] 0 m → size ≡ stretch w
-    → AfterCalls w m (take k (callsOf calls)) y (memory vertices edges journal marks) closed types answers₀ answers
+    → AfterCalls w (w .changes) m (take k (callsOf calls)) y (memory vertices edges journal marks) closed types answers₀ answers
     × Covers w start copies₀ copies numbers used (made w m (take k (callsOf calls))) count (last w m (take k (callsOf calls))))
 
 abbrev μ-loop : tie.MeasureT-loop
 μ-loop start vertices₀ edges₀ journal₀ marks₀ closed types calls answers₀ copies₀ size numbers₀ used₀ n y₀ count₀ k₀ vertices edges journal marks answers copies numbers used y count k = n - k
 
 loop-holds : tie.Need-loop-holds Inv-loop μ-loop
-loop-holds c = (omega arith, refl, refl, refl, refl, refl, refl, λ w m h f e. (after-calls-none w m _ _ _ _ _ (c .before .before .before .before .before .before .before .before .args .answers .now) h, covers-none w m _ _ _ _ _ _ f))
+loop-holds c = (omega arith, refl, refl, refl, refl, refl, refl, λ w m h f e. (after-calls-none w (w .changes) m _ _ _ _ _ (c .before .before .before .before .before .before .before .before .args .answers .now) h, covers-none w m _ _ _ _ _ _ f))
 
 record-call-requires : tie.Need-record-call-requires Inv-loop μ-loop
 record-call-requires c κs =
@@ -101,7 +101,7 @@ loop-again c =
       λ w m h f e.
           let g = l .inv .7 w m h f e in
           let d = r .ensures w (last w m (take (l .k) (callsOf (a .calls .now)))) (a .copies .now) (made w m (take (l .k) (callsOf (a .calls .now)))) (g .0 .after) (g .1) e in (
-            after-calls-more w m _ _ _ _ _ _ (a .calls .now) (l .k) _ _ _ (g .0) refl (d .0) fits (omega (arith, t, s .pre .1 .0)),
+            after-calls-more w (w .changes) m _ _ _ _ _ _ (reads-five (a .calls .now)) (l .k) (5 * l .k) _ _ _ (g .0) (omega (arith, t)) (omega arith) refl (d .0) (omega (arith, t, s .pre .1 .0)),
             covers-more (a .calls .now) (l .k) fits w m _ _ _ _ _ _ (d .1),
           ),
     )
@@ -115,7 +115,7 @@ returns c =
     let all : take (l .k) (callsOf calls) ≡ callsOf calls = take-all (l .k) (callsOf calls) (omega arith) in
     λ w m h f e.
     let g = l .inv .7 w m h f e in
-    (after-calls-all w m _ _ _ _ _ _ calls (l .k) (omega arith) (g .0), g .1 .copied .kept ∙ ap (λ (xs : List Call). recorded (stretch w) (made w m xs) (a .copies .now)) all)
+    (after-calls-all w (w .changes) m _ _ _ _ _ _ (callsOf calls) (l .k) (omega (arith, many)) (g .0), g .1 .copied .kept ∙ ap (λ (xs : List Call). recorded (stretch w) (made w m xs) (a .copies .now)) all)
 
 pub record-all-spec : {M : Type 1} → statement M
 record-all-spec =

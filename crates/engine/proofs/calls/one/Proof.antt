@@ -9,7 +9,7 @@ returns : tie.Need-returns
 returns c =
     let s = c .before .before .before .before .before .before .before .before .before .before .before .before .before .before .before .before .before .before .before .before in
     let r = c .before .before .before .before .before .before .before .before .before .each in
-    λ w m h. at-capacity _ _ (sym (capacity-is w m _ _ _ _ h _ refl)) (answered-one w m _ _ _ (s .args .call .now) (r .result) _ (s .pre .1) (r .ensures w m h))
+    λ w m h. at-capacity _ _ (sym (capacity-is w m _ _ _ _ h _ refl)) (answered-one w _ m _ _ _ (s .args .call .now) (r .result) _ (s .pre .1) (r .ensures w m h))
 
 pub one-spec : {M : Type 1} → statement M
 one-spec =
