@@ -40,7 +40,7 @@ extern "C" {
 #endif
 
 /* What a caller sees; raised with every change to it (docs/CHANGES.md). */
-#define FUTTOCKFIG_VERSION 16
+#define FUTTOCKFIG_VERSION 17
 
 /* Words a row in each table, and the most rows that a table may have. The fewest is 1. */
 #define FUTTOCKFIG_VERTEX_WORDS 8
@@ -68,6 +68,61 @@ extern "C" {
 
 /* Words of the image of a graph with this many vertices and edges; with the capacities, what `image` must have. */
 #define FUTTOCKFIG_IMAGE_WORDS(vertices, edges) ((size_t)6 + (size_t)4 * (vertices) + (size_t)8 * (edges))
+
+/* The image of the graph without vertices, to begin an array of six words with; and the words of an image's header. */
+#define FUTTOCKFIG_EMPTY_IMAGE {0, 0, 6, 6, 6, 6}
+#define FUTTOCKFIG_HEADER_WORDS 6
+
+/* Words of a record in an image: of a vertex, of a vertex in an old image, of an edge. */
+#define FUTTOCKFIG_VERTEX_RECORD 4
+#define FUTTOCKFIG_OLD_VERTEX_RECORD 3
+#define FUTTOCKFIG_EDGE_RECORD 6
+
+/* The highest mark, the highest bench, the most decimetres, and the bytes of a name. */
+#define FUTTOCKFIG_LAST_MARK 64
+#define FUTTOCKFIG_LAST_BENCH 99
+#define FUTTOCKFIG_MOST_DECIMETRES 9999
+#define FUTTOCKFIG_NAME_BYTES 8
+
+/* Kinds of a reading. */
+enum futtockfig_reading {
+    FUTTOCKFIG_UNTESTED = 0,
+    FUTTOCKFIG_SILENT = 1,
+    FUTTOCKFIG_HEARD = 2
+};
+
+/* Which words of a list are counted (word c of kind 45). */
+enum futtockfig_side {
+    FUTTOCKFIG_BOTH_SIDES = 0,
+    FUTTOCKFIG_OUT_SIDE = 1,
+    FUTTOCKFIG_IN_SIDE = 2
+};
+
+/* Price lists (word c of kind 54); 0 is the old one too. */
+enum futtockfig_price_list {
+    FUTTOCKFIG_OLD_PRICES = 1,
+    FUTTOCKFIG_NEW_PRICES = 2
+};
+
+/*
+ * TO LINK AND TO CALL
+ *   The archive needs memcpy and memset of the C library and nothing else. Every function is reentrant: it reads and
+ *   writes what it is lent, and has no memory of its own but the stack. So threads may call at the same time, each
+ *   with slices of its own.
+ *   A slice has an address also where its length is 0. NULL is none, so it is not to be passed; an empty container
+ *   may give it. Nothing is read there, so the address of anything aligned will do.
+ *
+ *   Stack that must be left          KB
+ *   futtockfig_run, _reduce          64
+ *   futtockfig_run_stores            64
+ *   futtockfig_page, _compare        64
+ *   futtockfig_arrange_..            64
+ *   futtockfig_record               320
+ *   futtockfig_part, _version         1
+ */
+
+/* The version of the archive, FUTTOCKFIG_VERSION of the header that it was built with. */
+uint32_t futtockfig_version(void);
 
 /*
  * Kinds of call. A call has five words, the kind and then a, b, c, d. A word that a kind does not use is ignored.

@@ -6,7 +6,7 @@
 //! [`arrange_vertices`], [`arrange_edges`] and [`arrange_words`] make the calls for any order. [`record`] runs a list and
 //! keeps the image after every step. [`reduce`] makes a list small whose last call is refused. [`run_stores`] runs a list on
 //! several stores with one limit.
-//! `include/futtockfig.h` describes the graph, every kind of call ([`kind`] has their numbers), every code, the words of an
+//! `include/futtockfig.h` describes the graph, every kind of call ([`kind`]), every code ([`code`]), the words of an
 //! image, a page, a comparison, an order, a recorded list, a reduced one and a list of several stores.
 //!
 //! The crate links `libfuttockfig.a`, from the folder that the environment variable `FUTTOCKFIG_LIB_DIR` names when it
@@ -33,6 +33,10 @@
 #![no_std]
 #![warn(missing_docs)]
 
+pub mod code;
+pub mod kind;
+mod limits;
+pub use limits::*;
 pub mod raw;
 mod recording;
 pub use recording::{record, Recorded};
@@ -44,10 +48,11 @@ pub use stores::{run_stores, Served, StoreCall};
 use core::fmt;
 use core::ops::Range;
 use raw::{futtockfig_arrange_edges, futtockfig_arrange_vertices, futtockfig_arrange_words};
-use raw::{futtockfig_compare, futtockfig_page, futtockfig_part, futtockfig_run};
+use raw::{futtockfig_compare, futtockfig_page, futtockfig_part, futtockfig_run, futtockfig_version};
 
-/// The version of what a caller sees, that of `include/futtockfig.h`.
-pub const VERSION: u32 = 16;
+/// The version of what a caller sees, that of `include/futtockfig.h`; the crate's own has `.0.0` behind it. A rise means
+/// that something a caller can see is new or different, as `docs/CHANGES.md` tells under that number.
+pub const VERSION: u32 = 17;
 
 /// Kind, a, b, c, d.
 pub type Call = [u32; 5];
@@ -65,6 +70,12 @@ pub const CHANGE_WORDS: usize = 12;
 /// The most stores of one run.
 pub const MOST_STORES: u32 = 8;
 
+/// The version of the archive that is linked. It is [`VERSION`], unless the archive is another one.
+pub fn version() -> u32 {
+    // SAFETY: it takes nothing and touches nothing.
+    unsafe { futtockfig_version() }
+}
+
 /// Bytes of a row of a page.
 pub const PAGE_ROW: usize = 25;
 
@@ -72,62 +83,6 @@ pub const PAGE_ROW: usize = 25;
 /// needs.
 pub const fn image_words(vertices: usize, edges: usize) -> usize {
     6 + 4 * vertices + 8 * edges
-}
-
-/// The kinds of call. The words that each uses, and its answer, are in `include/futtockfig.h`.
-#[allow(missing_docs)]
-pub mod kind {
-    pub const CREATE_VERTEX: u32 = 1;
-    pub const DELETE_VERTEX: u32 = 2;
-    pub const CREATE_EDGE: u32 = 3;
-    pub const DELETE_EDGE: u32 = 4;
-    pub const RETYPE_VERTEX: u32 = 5;
-    pub const RETYPE_EDGE: u32 = 6;
-    pub const SET_VALUE: u32 = 7;
-    pub const SET_READING: u32 = 8;
-    pub const SET_ALPHA: u32 = 9;
-    pub const SET_OMEGA: u32 = 10;
-    pub const VERTEX_BEFORE: u32 = 11;
-    pub const VERTEX_AFTER: u32 = 12;
-    pub const EDGE_BEFORE: u32 = 13;
-    pub const EDGE_AFTER: u32 = 14;
-    pub const WORD_BEFORE: u32 = 15;
-    pub const WORD_AFTER: u32 = 16;
-    pub const SET_MARK: u32 = 17;
-    pub const DROP_MARK: u32 = 18;
-    pub const UNDO: u32 = 19;
-    pub const REDO: u32 = 20;
-    pub const GO_TO_MARK: u32 = 21;
-    pub const COMMIT: u32 = 22;
-    pub const FIRST_VERTEX: u32 = 30;
-    pub const NEXT_VERTEX: u32 = 31;
-    pub const FIRST_EDGE: u32 = 32;
-    pub const NEXT_EDGE: u32 = 33;
-    pub const FIRST_WORD: u32 = 34;
-    pub const NEXT_WORD: u32 = 35;
-    pub const ALPHA: u32 = 36;
-    pub const OMEGA: u32 = 37;
-    pub const THIS: u32 = 38;
-    pub const THAT: u32 = 39;
-    pub const VERTEX_TYPE: u32 = 40;
-    pub const EDGE_TYPE: u32 = 41;
-    pub const VALUE: u32 = 42;
-    pub const READING_KIND: u32 = 43;
-    pub const DECIMETRES: u32 = 44;
-    pub const DEGREE: u32 = 45;
-    pub const VERTEX_IS_BEFORE: u32 = 46;
-    pub const EDGE_IS_BEFORE: u32 = 47;
-    pub const WORD_IS_BEFORE: u32 = 48;
-    pub const STEPS_BETWEEN: u32 = 49;
-    pub const MARKS_STANDING: u32 = 50;
-    pub const FREE_CHANGES: u32 = 51;
-    pub const IS_BELOW: u32 = 52;
-    pub const RANGE: u32 = 53;
-    pub const GRADE: u32 = 54;
-    pub const NAME_MARK: u32 = 56;
-    pub const GO_TO_NAME: u32 = 57;
-    pub const SET_BENCH: u32 = 58;
-    pub const STEPS_MADE_BY: u32 = 59;
 }
 
 /// The two words of a mark's name for [`kind::NAME_MARK`] and [`kind::GO_TO_NAME`]: up to eight bytes of text, the first
@@ -170,6 +125,7 @@ pub struct Done<'a> {
 /// Why a whole list or a page was refused. Nothing was written, but with [`Refused::NoFailure`]: tables and answers then hold
 /// words that mean nothing.
 #[derive(Clone, Copy, Debug, PartialEq, Eq)]
+#[non_exhaustive]
 pub enum Refused {
     /// 101: the words of the calls are no multiple of five, with several stores of six.
     Calls,
@@ -248,6 +204,8 @@ impl Refused {
     }
 }
 
+impl core::error::Error for Refused {}
+
 impl fmt::Display for Refused {
     fn fmt(&self, f: &mut fmt::Formatter<'_>) -> fmt::Result {
         let why = match self {
@@ -305,7 +263,7 @@ pub fn run<'a>(start: &[u32], rows: &[u64], calls: &[u32], lent: Lent<'a>) -> Re
     }
 }
 
-/// The answers one by one: the number of an accepted call, or the code (1 to 21) of a refused one.
+/// The answers one by one: the number of an accepted call, or the [`code`] of a refused one.
 pub fn answers(words: &[u32]) -> impl Iterator<Item = Result<u32, u32>> + '_ {
     words.chunks_exact(2).map(|answer| match answer[0] {
         0 => Ok(answer[1]),
@@ -375,6 +333,7 @@ pub struct Comparison {
 
 /// Which of two images is none, and of the first why. No offset is told.
 #[derive(Clone, Copy, Debug, PartialEq, Eq)]
+#[non_exhaustive]
 pub enum NoImage {
     /// 105: the first's header is not sound, a count is above the limits, or there are edges and no vertex.
     FirstHeader,
@@ -410,6 +369,8 @@ impl NoImage {
         }
     }
 }
+
+impl core::error::Error for NoImage {}
 
 impl fmt::Display for NoImage {
     fn fmt(&self, f: &mut fmt::Formatter<'_>) -> fmt::Result {
@@ -448,6 +409,7 @@ pub fn compare(first: &[u32], second: &[u32], tolerance: u32) -> Result<Comparis
 
 /// Why there are no calls for a wanted order. Nothing was written, and which word of an image is bad is not told.
 #[derive(Clone, Copy, Debug, PartialEq, Eq)]
+#[non_exhaustive]
 pub enum NotArranged {
     /// 105: the image has no sound header, too many vertices or edges, or edges and no vertex.
     Header,
@@ -491,6 +453,8 @@ impl NotArranged {
         }
     }
 }
+
+impl core::error::Error for NotArranged {}
 
 impl fmt::Display for NotArranged {
     fn fmt(&self, f: &mut fmt::Formatter<'_>) -> fmt::Result {

@@ -43,6 +43,7 @@ pub struct Arrangement {
 }
 
 extern "C" {
+    pub fn futtockfig_version() -> u32;
     pub fn futtockfig_run(
         start: *const u32,
         start_len: usize,

@@ -11,13 +11,13 @@ fn put(out: &[u8], count: usize) {
 }
 
 // The same, of bytes whose number the type says: so a call that changed them may stand before.
-fn put_lent(out: &[u8; 99272], count: usize) {
+fn put_lent(out: &[u8; 100000], count: usize) {
     put(out, count);
 }
 
 // The whole output for the input, in one write.
 fn respond(bytes: &[u8]) {
-    let mut out = [0u8; 99272];
+    let mut out = [0u8; 100000];
     let count = transcribe(bytes, &mut out);
     put_lent(&out, count);
 }

@@ -32,6 +32,14 @@ ghost use Rattle.recorder.specs.Outcomes.{MeetsDemand1 as Records1, MeetsDemand
 ghost use Rattle.reduction.specs.Outcomes.{afterReduction, reduction as reductionOf, IsLeast};
 ghost use Rattle.reduction.specs.Outcomes.{Untouched as LeavesAll};
 
+// The version of what a caller sees, as include/futtockfig.h has it.
+#[no_mangle]
+pub extern "C" fn futtockfig_version() -> u32
+    ensures { λ r. ⌜ r ≡ 17 ⌝ }
+{
+    17
+}
+
 // A slice is a pointer and a length.
 #[no_mangle]
 pub extern "C" fn futtockfig_run(

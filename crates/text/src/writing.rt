@@ -88,7 +88,7 @@ fn lines(codes: &[u32], image: &[u32], out: &mut [u8]) -> usize
 }
 
 // There is room for 1,000 answers and the image of 200 vertices and 800 edges; of more nothing is written.
-pub fn write(codes: &[u32], image: &[u32], out: &mut [u8; 99272]) -> usize
+pub fn write(codes: &[u32], image: &[u32], out: &mut [u8; 100000]) -> usize
     ensures { λ r. ⌜ WrittenAt (boundedText (now (codes .entry)) (now (image .entry))) r (now (out .entry))
         (now (out .exit)) ⌝ }
 {
@@ -102,7 +102,7 @@ pub fn write(codes: &[u32], image: &[u32], out: &mut [u8; 99272]) -> usize
 }
 
 // The line of unreadable input.
-pub fn write_unreadable(n: u32, out: &mut [u8; 99272]) -> usize
+pub fn write_unreadable(n: u32, out: &mut [u8; 100000]) -> usize
     ensures { λ r. ⌜ WrittenAt (unreadableText n) r (now (out .entry)) (now (out .exit)) ⌝ }
 {
     line(out, 0, b"unreadable", &[n])

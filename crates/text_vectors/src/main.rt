@@ -141,7 +141,7 @@ fn reads_front(text: &[u8], n: usize, name: &[u8]) {
 }
 
 // The text and then 255s.
-fn same_text(out: &[u8; 99272], n: usize, want: &[u8]) -> bool {
+fn same_text(out: &[u8; 100000], n: usize, want: &[u8]) -> bool {
     if n != want.len() {
         return false;
     }
@@ -160,13 +160,13 @@ fn same_text(out: &[u8; 99272], n: usize, want: &[u8]) -> bool {
 }
 
 fn writes(codes: &[u32], image: &[u32], want: &[u8], name: &[u8]) {
-    let mut out = [255u8; 99272];
+    let mut out = [255u8; 100000];
     let n = text::write(codes, image, &mut out);
     report(same_text(&out, n, want), name);
 }
 
 fn writes_unreadable(number: u32, want: &[u8], name: &[u8]) {
-    let mut out = [255u8; 99272];
+    let mut out = [255u8; 100000];
     let n = text::write_unreadable(number, &mut out);
     report(same_text(&out, n, want), name);
 }

@@ -4,11 +4,13 @@ mod images;
 mod orders;
 mod pages;
 mod pairs;
+mod resumes;
 mod several;
 pub use images::words;
 pub use orders::{right_order, wrong_order};
 pub use pages::{image_text, page};
 pub use pairs::pair;
+pub use resumes::{resume_text, two_lists};
 pub use several::several;
 
 use crate::machine::{is_change, Call, Capacities, Edge, Graph, Machine, Name, Reading, Types, Vertex};

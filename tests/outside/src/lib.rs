@@ -12,6 +12,7 @@ pub mod order;
 pub mod page;
 pub mod recording;
 pub mod reduction;
+pub mod resume;
 pub mod run;
 pub mod stores;
 pub mod sums;

@@ -3,9 +3,11 @@
 //!     outside --self [--seeds N] [--from K]     the generator and the plain machine alone
 //!     outside [--seeds N] [--from K]            the engine (built with the feature `engine`)
 //!             [--chartrun PATH]                 and the program chartrun
+//!             [--chartresume PATH]              and the program chartresume, also against chartrun
 //!             [--chartpage PATH]                and the program chartpage
 //!             [--vectors DIR]                   and the cases kept in DIR
 //!     outside --text                            chartrun on the plain machine: standard input to output
+//!     outside --resume                          chartresume likewise
 //!     outside --page                            chartpage likewise
 //!     outside --cases FILE                      what the program vectors must write for the cases in FILE
 
@@ -17,6 +19,7 @@ use outside::machine::{is_change, Call, Capacities, Graph, Machine, Name, LAST_B
 use outside::order::Order;
 use outside::page;
 use outside::reduction;
+use outside::resume;
 use outside::run::{Case, Outcome};
 use outside::stores::{Ended, Several};
 use outside::sums;
@@ -36,6 +39,7 @@ struct Options {
     seeds: u64,
     from: u64,
     chartrun: Option<String>,
+    chartresume: Option<String>,
     chartpage: Option<String>,
     vectors: Option<String>,
 }
@@ -47,7 +51,7 @@ const SEEDS: u64 = 10_000;
 const REDUCED: u64 = 5;
 
 fn main() {
-    let mut options = Options { alone: false, seeds: SEEDS, from: 0, chartrun: None, chartpage: None, vectors: None };
+    let mut options = Options { alone: false, seeds: SEEDS, from: 0, chartrun: None, chartresume: None, chartpage: None, vectors: None };
     let mut args = std::env::args().skip(1);
     while let Some(arg) = args.next() {
         let mut value = || args.next().unwrap_or_else(|| usage());
@@ -56,9 +60,11 @@ fn main() {
             "--seeds" => options.seeds = value().parse().unwrap_or_else(|_| usage()),
             "--from" => options.from = value().parse().unwrap_or_else(|_| usage()),
             "--chartrun" => options.chartrun = Some(value()),
+            "--chartresume" => options.chartresume = Some(value()),
             "--chartpage" => options.chartpage = Some(value()),
             "--vectors" => options.vectors = Some(value()),
             "--text" => return filter(text::chartrun),
+            "--resume" => return filter(resume::chartresume),
             "--page" => return filter(page::chartpage),
             "--cases" => {
                 let file = value();
@@ -87,7 +93,7 @@ fn filter(program: impl Fn(&[u8]) -> Vec<u8>) {
 }
 
 fn usage() -> ! {
-    eprintln!("usage: outside [--self] [--seeds N] [--from K] [--chartrun PATH] [--chartpage PATH] [--vectors DIR] | outside --text | outside --page | outside --cases FILE");
+    eprintln!("usage: outside [--self] [--seeds N] [--from K] [--chartrun PATH] [--chartresume PATH] [--chartpage PATH] [--vectors DIR] | outside --text | outside --resume | outside --page | outside --cases FILE");
     exit(2)
 }
 
@@ -146,6 +152,7 @@ fn run_alone(options: &Options) {
         orders_alone(seed, &mut reached);
         if seed % 10 == 0 {
             text::chartrun(&gen::text(seed));
+            resume::chartresume(&gen::resume_text(seed));
             page::chartpage(&gen::image_text(seed));
         }
     }
@@ -499,7 +506,11 @@ mod compare {
         }
         let seeds = options.from..options.from + (options.seeds / 20).max(50);
         let mut texts = options.chartrun.as_deref().map_or(0, |program| programs::run_chartrun(program, seeds.clone()));
-        texts += options.chartpage.as_deref().map_or(0, |program| programs::run_chartpage(program, seeds));
+        texts += options.chartpage.as_deref().map_or(0, |program| programs::run_chartpage(program, seeds.clone()));
+        if let Some(program) = options.chartresume.as_deref() {
+            texts += programs::run_chartresume(program, seeds.clone());
+            texts += options.chartrun.as_deref().map_or(0, |chartrun| programs::run_goes_on(program, chartrun, seeds));
+        }
         println!("outside: no difference in {}", reached.reductions());
         println!("outside: no difference in {}, {kept} vectors, {texts} texts, {} s", reached.summary(), begun.elapsed().as_secs());
     }

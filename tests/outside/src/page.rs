@@ -44,7 +44,7 @@ pub fn chartpage(input: &[u8]) -> Vec<u8> {
 }
 
 /// The words of the line that chartrun writes last, where the input is such a line and nothing else.
-fn words(input: &[u8]) -> Option<Vec<u32>> {
+pub fn words(input: &[u8]) -> Option<Vec<u32>> {
     if input.len() > BYTES {
         return None;
     }

@@ -1,7 +1,8 @@
-//! The programs chartrun and chartpage: what they write for texts, against what the plain machine writes.
+//! The programs chartrun, chartresume and chartpage: what they write for texts, against what the plain machine writes, and
+//! chartresume against chartrun.
 
 use crate::fail;
-use outside::{examples, gen, page, text};
+use outside::{examples, gen, page, resume, text};
 use std::io::Write;
 use std::ops::Range;
 use std::process::{Command, Stdio};
@@ -40,6 +41,38 @@ pub fn run_chartpage(program: &str, seeds: Range<u64>) -> usize {
     texts.push(Text::slow("in pieces", page::line(&gen::page(499).0)));
     texts.extend(seeds.map(|seed| Text::new(format!("seed {seed}"), gen::image_text(seed))));
     check(program, "chartpage", &texts, page::chartpage)
+}
+
+/// The same for chartresume.
+pub fn run_chartresume(program: &str, seeds: Range<u64>) -> usize {
+    let mut texts: Vec<Text> = resume_limits().into_iter().map(|(name, input)| Text::new(name, input)).collect();
+    texts.push(Text::slow("in pieces", [page::line(&gen::page(499).0), b"50 0 0 0 0\n".repeat(1_000)].concat()));
+    texts.extend(seeds.map(|seed| Text::new(format!("seed {seed}"), gen::resume_text(seed))));
+    check(program, "chartresume", &texts, resume::chartresume)
+}
+
+/// REFERENCE 11.12, chartresume against chartrun: it goes on from chartrun's last line as chartrun goes on behind a commit, at
+/// bench 0. Two lists a seed; how many there were.
+pub fn run_goes_on(chartresume: &str, chartrun: &str, seeds: Range<u64>) -> usize {
+    const COMMIT: &[u8] = b"22 0 0 0 0\n";
+    const BENCH: &[u8] = b"58 0 0 0 0\n";
+    let mut lists = 0;
+    for seed in seeds {
+        let (first, second, at_bench_0) = gen::two_lists(seed);
+        let tonight = piped(chartrun, first.clone(), false);
+        let (answers, line) = tonight.split_at(tonight[..tonight.len() - 1].iter().rposition(|b| *b == b'\n').map_or(0, |at| at + 1));
+        let resumed = piped(chartresume, [line, &second].concat(), false);
+        for between in [&[BENCH, COMMIT].concat(), COMMIT].into_iter().take(1 + at_bench_0 as usize) {
+            let whole = piped(chartrun, [&first, between, &second].concat(), false);
+            let calls = between.iter().filter(|b| **b == b'\n').count();
+            let behind = whole.strip_prefix(answers).map(|rest| rest.splitn(calls + 1, |b| *b == b'\n').last().unwrap());
+            if behind != Some(&resumed[..]) {
+                fail(format!("seed {seed}: chartresume does not go on as chartrun does behind {:?}", String::from_utf8_lossy(between)));
+            }
+            lists += 1;
+        }
+    }
+    lists
 }
 
 fn check(program: &str, title: &str, texts: &[Text], wanted: impl Fn(&[u8]) -> Vec<u8>) -> usize {
@@ -103,6 +136,28 @@ fn page_limits() -> Vec<(&'static str, Vec<u8>)> {
         "done 1\n",
     ];
     texts.extend(words.map(|text| (text, text.as_bytes().to_vec())));
+    texts
+}
+
+/// Texts at the limits of chartresume: the image's line, the calls, and both together.
+fn resume_limits() -> Vec<(String, Vec<u8>)> {
+    let line = page::line(&[0, 0, 6, 6, 6, 6]);
+    let long = |len: usize| ("image".to_string() + &" 7".repeat((len - 6) / 2) + "\n").into_bytes();
+    let mut texts: Vec<(String, Vec<u8>)> = vec![
+        ("400,000 bytes of image".into(), long(400_000)),
+        ("400,002 bytes of image".into(), long(400_002)),
+        ("a million bytes of image".into(), long(1_000_000)),
+        ("a million bytes without a newline".into(), vec![b'7'; 1_000_000]),
+        ("the most bytes".into(), [long(400_000), vec![b'1'; 60_000]].concat()),
+        ("one byte more".into(), [long(400_000), vec![b'1'; 60_001]].concat()),
+        ("a long image and too many bytes".into(), [long(400_002), vec![b'1'; 60_001]].concat()),
+        ("a bad image and too many bytes".into(), [b"imagine\n".to_vec(), vec![b'1'; 500_000]].concat()),
+        ("an image that does not load and a bad line".into(), b"image 1\nx\n".to_vec()),
+        ("an image that does not load and calls".into(), b"image 1\n50 0 0 0 0\n".to_vec()),
+    ];
+    // Lines of images alone, and each text of chartrun behind one.
+    texts.extend(page_limits().into_iter().map(|(name, input)| (format!("image alone: {name}"), input)));
+    texts.extend(limits().into_iter().map(|(name, list)| (format!("behind an image: {name}"), [line.clone(), list].concat())));
     texts
 }
 

@@ -1,4 +1,4 @@
-//! The program chartrun: bytes in, bytes out.
+//! The program chartrun: bytes in, bytes out; what chartresume has of it.
 
 use crate::machine::{Call, Capacities};
 use crate::run::{Case, Outcome};
@@ -12,11 +12,23 @@ pub const LINES: usize = 1_000;
 
 /// What chartrun writes for these bytes.
 pub fn chartrun(input: &[u8]) -> Vec<u8> {
-    let mut out = String::new();
     match calls(input) {
-        Err(line) => writeln!(out, "unreadable {line}").unwrap(),
-        Ok(calls) => {
-            let Outcome::Done { answers, image } = Case::new(CAPACITIES, &ROWS, &calls).run() else { unreachable!() };
+        Err(line) => unreadable(line),
+        Ok(calls) => output(&Case::new(CAPACITIES, &ROWS, &calls).run()),
+    }
+}
+
+pub fn unreadable(line: usize) -> Vec<u8> {
+    format!("unreadable {line}\n").into_bytes()
+}
+
+/// The answers and the image, or why the start does not load.
+pub fn output(outcome: &Outcome) -> Vec<u8> {
+    let mut out = String::new();
+    match outcome {
+        Outcome::Refused(105, _) => out.push_str("refused 105\n"),
+        Outcome::Refused(code, offset) => writeln!(out, "refused {code} {offset}").unwrap(),
+        Outcome::Done { answers, image } => {
             for answer in answers.chunks(2) {
                 match answer[0] {
                     0 => writeln!(out, "done {}", answer[1]).unwrap(),
@@ -34,7 +46,7 @@ pub fn chartrun(input: &[u8]) -> Vec<u8> {
 }
 
 /// The calls, or the number to be written after `unreadable`.
-fn calls(input: &[u8]) -> Result<Vec<Call>, usize> {
+pub fn calls(input: &[u8]) -> Result<Vec<Call>, usize> {
     if input.len() > BYTES {
         return Err(0);
     }

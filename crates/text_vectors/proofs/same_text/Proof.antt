@@ -8,7 +8,7 @@ abbrev Inv-loop : tie.InvT-loop
 Inv-loop out n want i₀ i = Unit {0}
 
 abbrev μ-loop : tie.MeasureT-loop
-μ-loop out n want i₀ i = 99272 - i
+μ-loop out n want i₀ i = 100000 - i
 
 pub same-text-spec : {M : Type 1} → statement M
 same-text-spec =
