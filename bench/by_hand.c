@@ -12,6 +12,9 @@
 #define BY_HAND_PAGE by_hand_page
 #endif
 
+/* Else gcc compiles undo and redo as functions of their own. */
+#define INLINE static inline __attribute__((always_inline))
+
 typedef uint32_t u32;
 typedef uint64_t u64;
 
@@ -144,7 +147,7 @@ static inline void vertex_fields(struct store *s, u32 v, const u32 *fields) {
     row[V_VALUE] = fields[1];
 }
 
-static void redo_row(struct store *s, const u32 *r) {
+INLINE void redo_row(struct store *s, const u32 *r) {
     switch (r[0]) {
     case INSERT_VERTEX: vertex_enter(s, r); break;
     case REMOVE_VERTEX: vertex_leave(s, r[2]); break;
@@ -158,7 +161,7 @@ static void redo_row(struct store *s, const u32 *r) {
     }
 }
 
-static void undo_row(struct store *s, const u32 *r) {
+INLINE void undo_row(struct store *s, const u32 *r) {
     switch (r[0]) {
     case INSERT_VERTEX: vertex_leave(s, r[2]); break;
     case REMOVE_VERTEX: vertex_enter(s, r); break;
@@ -172,23 +175,26 @@ static void undo_row(struct store *s, const u32 *r) {
     }
 }
 
-static void undo(struct store *s) {
-    u32 cost = s->journal[12 * (size_t)(s->used - 1) + 1];
-    for (u32 i = 0; i < cost; i++) undo_row(s, s->journal + 12 * (size_t)--s->used);
+INLINE void undo(struct store *s) {
+    const u32 *r = s->journal + 12 * (size_t)s->used;
+    u32 cost = (r - 12)[1];
+    s->used -= cost;
+    do {
+        r -= 12;
+        undo_row(s, r);
+    } while (--cost);
     s->place--;
 }
 
-static void redo(struct store *s) {
-    u32 cost = s->journal[12 * (size_t)s->used + 1];
-    for (u32 i = 0; i < cost; i++) redo_row(s, s->journal + 12 * (size_t)s->used++);
+INLINE void redo(struct store *s) {
+    const u32 *r = s->journal + 12 * (size_t)s->used;
+    u32 cost = r[1];
+    s->used += cost;
+    do {
+        redo_row(s, r);
+        r += 12;
+    } while (--cost);
     s->place++;
-}
-
-static inline u32 go_to(struct store *s, u32 to) {
-    u32 from = s->place;
-    while (s->place > to) undo(s);
-    while (s->place < to) redo(s);
-    return from > to ? from - to : to - from;
 }
 
 /* How many of the steps from place p on, up to place q, the bench made. */
@@ -308,7 +314,7 @@ static inline u32 one_way(const struct store *s, u32 a, u32 b) {
 #define STANDS(m_) (s->marks >> ((m_) - 1) & 1)
 
 static inline void step(struct store *s, const u32 *call, u32 *answer) {
-    u32 a = call[1], b = call[2], c = call[3], d = call[4];
+    u32 a = call[1], b = call[2], c = call[3], d = call[4], n, mark;
     switch (call[0]) {
     case 1: {
         if (a - 1 >= s->vertex_capacity) REFUSE(2);
@@ -452,16 +458,17 @@ static inline void step(struct store *s, const u32 *call, u32 *answer) {
         ANSWER(0);
     case 19:
         if (s->place == 0) REFUSE(14);
-        undo(s);
-        ANSWER(1);
+        n = 1;
+        goto back;
     case 20:
         if (s->place == s->steps) REFUSE(14);
-        redo(s);
-        ANSWER(1);
+        n = 1;
+        goto on;
     case 21:
         NEED_MARK(a);
         if (!STANDS(a)) REFUSE(13);
-        ANSWER(go_to(s, s->places[a - 1]));
+        mark = a;
+        goto go;
     case 22: {
         u32 place = s->place;
         s->place = s->steps = s->used = 0;
@@ -543,17 +550,27 @@ static inline void step(struct store *s, const u32 *call, u32 *answer) {
     case 56: {
         NEED_MARK(a);
         if (!STANDS(a)) REFUSE(13);
-        u32 mark = holder(s, b, c);
+        mark = holder(s, b, c);
         if (!(b | c) || (mark && mark != a)) REFUSE(18);
         s->names[a - 1][0] = b;
         s->names[a - 1][1] = c;
         ANSWER(0);
     }
-    case 57: {
-        u32 mark = holder(s, a, b);
+    case 57:
+        mark = holder(s, a, b);
         if (!mark) REFUSE(19);
-        ANSWER(go_to(s, s->places[mark - 1]));
-    }
+    go: /* one loop for each direction, whatever the kind */
+        if (s->places[mark - 1] >= s->place) {
+            n = s->places[mark - 1] - s->place;
+            goto on;
+        }
+        n = s->place - s->places[mark - 1];
+    back:
+        for (u32 i = n; i; i--) undo(s);
+        ANSWER(n);
+    on:
+        for (u32 i = n; i; i--) redo(s);
+        ANSWER(n);
     case 58:
         if (a > 99) REFUSE(20);
         s->bench = a;
@@ -643,10 +660,10 @@ static inline void load_as(struct store *s, const u32 *words, u32 size) {
         row[E_KIND] = r[4];
         row[E_DECIMETRES] = r[5];
         row[E_PREV] = prev;
-        if (prev) edge_row(s, prev)[E_NEXT] = r[0]; else s->edge_first = r[0];
+        row[E_NEXT] = r + 6 < end ? r[6] : 0;
         prev = r[0];
     }
-    if (prev) edge_row(s, prev)[E_NEXT] = 0;
+    s->edge_first = words[1] ? words[words[3]] : 0;
     s->edge_last = prev;
     s->edge_count = words[1];
     prev = 0;
@@ -662,8 +679,24 @@ static inline void load_as(struct store *s, const u32 *words, u32 size) {
         if (prev) vertex_row(s, prev)[V_NEXT] = r[0]; else s->vertex_first = r[0];
         prev = r[0];
         u32 before = 0;
-        if (size == 4) last = w + r[3];
-        for (; w < last && (size == 4 || half(s, *w)[W_THIS] == r[0]); w++) {
+        if (size == 4) {
+            last = w + r[3];
+            if (w < last) {
+                u32 x = row[V_FIRST] = *w;
+                for (w++; w < last; w++) {
+                    u32 *h = half(s, x);
+                    h[W_PREV] = before;
+                    before = x;
+                    x = h[W_NEXT] = *w;
+                }
+                half(s, x)[W_PREV] = before;
+                half(s, x)[W_NEXT] = 0;
+                before = x;
+            }
+            row[V_LAST] = before;
+            continue;
+        }
+        for (; w < last && half(s, *w)[W_THIS] == r[0]; w++) {
             half(s, *w)[W_PREV] = before;
             if (before) half(s, before)[W_NEXT] = *w; else row[V_FIRST] = *w;
             before = *w;

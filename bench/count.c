@@ -1,5 +1,5 @@
 /* Runs one load, a file of `bench --save`, once by the engine or by the C by hand, so that callgrind can count it.
-   Usage: count FILE engine|by_hand */
+   Usage: count FILE engine|gcc|kit */
 #include <stdint.h>
 #include <stdio.h>
 #include <stdlib.h>
@@ -7,14 +7,16 @@
 
 #include "../include/futtockfig.h"
 
-struct futtockfig_result by_hand_run(
+typedef struct futtockfig_result run(
     const uint32_t *start, size_t start_len, const uint64_t *rows, size_t rows_len, const uint32_t *calls, size_t calls_len,
     uint32_t *vertices, size_t vertices_len, uint32_t *edges, size_t edges_len, uint32_t *journal, size_t journal_len,
     uint32_t *answers, size_t answers_len, uint32_t *image, size_t image_len);
-struct futtockfig_result by_hand_run_stores(
+typedef struct futtockfig_result run_stores(
     const uint32_t *start, size_t start_len, const uint64_t *rows, size_t rows_len, const uint32_t *calls, size_t calls_len,
     uint32_t *vertices, size_t vertices_len, uint32_t *edges, size_t edges_len, uint32_t *journal, size_t journal_len,
     uint32_t *answers, size_t answers_len, uint32_t *image, size_t image_len, uint32_t stores, uint32_t limit);
+run by_hand_run, by_hand_kit_run;
+run_stores by_hand_run_stores, by_hand_kit_run_stores;
 
 static void *filled(FILE *file, size_t count, size_t size) {
     void *words = calloc(count + 1, size);
@@ -31,11 +33,11 @@ int main(int count, char **words) {
     uint32_t *calls = filled(file, n[2], 4);
     uint32_t *lent[5];
     for (int i = 0; i < 5; i++) lent[i] = filled(NULL, n[3 + i], 4);
-    int by_hand = strcmp(words[2], "engine");
+    run *one[] = {futtockfig_run, by_hand_run, by_hand_kit_run};
+    run_stores *several[] = {futtockfig_run_stores, by_hand_run_stores, by_hand_kit_run_stores};
+    int i = !strcmp(words[2], "gcc") ? 1 : !strcmp(words[2], "kit") ? 2 : 0;
     struct futtockfig_result r = n[8]
-        ? (by_hand ? by_hand_run_stores : futtockfig_run_stores)(
-              start, n[0], rows, n[1], calls, n[2], lent[0], n[3], lent[1], n[4], lent[2], n[5], lent[3], n[6], lent[4], n[7], (uint32_t)n[8], (uint32_t)n[9])
-        : (by_hand ? by_hand_run : futtockfig_run)(
-              start, n[0], rows, n[1], calls, n[2], lent[0], n[3], lent[1], n[4], lent[2], n[5], lent[3], n[6], lent[4], n[7]);
+        ? several[i](start, n[0], rows, n[1], calls, n[2], lent[0], n[3], lent[1], n[4], lent[2], n[5], lent[3], n[6], lent[4], n[7], (uint32_t)n[8], (uint32_t)n[9])
+        : one[i](start, n[0], rows, n[1], calls, n[2], lent[0], n[3], lent[1], n[4], lent[2], n[5], lent[3], n[6], lent[4], n[7]);
     return r.code != 0;
 }

@@ -46,7 +46,15 @@ pub fn all() -> Vec<Load> {
         load("2,000 deletions of a vertex with 8 edges, each undone", deletions(&start, 2_000), 100),
         load_at("1,000 vertices and 4,000 edges made from nothing", CAPACITIES, &empty, making(&start), 500),
         marked,
-        load("100,000 questions", questions(&start, 100_000), 5_000),
+        load("100,000 questions", questions(&start, 100_000, true), 5_000),
+        load("100,000 questions without kinds 46 and 47", questions(&start, 100_000, false), 5_000),
+        load("100,000 questions of one look-up", looks(&start, 100_000), 5_000),
+        load("100,000 questions of kind 45", kept(&questions(&start, 2_000_000, false), 45, 100_000), 5_000),
+        load("20,000 changes of kind 6", of_kind(&start, 6, 20_000), 1_000),
+        load("20,000 changes of kind 8", of_kind(&start, 8, 20_000), 1_000),
+        load("20,000 changes of kind 13", of_kind(&start, 13, 20_000), 1_000),
+        load("20,000 changes and undos in turn, mark 64 alone", in_turn(&[[17, 64, 0, 0, 0]], edits[0], [19, 0, 0, 0, 0], 10_000), 1_000),
+        load("20,000 edits, each undone, each redone", there_and_back(&edits), 1_000),
         load_at("one call at capacities 1, 1, 1", least, &empty, vec![[30, 0, 0, 0, 0]], 1),
         load_at("one call at the limits, no graph", CAPACITIES, &empty, vec![[30, 0, 0, 0, 0]], 1),
         old,
@@ -164,6 +172,20 @@ fn making(g: &Graph) -> Vec<Call> {
 
 /// Changes of every kind that keeps the graph full, each of which alters it; an edge deleted is made again by the next call.
 fn edits(start: &Graph, count: usize) -> Vec<Call> {
+    changes(start, (4, 16), count)
+}
+
+/// Changes of one kind, each of which alters the graph.
+fn of_kind(start: &Graph, kind: usize, count: usize) -> Vec<Call> {
+    changes(start, (kind, kind), count)
+}
+
+/// The changes, then an undo and a redo of each.
+fn there_and_back(changes: &[Call]) -> Vec<Call> {
+    [changes, &vec![[19, 0, 0, 0, 0]; changes.len()], &vec![[20, 0, 0, 0, 0]; changes.len()]].concat()
+}
+
+fn changes(start: &Graph, kinds: (usize, usize), count: usize) -> Vec<Call> {
     let mut r = Random::new(2);
     let mut graph = start.clone();
     let (vertices, edges) = (start.vertices.len(), start.edges.len());
@@ -171,7 +193,7 @@ fn edits(start: &Graph, count: usize) -> Vec<Call> {
     while calls.len() < count {
         let v = r.between(1, vertices);
         let e = r.between(1, edges);
-        let kind = r.between(4, 16) as u32;
+        let kind = r.between(kinds.0, kinds.1) as u32;
         let other = |r: &mut Random, than: usize, limit: usize| (than - 1 + r.between(1, limit - 1)) % limit + 1;
         let call = match kind {
             4 => {
@@ -223,8 +245,19 @@ fn marks(edits: &[Call], count: usize, apart: usize, trips: usize) -> Vec<Call> 
     calls
 }
 
-/// Questions of every kind. 46 and 47, which walk the whole of an order, are one in a hundred.
-fn questions(start: &Graph, count: usize) -> Vec<Call> {
+/// So many calls of a kind.
+fn kept(calls: &[Call], kind: u32, count: usize) -> Vec<Call> {
+    calls.iter().filter(|call| call[0] == kind).take(count).copied().collect()
+}
+
+/// Questions that one look-up answers: no list is gone along.
+fn looks(start: &Graph, count: usize) -> Vec<Call> {
+    let walks = [45, 48, 53, 54];
+    questions(start, 2 * count, false).into_iter().filter(|call| !walks.contains(&call[0])).take(count).collect()
+}
+
+/// Questions of every kind. 46 and 47, which walk the whole of an order, are one in a hundred, or none.
+fn questions(start: &Graph, count: usize, orders: bool) -> Vec<Call> {
     let mut r = Random::new(4);
     let heard: Vec<(u32, u32)> = pairs(start);
     let mut calls = Vec::new();
@@ -232,7 +265,8 @@ fn questions(start: &Graph, count: usize) -> Vec<Call> {
         let v = r.between(1, 1_000) as u32;
         let e = r.between(1, 4_000) as u32;
         let word = 2 * e + r.under(2) as u32;
-        let kind = if r.once_in(100) { r.one_of(&[46, 47]) } else { r.one_of(&[31, 33, 34, 35, 36, 37, 38, 39, 40, 41, 42, 43, 44, 45, 48, 52, 53, 54]) };
+        let kind =
+            if orders && r.once_in(100) { r.one_of(&[46, 47]) } else { r.one_of(&[31, 33, 34, 35, 36, 37, 38, 39, 40, 41, 42, 43, 44, 45, 48, 52, 53, 54]) };
         calls.push(match kind {
             31 | 34 | 40 | 42 => [kind, v, 0, 0, 0],
             35 | 38 | 39 => [kind, word, 0, 0, 0],

@@ -2,183 +2,14 @@
 //! Answers and images are compared before anything is timed.
 
 mod loads;
+mod programs;
 
 use outside::comparison;
-use outside::gen::{self, Random};
+use outside::gen;
 use outside::run::{Case, Outcome};
 use outside::stores::{Ended, Several};
+use programs::{futtockfig_compare, futtockfig_run, futtockfig_run_stores, now, Buffers, Run, RunStores, BY_HAND, BY_HAND_STORES};
 use std::time::{Duration, Instant};
-
-#[repr(C)]
-#[derive(Clone, Copy, PartialEq, Debug)]
-struct RunResult {
-    code: u32,
-    done: usize,
-    words: usize,
-}
-
-#[rustfmt::skip]
-type Run = unsafe extern "C" fn(
-    *const u32, usize, *const u64, usize, *const u32, usize,
-    *mut u32, usize, *mut u32, usize, *mut u32, usize, *mut u32, usize, *mut u32, usize,
-) -> RunResult;
-
-#[rustfmt::skip]
-type RunStores = unsafe extern "C" fn(
-    *const u32, usize, *const u64, usize, *const u32, usize,
-    *mut u32, usize, *mut u32, usize, *mut u32, usize, *mut u32, usize, *mut u32, usize, u32, u32,
-) -> RunResult;
-
-#[rustfmt::skip]
-extern "C" {
-    fn futtockfig_run_stores(
-        start: *const u32, start_len: usize, rows: *const u64, rows_len: usize, calls: *const u32, calls_len: usize,
-        vertices: *mut u32, vertices_len: usize, edges: *mut u32, edges_len: usize, journal: *mut u32, journal_len: usize,
-        answers: *mut u32, answers_len: usize, image: *mut u32, image_len: usize, stores: u32, limit: u32,
-    ) -> RunResult;
-    fn by_hand_run_stores(
-        start: *const u32, start_len: usize, rows: *const u64, rows_len: usize, calls: *const u32, calls_len: usize,
-        vertices: *mut u32, vertices_len: usize, edges: *mut u32, edges_len: usize, journal: *mut u32, journal_len: usize,
-        answers: *mut u32, answers_len: usize, image: *mut u32, image_len: usize, stores: u32, limit: u32,
-    ) -> RunResult;
-}
-
-#[rustfmt::skip]
-extern "C" {
-    fn futtockfig_run(
-        start: *const u32, start_len: usize, rows: *const u64, rows_len: usize, calls: *const u32, calls_len: usize,
-        vertices: *mut u32, vertices_len: usize, edges: *mut u32, edges_len: usize, journal: *mut u32, journal_len: usize,
-        answers: *mut u32, answers_len: usize, image: *mut u32, image_len: usize,
-    ) -> RunResult;
-    fn by_hand_run(
-        start: *const u32, start_len: usize, rows: *const u64, rows_len: usize, calls: *const u32, calls_len: usize,
-        vertices: *mut u32, vertices_len: usize, edges: *mut u32, edges_len: usize, journal: *mut u32, journal_len: usize,
-        answers: *mut u32, answers_len: usize, image: *mut u32, image_len: usize,
-    ) -> RunResult;
-}
-
-/// A code and four counts.
-#[repr(C)]
-struct Compared([u32; 5]);
-
-extern "C" {
-    fn futtockfig_compare(first: *const u32, first_len: usize, second: *const u32, second_len: usize, tolerance: u32) -> Compared;
-}
-
-#[repr(C)]
-struct TimeSpec {
-    seconds: i64,
-    nanoseconds: i64,
-}
-
-extern "C" {
-    fn clock_gettime(clock: i32, time: *mut TimeSpec) -> i32;
-}
-
-/// The processor time of this thread, which other programs on the machine do not count in.
-fn now() -> Duration {
-    const CLOCK_THREAD_CPUTIME_ID: i32 = 3;
-    let mut time = TimeSpec { seconds: 0, nanoseconds: 0 };
-    // SAFETY: the pointer is to a live struct of the C library's layout on 64-bit Linux.
-    unsafe { clock_gettime(CLOCK_THREAD_CPUTIME_ID, &mut time) };
-    Duration::new(time.seconds as u64, time.nanoseconds as u32)
-}
-
-/// The slices that both programs are lent in turn.
-struct Buffers {
-    vertices: Vec<u32>,
-    edges: Vec<u32>,
-    journal: Vec<u32>,
-    answers: Vec<u32>,
-    image: Vec<u32>,
-}
-
-impl Buffers {
-    fn new(case: &Case) -> Buffers {
-        let mut r = Random::new(9);
-        Buffers {
-            vertices: r.junk(case.vertices),
-            edges: r.junk(case.edges),
-            journal: r.junk(case.journal),
-            answers: r.junk(case.answers),
-            image: r.junk(case.image),
-        }
-    }
-
-    fn run(&mut self, program: Run, case: &Case) -> (RunResult, Duration) {
-        let begun = now();
-        // SAFETY: each pointer is to its own slice of the given length.
-        let result = unsafe {
-            program(
-                case.start.as_ptr(),
-                case.start.len(),
-                case.rows.as_ptr(),
-                case.rows.len(),
-                case.calls.as_ptr(),
-                case.calls.len(),
-                self.vertices.as_mut_ptr(),
-                self.vertices.len(),
-                self.edges.as_mut_ptr(),
-                self.edges.len(),
-                self.journal.as_mut_ptr(),
-                self.journal.len(),
-                self.answers.as_mut_ptr(),
-                self.answers.len(),
-                self.image.as_mut_ptr(),
-                self.image.len(),
-            )
-        };
-        (result, now() - begun)
-    }
-
-    fn serve(&mut self, program: RunStores, several: &Several) -> (RunResult, Duration) {
-        let case = &several.case;
-        let begun = now();
-        // SAFETY: each pointer is to its own slice of the given length.
-        let result = unsafe {
-            program(
-                case.start.as_ptr(),
-                case.start.len(),
-                case.rows.as_ptr(),
-                case.rows.len(),
-                case.calls.as_ptr(),
-                case.calls.len(),
-                self.vertices.as_mut_ptr(),
-                self.vertices.len(),
-                self.edges.as_mut_ptr(),
-                self.edges.len(),
-                self.journal.as_mut_ptr(),
-                self.journal.len(),
-                self.answers.as_mut_ptr(),
-                self.answers.len(),
-                self.image.as_mut_ptr(),
-                self.image.len(),
-                several.stores,
-                several.limit,
-            )
-        };
-        (result, now() - begun)
-    }
-
-    fn ended(&mut self, program: RunStores, several: &Several) -> Ended {
-        let (result, _) = self.serve(program, several);
-        if result.code != 0 {
-            return Ended::Refused(result.code, result.done);
-        }
-        let part = self.image.len() / several.stores as usize;
-        let images: Vec<Vec<u32>> = self.image.chunks_exact(part).take(several.stores as usize).map(|part| part[..part[5] as usize].to_vec()).collect();
-        check("the images of several stores have other words than are told", images.iter().map(Vec::len).sum::<usize>() == result.words);
-        Ended::Done { answers: self.answers[..2 * result.done].to_vec(), images }
-    }
-
-    fn outcome(&mut self, program: Run, case: &Case) -> Outcome {
-        let (result, _) = self.run(program, case);
-        match result.code {
-            0 => Outcome::Done { answers: self.answers[..2 * result.done].to_vec(), image: self.image[..result.words].to_vec() },
-            code => Outcome::Refused(code, result.done),
-        }
-    }
-}
 
 fn check(what: &str, same: bool) {
     if !same {
@@ -191,18 +22,25 @@ fn check(what: &str, same: bool) {
 fn compare(all: &[loads::Load]) {
     for seed in 0..500 {
         let case = gen::case(seed % 498);
-        check(&format!("the C by hand differs from the plain machine at seed {seed}"), Buffers::new(&case).outcome(by_hand_run, &case) == case.run());
+        let plain = case.run();
+        for by_hand in BY_HAND {
+            check(&format!("the C by hand differs from the plain machine at seed {seed}"), Buffers::new(&case).outcome(by_hand, &case) == plain);
+        }
     }
     for load in all {
         let mut buffers = Buffers::new(&load.short);
         let plain = load.short.run();
-        check(&format!("{}: the C by hand differs from the plain machine", load.name), buffers.outcome(by_hand_run, &load.short) == plain);
+        for by_hand in BY_HAND {
+            check(&format!("{}: the C by hand differs from the plain machine", load.name), buffers.outcome(by_hand, &load.short) == plain);
+        }
         check(&format!("{}: the engine differs from the plain machine", load.name), buffers.outcome(futtockfig_run, &load.short) == plain);
         let mut buffers = Buffers::new(&load.case);
-        let by_hand = buffers.outcome(by_hand_run, &load.case);
+        let by_hand = buffers.outcome(BY_HAND[0], &load.case);
         let accepted = matches!(&by_hand, Outcome::Done { answers, .. } if answers.chunks(2).all(|a| a[0] == 0));
         check(&format!("{}: a call was refused", load.name), accepted);
-        check(&format!("{}: the engine differs from the C by hand", load.name), buffers.outcome(futtockfig_run, &load.case) == by_hand);
+        for program in [BY_HAND[1], futtockfig_run] {
+            check(&format!("{}: the engine or one C by hand differs from the other", load.name), buffers.outcome(program, &load.case) == by_hand);
+        }
     }
 }
 
@@ -210,37 +48,43 @@ fn compare(all: &[loads::Load]) {
 fn compare_stores(all: &[loads::Shared]) {
     for seed in 0..500 {
         let several = gen::several(seed % 498);
-        check(
-            &format!("the C by hand differs from the plain machines at seed {seed}"),
-            Buffers::new(&several.case).ended(by_hand_run_stores, &several) == several.run(),
-        );
+        let plain = several.run();
+        for by_hand in BY_HAND_STORES {
+            let same = Buffers::new(&several.case).ended(by_hand, &several) == plain;
+            check(&format!("the C by hand differs from the plain machines at seed {seed}"), same);
+        }
     }
     for load in all {
         let mut buffers = Buffers::new(&load.short.case);
         let plain = load.short.run();
-        check(&format!("{}: the C by hand differs from the plain machines", load.name), buffers.ended(by_hand_run_stores, &load.short) == plain);
+        for by_hand in BY_HAND_STORES {
+            check(&format!("{}: the C by hand differs from the plain machines", load.name), buffers.ended(by_hand, &load.short) == plain);
+        }
         check(&format!("{}: the engine differs from the plain machines", load.name), buffers.ended(futtockfig_run_stores, &load.short) == plain);
         let mut buffers = Buffers::new(&load.several.case);
-        let by_hand = buffers.ended(by_hand_run_stores, &load.several);
+        let by_hand = buffers.ended(BY_HAND_STORES[0], &load.several);
         let accepted = matches!(&by_hand, Ended::Done { answers, .. } if answers.chunks(2).all(|a| a[0] == 0));
         check(&format!("{}: a call was refused", load.name), accepted);
-        check(&format!("{}: the engine differs from the C by hand", load.name), buffers.ended(futtockfig_run_stores, &load.several) == by_hand);
+        for program in [BY_HAND_STORES[1], futtockfig_run_stores] {
+            check(&format!("{}: the engine or one C by hand differs from the other", load.name), buffers.ended(program, &load.several) == by_hand);
+        }
     }
 }
 
-/// The best time of both programs of several stores.
-fn best_stores(several: &Several, time: Duration) -> [Duration; 2] {
+/// The best times of several stores, in µs: the C by gcc, by the kit's clang, and the engine.
+fn best_stores(several: &Several, time: Duration) -> [f64; 3] {
     let mut buffers = Buffers::new(&several.case);
-    let mut best = [Duration::MAX; 2];
+    let mut best = [Duration::MAX; 3];
+    let programs: [RunStores; 3] = [BY_HAND_STORES[0], BY_HAND_STORES[1], futtockfig_run_stores];
     let begun = Instant::now();
     let mut rounds = 0;
     while rounds < 5 || begun.elapsed() < time {
-        for (i, program) in [by_hand_run_stores as RunStores, futtockfig_run_stores].into_iter().enumerate() {
+        for (i, program) in programs.into_iter().enumerate() {
             best[i] = best[i].min(buffers.serve(program, several).1);
         }
         rounds += 1;
     }
-    best
+    best.map(micros)
 }
 
 /// Several stores: every load by the entry of several with one store, beside the other entry, then eight stores.
@@ -256,17 +100,17 @@ fn several_stores(all: &[loads::Load], time: Duration) {
     println!("|---|---|---|---|---|");
     for (load, shared) in all.iter().zip(&one) {
         let five = micros(best(&load.case, &[futtockfig_run], time)[0]);
-        let [by_hand, six] = best_stores(&shared.several, time).map(micros);
-        println!("| {} | {five:.1} | {six:.1} | {:.2} | {by_hand:.1} |", load.name, six / five);
+        let [gcc, clang, six] = best_stores(&shared.several, time);
+        println!("| {} | {five:.1} | {six:.1} | {:.2} | {:.1} |", load.name, six / five, gcc.min(clang));
     }
     println!();
     println!("Eight stores in the same tables, 125 vertices and 500 edges each, limit 20,000:");
     println!();
-    println!("| load | C by hand, µs | engine, µs | engine ÷ C |");
-    println!("|---|---|---|---|");
+    println!("| load | C by gcc, µs | C by clang, µs | engine, µs | engine ÷ better C |");
+    println!("|---|---|---|---|---|");
     for load in &eight {
-        let [by_hand, engine] = best_stores(&load.several, time).map(micros);
-        println!("| {} | {by_hand:.1} | {engine:.1} | {:.2} |", load.name, engine / by_hand);
+        let [gcc, clang, engine] = best_stores(&load.several, time);
+        println!("| {} | {gcc:.1} | {clang:.1} | {engine:.1} | {:.2} |", load.name, engine / gcc.min(clang));
     }
 }
 
@@ -283,6 +127,12 @@ fn best(case: &Case, programs: &[Run], time: Duration) -> Vec<Duration> {
         rounds += 1;
     }
     best
+}
+
+/// The best times in µs: the C by gcc, by the kit's clang, and the engine.
+fn sides(case: &Case, time: Duration) -> [f64; 3] {
+    let times = best(case, &[BY_HAND[0], BY_HAND[1], futtockfig_run], time);
+    [times[0], times[1], times[2]].map(micros)
 }
 
 fn micros(time: Duration) -> f64 {
@@ -333,11 +183,11 @@ fn main() {
     println!("buffers are not cleared between runs. The plain machine runs a shorter list of the same load, best of 3;");
     println!("its ratio is against the C by hand on that list.");
     println!();
-    println!("| load | C by hand, µs | engine, µs | engine ÷ C | plain machine ÷ C |");
-    println!("|---|---|---|---|---|");
+    println!("| load | C by gcc, µs | C by clang, µs | engine, µs | engine ÷ better C | plain machine ÷ C |");
+    println!("|---|---|---|---|---|---|");
     for load in &all {
-        let times = best(&load.case, &[by_hand_run, futtockfig_run], Duration::from_secs(seconds));
-        let short = best(&load.short, &[by_hand_run], Duration::from_millis(300))[0];
+        let [gcc, clang, engine] = sides(&load.case, Duration::from_secs(seconds));
+        let short = best(&load.short, &BY_HAND[..1], Duration::from_millis(300))[0];
         let plain = (0..3)
             .map(|_| {
                 let begun = now();
@@ -346,14 +196,8 @@ fn main() {
             })
             .min()
             .unwrap();
-        println!(
-            "| {} | {:.1} | {:.1} | {:.2} | {:.0} |",
-            load.name,
-            micros(times[0]),
-            micros(times[1]),
-            micros(times[1]) / micros(times[0]),
-            micros(plain) / micros(short)
-        );
+        let ratio = engine / gcc.min(clang);
+        println!("| {} | {gcc:.1} | {clang:.1} | {engine:.1} | {ratio:.2} | {:.0} |", load.name, micros(plain) / micros(short));
     }
     check_alone(&all, Duration::from_secs(seconds));
     two_images(&all, Duration::from_secs(seconds));
@@ -371,12 +215,12 @@ fn growth(time: Duration) {
     println!("|---|---|---|---|");
     for lists in loads::growing() {
         compare(&lists);
-        let times: Vec<Vec<Duration>> = lists.iter().map(|l| best(&l.case, &[by_hand_run, futtockfig_run], time)).collect();
+        let times: Vec<[f64; 3]> = lists.iter().map(|l| sides(&l.case, time)).collect();
         let vertices = lists[0].case.vertices / 8;
         print!("| {vertices} | {} |", 4 * vertices);
         for (load, with) in lists.iter().zip(&times).skip(2) {
-            let each = |i: usize| (micros(with[i]) - micros(times[0][i])) * 5_000.0 / load.case.calls.len() as f64;
-            print!(" {:.1}, {:.1} |", each(0), each(1));
+            let each = |i: usize| (with[i] - times[0][i]) * 5_000.0 / load.case.calls.len() as f64;
+            print!(" {:.1}, {:.1} |", each(0).min(each(1)), each(2));
         }
         println!();
     }
@@ -388,9 +232,9 @@ fn check_alone(all: &[loads::Load], time: Duration) {
     let mut case = all.last().expect("a load").case.clone();
     case.image -= 1;
     check("one word too few is not 106", Buffers::new(&case).outcome(futtockfig_run, &case) == Outcome::Refused(106, 0));
-    let times = best(&case, &[by_hand_run, futtockfig_run], time);
+    let [gcc, clang, engine] = sides(&case, time);
     println!();
-    println!("The check of a full image alone (a run refused with 106): C by hand {:.1} µs, engine {:.1} µs.", micros(times[0]), micros(times[1]));
+    println!("The check of a full image alone (a run refused with 106): C by hand {:.1} µs, engine {engine:.1} µs.", gcc.min(clang));
 }
 
 /// Two full images beside each other: the start and the end of the first load, its edits.

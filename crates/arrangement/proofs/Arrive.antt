@@ -72,7 +72,8 @@ accepted kind items wanted list z = go (sameWords wanted items) (ltb (length lis
 pub load-first : (ws list : List ℕ) (o : Outcome) → loadedThen ws list o .code ≡ 0 → (loadCode savedBounds ws ≡ 0) × (loadedThen ws list o ≡ o)
 load-first ws list o z = go (loadCode savedBounds ws == 0) refl z
   where
-    go : (t : Bool) → (loadCode savedBounds ws == 0) ≡ t → (t ⇒ o else refusal (loadCode savedBounds ws) list) .code ≡ 0 → (loadCode savedBounds ws ≡ 0) × ((t ⇒ o else refusal (loadCode savedBounds ws) list) ≡ o)
+    go : (t : Bool) → (loadCode savedBounds ws == 0) ≡ t → (t ⇒ o else refusal (loadCode savedBounds ws) list) .code ≡ 0 → (loadCode savedBounds ws ≡ 0)
+        × ((t ⇒ o else refusal (loadCode savedBounds ws) list) ≡ o)
     go true e i = (eqb-true (loadCode savedBounds ws) 0 e, refl)
     go false e i = absurd (eqb-false (loadCode savedBounds ws) 0 e i)
 

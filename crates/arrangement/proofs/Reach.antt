@@ -134,7 +134,8 @@ module _ (w : Parameters) where
   words-moved v b [] g s = ap (λ (l : List Vertex). onVseq (λ _. l) g) (sym (upd-same vertexNumber v (g .vseq)))
   words-moved v b (a ∷ ws) g s =
       words-moved v a ws (changed (WordAfter a b) g) (λ n h. s n (omega (arith, h)))
-      ∙ ap (λ (u : ℕ). onVseq (λ _. updateBy vertexNumber v (onList (putInTurn itself 0 a ws)) (updateBy vertexNumber u (onList (putAfter itself 0 a b)) (g .vseq))) g) (s a (omega (arith, is-yes a a refl)))
+      ∙ ap (λ (u : ℕ). onVseq (λ _. updateBy vertexNumber v (onList (putInTurn itself 0 a ws)) (updateBy vertexNumber u (onList (putAfter itself 0 a b)) (g .vseq))) g)
+      (s a (omega (arith, is-yes a a refl)))
       ∙ ap (λ (l : List Vertex). onVseq (λ _. l) g) (upd-upd vertexNumber v (onList (putAfter itself 0 a b)) (onList (putInTurn itself 0 a ws)) (g .vseq) (λ y. refl))
 
   seen : (g : Graph) → WellFormed g → (v x : ℕ) → 1 ≤ countBy itself x (listOf g v) → SeenFrom (g .eseq) v x
@@ -159,7 +160,8 @@ module _ (w : Parameters) where
 
       go : (ws : List ℕ) → ((n : ℕ) → times n ws ≡ countBy itself n (listOf g v)) → length ws - 1 ≤ free w m →
           Reaches w m (arrangeCalls 16 ws) (length ws - 1) (onVseq (updateBy vertexNumber v (onList (λ _. ws))) g)
-      go [] c k = stays w m _ (ap (λ (l : List Vertex). onVseq (λ _. l) g) (sym (upd-same vertexNumber v (g .vseq))) ∙ ordered [] (λ l. l) (arranged-is itself 0 [] (listOf g v) (ordered-list g wf v) c))
+      go [] c k = stays w m _
+          (ap (λ (l : List Vertex). onVseq (λ _. l) g) (sym (upd-same vertexNumber v (g .vseq))) ∙ ordered [] (λ l. l) (arranged-is itself 0 [] (listOf g v) (ordered-list g wf v) c))
       go (b ∷ ws) c k =
           let s : (n : ℕ) → 1 ≤ times n (b ∷ ws) → SeenFrom (g .eseq) v n = λ n h. seen g wf v n (omega (arith, c n)) in
           let r = moves-reach w 16 WordAfter (λ a b. refl) (λ a b g. refl) (λ a b g. refl) b ws m p (words-pass v b ws g s (λ n. omega (arith, c n, ordered-list g wf v n))) (omega arith) in

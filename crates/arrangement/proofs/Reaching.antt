@@ -94,7 +94,8 @@ module _ (w : Parameters) (kind : ℕ) (move : ℕ → ℕ → Change) where
   movedOn b [] g = g
   movedOn b (a ∷ ws) g = movedOn a ws (changed (move a b) g)
 
-  module _ (is : (a b : ℕ) → commandOf (five kind a b 0 0) ≡ Alter (move a b)) (one : (a b : ℕ) (g : Graph) → cost (move a b) g ≡ 1) (exactly : (a b : ℕ) (g : Graph) → alters (move a b) g ≡ differs (move a b) g) where
+  module _ (is : (a b : ℕ) → commandOf (five kind a b 0 0) ≡ Alter (move a b)) (one : (a b : ℕ) (g : Graph) → cost (move a b) g ≡ 1)
+      (exactly : (a b : ℕ) (g : Graph) → alters (move a b) g ≡ differs (move a b) g) where
     pub moves-reach : (b : ℕ) (ws : List ℕ) (m : Machine) → InPlace m → Passes b ws (present m) → length ws ≤ free w m →
         Reaches w m (callsFrom kind b ws) (length ws) (movedOn b ws (present m))
     unfolding answers last

@@ -107,7 +107,8 @@ taken-alike [] [] s k o l e = λ n. refl
 taken-alike [] (x ∷ items) s k o l e = absurd (omega arith)
 taken-alike (w ∷ ws) items s k o l e = go (λ xs u v q i. taken-alike ws xs (set s w 0) u v q i) (getD s w 0 == 1) refl e
   where
-    go : ((xs : List ℕ) → Tied (set s w 0) xs → Once xs → length ws ≡ length xs → taken ws (set s w 0) ≡ true → Alike ws xs) → (t : Bool) → (getD s w 0 == 1) ≡ t → (t ⇒ taken ws (set s w 0) else false) ≡ true → Alike (w ∷ ws) items
+    go : ((xs : List ℕ) → Tied (set s w 0) xs → Once xs → length ws ≡ length xs → taken ws (set s w 0) ≡ true → Alike ws xs) → (t : Bool) → (getD s w 0 == 1) ≡ t
+        → (t ⇒ taken ws (set s w 0) else false) ≡ true → Alike (w ∷ ws) items
     go ih true f i =
         let h : 1 ≤ count w items = omega (arith, eqb-true (getD s w 0) 1 f, k w) in
         let a = ih (removeBy itself w items) (tied-off s items w k o h) (once-off s items w k o h) (omega (arith, rem-length w items h, l)) i in

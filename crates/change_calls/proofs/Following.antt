@@ -117,7 +117,8 @@ module _ (c : Change) (types free : ℕ) (x : Store) (mem : Memory) (code n : �
           accepted (changeRule b capacity c) m b x′ stepAfter n (sym (r .comes b m e (h .journal) .coded capacity q) ∙ r .accepts y) (step .costs ∙ ap (λ (d : Deed). d .number) u)
           (subst (λ (d : Deed). Represents b x′ stepAfter (effected (d .effect) m)) u (record {
             journal = at-record b (x′ .current) _ (s′ .vertices) (s′ .edges) (signed (x .current .position .used) (x .bench) t′) _ f
-                (subst (λ (i : ℕ). Journal b (afterStep (x .current .position) (s′ .head) n .position) s′ (signed (x .current .position .used) (x .bench) t′) (extended (stepOf i c (present m)) (m .line))) (h .bench) (step .steps (x .bench)));
+                (subst (λ (i : ℕ). Journal b (afterStep (x .current .position) (s′ .head) n .position) s′ (signed (x .current .position .used) (x .bench) t′)
+                (extended (stepOf i c (present m)) (m .line))) (h .bench) (step .steps (x .bench)));
             bench = w ∙ h .bench;
             marks = subst (λ (p : ℕ). Marked (cutMarks p (m .marks)) (x′ .set) (mem .marks)) (h .journal .place) k;
             names = cut-named (m .marks) (m .names) (mem .marks) (m .line .place) (h .names);
@@ -130,7 +131,8 @@ module _ (c : Change) (types free : ℕ) (x : Store) (mem : Memory) (code n : �
 
   -- the change is a step, signed, and the marks are cut
   pub change-made : n ≢ 0 → (x′ : Store) → x′ .current ≡ afterStep (x .current .position) (s′ .head) n → x′ .bench ≡ x .bench
-      → ((ms : ℕ → MarkPlace) → Marked ms (x .set) (mem .marks) → ((k q : ℕ) → ms k ≡ at q → q ≤ x .current .position .steps) → Marked (cutMarks (x .current .position .place) ms) (x′ .set) (mem .marks))
+      → ((ms : ℕ → MarkPlace) → Marked ms (x .set) (mem .marks) → ((k q : ℕ) → ms k ≡ at q → q ≤ x .current .position .steps)
+      → Marked (cutMarks (x .current .position .place) ms) (x′ .set) (mem .marks))
       → (t″ : List ℕ) → t″ ≡ signed (x .current .position .used) (x .bench) t′ → DoesChange c types free x mem (done x′ 0 n) (memory (s′ .vertices) (s′ .edges) t″ (mem .marks))
   change-made y x′ f w cuts t″ v = subst (λ (t : List ℕ). DoesChange c types free x mem (done x′ 0 n) (memory (s′ .vertices) (s′ .edges) t (mem .marks))) (sym v) (record {
     follows = λ b m n e h q. step-follows b m e h y n q x′ f w (cuts (m .marks) (h .marks) (mark-steps b x mem m h));

@@ -21,7 +21,8 @@ use Rattle.vertex_deletion.proofs.Rows.{first-plan, making-start, allowed-now, 
 
 pub single-step : (x : Change) (b : Bounds) (j : Position) (s : State) (t : List ℕ) (l : Timeline) → Journal b j s t l → Allowed b (presentIn l) x → OneEdit x
     → 12 * j .used + 12 ≤ length t → (s′ : State) (t′ : List ℕ) → Written (planS x s) (costing 1) (j .used) s t s′ t′
-    → (j′ : Position) → j′ .place ≡ j .place + 1 → j′ .steps ≡ j .place + 1 → j′ .used ≡ j .used + 1 → (bench : ℕ) → Journal b j′ s′ (signed (j .used) bench t′) (extended (stepOf bench x (presentIn l)) l)
+    → (j′ : Position) → j′ .place ≡ j .place + 1 → j′ .steps ≡ j .place + 1 → j′ .used ≡ j .used + 1 → (bench : ℕ)
+    → Journal b j′ s′ (signed (j .used) bench t′) (extended (stepOf bench x (presentIn l)) l)
 single-step x b j s t l k a o r s′ t′ w j′ p q u bench =
     let one : 1 ≡ cost x (presentIn l) = sym (one-edit x o (presentIn l) .1) in
     let m = making-start x b j s t l 1 (j .used) refl k a in

@@ -5,7 +5,8 @@ use types.Run.{OneOf, miss}
 use denote.Enum.Declared.{tagOf}
 use Rattle.graph.proofs.Change.{the-type}
 use Rattle.graph.specs.declared.Change.{Change}
-use Rattle.graph.specs.declared.Change.the-variants.{CreateVertex, DeleteVertex, CreateEdge, DeleteEdge, RetypeVertex, RetypeEdge, SetValue, SetReading, SetAlpha, SetOmega, VertexBefore, VertexAfter, EdgeBefore, EdgeAfter, WordBefore, WordAfter}
+use Rattle.graph.specs.declared.Change.the-variants.{CreateVertex, DeleteVertex, CreateEdge, DeleteEdge, RetypeVertex, RetypeEdge, SetValue, SetReading, SetAlpha, SetOmega, VertexBefore}
+use Rattle.graph.specs.declared.Change.the-variants.{VertexAfter, EdgeBefore, EdgeAfter, WordBefore, WordAfter}
 use Rattle.queries.specs.Plans.{OneEdit}
 
 abbrev pub others : List ℕ

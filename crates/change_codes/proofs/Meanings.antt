@@ -46,6 +46,10 @@ then-both false false k l c e i p q = rw (eq-eqb c 0 i)
 
 -- ---- names
 
+used-is : (i : ℕ) (b : Bool) → usedCode (b ⇒ Found i else Missing) ≡ (b ⇒ 3 else 0)
+used-is i true = refl
+used-is i false = refl
+
 module _ (vertices : List ℕ) (g : Graph) (h : HoldsV vertices g) where
   pub vertex-means : (n : ℕ) → vertexCode (foundV vertices n) ≡ (lacksVertex g n ⇒ 4 else 0)
   vertex-means n = rw (vertex-looked vertices g n h) (go (hasVertex g n))
@@ -55,11 +59,7 @@ module _ (vertices : List ℕ) (g : Graph) (h : HoldsV vertices g) where
       go false = refl
 
   pub vertex-used : (n : ℕ) → usedCode (foundV vertices n) ≡ (hasVertex g n ⇒ 3 else 0)
-  vertex-used n = rw (vertex-looked vertices g n h) (go (hasVertex g n))
-    where
-      go : (b : Bool) → usedCode (b ⇒ Found (8 * n - 8) else Missing) ≡ (b ⇒ 3 else 0)
-      go true = refl
-      go false = refl
+  vertex-used n = rw (vertex-looked vertices g n h) (used-is (8 * n - 8) (hasVertex g n))
 
   pub vertices-mean : (a b : ℕ) → verticesCode vertices a b ≡ ((lacksVertex g a || lacksVertex g b) ⇒ 4 else 0)
   vertices-mean a b =
@@ -74,11 +74,7 @@ module _ (edges : List ℕ) (g : Graph) (h : HoldsE edges g) where
       go false = refl
 
   pub edge-used : (n : ℕ) → usedCode (foundE edges n) ≡ (hasEdge g n ⇒ 3 else 0)
-  edge-used n = rw (edge-looked edges g n h) (go (hasEdge g n))
-    where
-      go : (b : Bool) → usedCode (b ⇒ Found (12 * n - 12) else Missing) ≡ (b ⇒ 3 else 0)
-      go true = refl
-      go false = refl
+  edge-used n = rw (edge-looked edges g n h) (used-is (12 * n - 12) (hasEdge g n))
 
   pub edges-mean : (a b : ℕ) → edgesCode edges a b ≡ ((lacksEdge g a || lacksEdge g b) ⇒ 5 else 0)
   edges-mean a b =

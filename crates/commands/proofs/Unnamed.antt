@@ -18,7 +18,17 @@ module _ (x : Call) where
   past : (x .kind ≡ 0 → ⊥) → 55 ≤ x .kind → (56 ≤ x .kind → 60 ≤ x .kind) → commandOf x ≡ Unknown
   unfolding commandOf
   past z h top =
-      rw (ne-eqb (x .kind) 0 z, lt-leb (x .kind) 16 (omega (arith, h)), lt-leb (x .kind) 22 (omega (arith, h)), lt-leb (x .kind) 29 (omega (arith, h)), lt-leb (x .kind) 48 (omega (arith, h)), lt-leb (x .kind) 51 (omega (arith, h)), ne-eqb (x .kind) 52 (λ i. omega (arith, h, i)), ne-eqb (x .kind) 53 (λ i. omega (arith, h, i)), ne-eqb (x .kind) 54 (λ i. omega (arith, h, i))) (last (x .kind == 55) refl)
+      rw (
+        ne-eqb (x .kind) 0 z,
+        lt-leb (x .kind) 16 (omega (arith, h)),
+        lt-leb (x .kind) 22 (omega (arith, h)),
+        lt-leb (x .kind) 29 (omega (arith, h)),
+        lt-leb (x .kind) 48 (omega (arith, h)),
+        lt-leb (x .kind) 51 (omega (arith, h)),
+        ne-eqb (x .kind) 52 (λ i. omega (arith, h, i)),
+        ne-eqb (x .kind) 53 (λ i. omega (arith, h, i)),
+        ne-eqb (x .kind) 54 (λ i. omega (arith, h, i)),
+      ) (last (x .kind == 55) refl)
     where
       last : (b : Bool) → (x .kind == 55) ≡ b → ((x .kind == 55) ⇒ Unknown else leb (x .kind) 59 ⇒ History (historyOf (x .kind) (x .a) (x .b) (x .c)) else Unknown) ≡ Unknown
       last true r = rw r refl

@@ -213,7 +213,8 @@ module _ (w : Parameters) (lent copies : List ℕ) (gs : List Graph) (n : ℕ) (
       record {
         count = omega (arith, l);
         formed = all-append gs (c .formed);
-        room = subst (λ (k : ℕ). stretch w * k ≤ length lent) (sym l) (subst (λ (k : ℕ). stretch w * k ≤ length lent) (let q : suc (length gs) ≡ length gs + 1 = omega arith in q) (rw mul-suc (rw (← e) (omega (arith, copies-length)))));
+        room = subst (λ (k : ℕ). stretch w * k ≤ length lent) (sym l)
+            (subst (λ (k : ℕ). stretch w * k ≤ length lent) (let q : suc (length gs) ≡ length gs + 1 = omega arith in q) (rw mul-suc (rw (← e) (omega (arith, copies-length)))));
         kept =
             ap (λ (k : ℕ). sets copies (stretch w * k) (save g)) (e ∙ (let q : length gs ≡ 0 + length gs = omega arith in q))
             ∙ ap (λ (l : List ℕ). sets l (stretch w * (0 + length gs)) (save g)) (c .kept)

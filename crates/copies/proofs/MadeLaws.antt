@@ -257,7 +257,8 @@ module _ (calls : List ℕ) (k : ℕ) (fits : 5 * k + 5 ≤ length calls) where
       let none : 5 * k + 0 ≡ 5 * k = omega arith in
       let w : getD part 0 0 ≡ getD calls (5 * k) 0 =
       ap (λ (j : ℕ). getD (take j (drop (5 * k) calls)) 0 0) five ∙ getD-take 5 (drop (5 * k) calls) 0 0 (omega arith) ∙ getD-drop (5 * k) calls 0 0 ∙ ap (λ (j : ℕ). getD calls j 0) none in
-      ap changesIn one-more ∙ changes-more (take k (callsOf calls)) (callAt part ∷ []) ∙ ap (λ (j : ℕ). changesIn (take k (callsOf calls)) + j) (bit (getD part 0 0) ∙ ap (λ (j : ℕ). toBit (within 1 16 j)) w)
+      ap changesIn one-more ∙ changes-more (take k (callsOf calls)) (callAt part ∷ []) ∙ ap (λ (j : ℕ). changesIn (take k (callsOf calls)) + j)
+      (bit (getD part 0 0) ∙ ap (λ (j : ℕ). toBit (within 1 16 j)) w)
     where
       bit : (kind : ℕ) → length (within 1 16 kind ⇒ (callAt part ∷ []) else []) ≡ toBit (within 1 16 kind)
       bit kind = go (within 1 16 kind)

@@ -56,7 +56,8 @@ numbers-commit g gs numbers used m p e inside h =
     getD-set-same numbers 0 (getD numbers p 0) 0 (omega (arith, h .numbers-size)) ∙ ap (λ (j : ℕ). getD numbers j 0) e in
     record {
       in-copies = λ i k. let z : i ≡ 0 = omega arith in subst (λ (j : ℕ). getD (set numbers 0 (getD numbers p 0)) j 0 ≤ length gs) (sym z) (rw at (h .in-copies (m .line .place) inside));
-      graphs = λ i k. let z : i ≡ 0 = omega arith in subst (λ (j : ℕ). copyOf g gs (getD (set numbers 0 (getD numbers p 0)) j 0) ≡ graphAt j (present m) []) (sym z) (ap (copyOf g gs) at ∙ h .graphs (m .line .place) inside);
+      graphs = λ i k. let z : i ≡ 0 = omega arith in subst (λ (j : ℕ). copyOf g gs (getD (set numbers 0 (getD numbers p 0)) j 0) ≡ graphAt j (present m) []) (sym z)
+          (ap (copyOf g gs) at ∙ h .graphs (m .line .place) inside);
       rows = λ i k. let z : i ≡ 0 = omega arith in subst (λ (j : ℕ). getD used j 0 ≡ rowsTo 0 j []) (sym z) (h .rows 0 (omega arith));
       numbers-size = length-set numbers 0 (getD numbers p 0) ∙ h .numbers-size;
       used-size = h .used-size;

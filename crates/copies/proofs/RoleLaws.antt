@@ -174,7 +174,8 @@ abbrev pub idles : List ℕ
 idles = 0 ∷ 3 ∷ []
 
 abbrev pub Left : Role → Type 0
-Left s = (k p q n u size : ℕ) (g : Graph) (numbers used copies : List ℕ) → (n ≡ countAfter s k n) × (numbers ≡ numbersAfter s k p q n numbers) × (used ≡ usedAfter s k q u used) × (copies ≡ copiesAfter s k size n g copies)
+Left s = (k p q n u size : ℕ) (g : Graph) (numbers used copies : List ℕ) → (n ≡ countAfter s k n) × (numbers ≡ numbersAfter s k p q n numbers) × (used ≡ usedAfter s k q u used)
+    × (copies ≡ copiesAfter s k size n g copies)
 
 pub left-alone : (s : Role) → OneOf idles (tagOf role.the-type s) → Left s
 left-alone (Move h) i k p q n u size g numbers used copies = (refl, refl, refl, refl)

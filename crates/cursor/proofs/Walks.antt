@@ -26,6 +26,7 @@ abbrev pub laws : (κs : Lfts 1) → LL.Laws (Shape κs)
 laws κs = T′.the-laws (namedLft 1 0 tt κs)
 
 -- of a callee that is lent nothing by `&mut`, the clause alone: what is said of last values is dropped
-pub told : {M : Type 1} (𝓤 : URA M) (H : Heap 𝓤) (A : Atoms 𝓤) (E : Ended) (c : Clauses 𝓤 E) (κs : Lfts (E .signature .lifetimes)) (a : Args (E .signature) κs) (g : c κs a .ghost) (r : Res (E .signature) κs) (φ : Type 0)
+pub told : {M : Type 1} (𝓤 : URA M) (H : Heap 𝓤) (A : Atoms 𝓤) (E : Ended) (c : Clauses 𝓤 E) (κs : Lfts (E .signature .lifetimes)) (a : Args (E .signature) κs) (g : c κs a .ghost)
+    (r : Res (E .signature) κs) (φ : Type 0)
     → ((ws : Lasts E κs a) → ent 𝓤 (c κs a .ensures g r (atExit E κs a ws)) (fact 𝓤 φ)) → ent 𝓤 (ensured 𝓤 H A E c κs a g r) (fact 𝓤 φ)
 told 𝓤 H A E c κs a g r φ e = exE 𝓤 _ (λ ws. via 𝓤 _ (snd∗ 𝓤 (sem 𝓤 H A (lasts E κs a ws)) (c κs a .ensures g r (atExit E κs a ws))) (e ws))

@@ -47,7 +47,9 @@ module _ (w : Parameters) (m : Machine) (x : Store) (mem : Memory) (closed : Lis
   costs-kept =
       let u = x .current .position .used in
       let j = journal-free (boundsIn w) (x .current .position) (tablesOf x mem) (mem .journal) (m .line) (u + spent (m .line)) (h .represents .journal) in
-      let f = ltb-false (n / 12 - u) (onward (length (m .line .steps)) (m .line)) (sym (journal-room (boundsIn w) (x .current .position) (tablesOf x mem) (mem .journal) (m .line) (h .represents .journal) (n / 12 - u) (length (m .line .steps)) (omega (arith, e, used-fits)))) in
+      let f = ltb-false (n / 12 - u) (onward (length (m .line .steps)) (m .line))
+      (sym (journal-room (boundsIn w) (x .current .position) (tablesOf x mem) (mem .journal) (m .line) (h .represents .journal) (n / 12 - u) (length (m .line .steps))
+      (omega (arith, e, used-fits)))) in
       omega (arith, j, f, used-fits, whole-costs (m .line .steps))
     where
       whole-costs : (ss : List Step) → costs (take (length ss) ss) ≡ costs ss
@@ -66,7 +68,9 @@ used-is w m x mem closed types h =
 own-near : (w : Parameters) (m : Machine) → costs (m .line .steps) ≤ w .changes → (c : Call) → outOfReach (w .changes) m c ≡ false
 own-near w m h c = go (c .kind == 20) (c .kind == 21) (c .kind == 57)
   where
-    go : (s t u : Bool) → (s ⇒ tooFar (w .changes) m (suc (m .line .place)) else t ⇒ tooFar (w .changes) m (placeOf m (c .a)) else u ⇒ tooFar (w .changes) m (placeOf m (holderOf (name (c .a) (c .b)) m)) else false) ≡ false
+    go : (s t u : Bool)
+        → (s ⇒ tooFar (w .changes) m (suc (m .line .place)) else t ⇒ tooFar (w .changes) m (placeOf m (c .a)) else u ⇒ tooFar (w .changes) m (placeOf m (holderOf (name (c .a) (c .b)) m))
+        else false) ≡ false
     go true t u = own-reach w m h (suc (m .line .place))
     go false true u = own-reach w m h (placeOf m (c .a))
     go false false true = own-reach w m h (placeOf m (holderOf (name (c .a) (c .b)) m))
@@ -91,7 +95,8 @@ last-within w m [] h = h
 last-within w m (x ∷ xs) h = last-within w (step w m x) xs (step-within w m x h)
 
 -- call k of them
-near-at : (w : Parameters) (m : Machine) (xs : List Call) (k : ℕ) (z : Call) → AllNear w m xs → k < length xs → outOfReach (w .changes) (last w m (take k xs)) (callOf (commandOf (getD xs k z))) ≡ false
+near-at : (w : Parameters) (m : Machine) (xs : List Call) (k : ℕ) (z : Call) → AllNear w m xs → k < length xs
+    → outOfReach (w .changes) (last w m (take k xs)) (callOf (commandOf (getD xs k z))) ≡ false
 unfolding last
 near-at w m [] k z h i = absurd (omega arith)
 near-at w m (x ∷ xs) zero z h i = h .0
@@ -123,7 +128,8 @@ command-is {words = words} h k at c i f e =
     e ∙ (λ j. commandOf (callAt (take (five j) (drop (f j) words)))) ∙ ap commandOf (sym (h .each k i))
 
 -- its command is within reach
-pub command-near : {width count : ℕ} {words : List ℕ} {xs : List Call} (w : Parameters) (m : Machine) (h : Reads width count words xs) (k at : ℕ) (c : Command) → AllNear w m xs → k < count → at ≡ k * width
+pub command-near : {width count : ℕ} {words : List ℕ} {xs : List Call} (w : Parameters) (m : Machine) (h : Reads width count words xs) (k at : ℕ) (c : Command) → AllNear w m xs → k < count
+    → at ≡ k * width
     → c ≡ commandOf (callAt (take (at + 5 - at) (drop at words))) → outOfReach (w .changes) (last w m (take k xs)) (callOf c) ≡ false
 command-near {xs = xs} w m h k at c near i f e =
     ap (λ (b : Command). outOfReach (w .changes) (last w m (take k xs)) (callOf b)) (command-is h k at c i f e) ∙ near-at w m xs k (callAt []) near (omega (arith, i, h .many))

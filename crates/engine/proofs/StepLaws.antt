@@ -50,7 +50,8 @@ setting-of w x mem mem′ closed types m s l h =
     }
 
 -- what is returned equals what was shown to answer
-pub answered-by : (w : Parameters) (n : ℕ) (m : Machine) (c : Command) (mem : Memory) (closed : List ℕ) (types : ℕ) {d d′ : Called} → d ≡ d′ → Answered w n m c d′ mem closed types → Answered w n m c d mem closed types
+pub answered-by : (w : Parameters) (n : ℕ) (m : Machine) (c : Command) (mem : Memory) (closed : List ℕ) (types : ℕ) {d d′ : Called} → d ≡ d′ → Answered w n m c d′ mem closed types
+    → Answered w n m c d mem closed types
 answered-by w n m c mem closed types e a = subst (λ (z : Called). Answered w n m c z mem closed types) (sym e) a
 
 module _ (w : Parameters) (m : Machine) (x : Store) (mem : Memory) (closed : List ℕ) (types : ℕ) (h : Running w x mem closed types m) where

@@ -14,7 +14,8 @@ use Rattle.lists.proofs.Places.{upd-agree, upd-same}
 use Rattle.graph.specs.declared.Reading.{Reading}
 use Rattle.graph.specs.declared.Reading.the-variants.{Untested, Silent, Heard}
 use Rattle.graph.specs.declared.Change.{Change}
-use Rattle.graph.specs.declared.Change.the-variants.{CreateVertex, DeleteVertex, CreateEdge, DeleteEdge, RetypeVertex, RetypeEdge, SetValue, SetReading, SetAlpha, SetOmega, VertexBefore, VertexAfter, EdgeBefore, EdgeAfter, WordBefore, WordAfter}
+use Rattle.graph.specs.declared.Change.the-variants.{CreateVertex, DeleteVertex, CreateEdge, DeleteEdge, RetypeVertex, RetypeEdge, SetValue, SetReading, SetAlpha, SetOmega}
+use Rattle.graph.specs.declared.Change.the-variants.{VertexBefore, VertexAfter, EdgeBefore, EdgeAfter, WordBefore, WordAfter}
 use Rattle.graph.specs.declared.Edit.{Edit}
 use Rattle.graph.specs.declared.Edit.the-variants.{InsertVertex, RemoveVertex, InsertEdge, RemoveEdge, SetVertex, SetEdge, MoveVertex, MoveEdge, MoveWord}
 use Rattle.graph.specs.Graph.{Vertex, Edge, Graph, vertexNumber, edgeNumber, itself, noVertex, noEdge, vertexIn, edgeIn, edgeOf, readingKind, decimetres}
@@ -172,7 +173,8 @@ module _ (g : Graph) (w : WellFormed g) where
       let a = and-true (v == u) (old == new) i in
       let p = eqb-true v u (a .0) in
       let q = eqb-true old new (a .1) in
-      ap₂ (λ (y z : ℕ). apply (MoveWord x v old y z) g) (sym p) (sym q) ∙ move-word x v old (subst (λ (y : ℕ). Applies (MoveWord x v old y old) g) (sym p) (subst (λ (z : ℕ). Applies (MoveWord x v old u z) g) (sym q) h))
+      ap₂ (λ (y z : ℕ). apply (MoveWord x v old y z) g) (sym p) (sym q)
+      ∙ move-word x v old (subst (λ (y : ℕ). Applies (MoveWord x v old y old) g) (sym p) (subst (λ (z : ℕ). Applies (MoveWord x v old u z) g) (sym q) h))
 
   -- ---- and an edit that keeps the graph has an old and a new that agree: its inverse applies to what it made
 
@@ -195,7 +197,8 @@ module _ (g : Graph) (w : WellFormed g) where
   keeps-idle (MoveWord x v old u new) h k =
       let c = kept-applies (MoveWord x v old u new) h k in
       let p : v ≡ u = sym (h .1) ∙ c .1 in
-      and-both (v == u) (old == new) (eq-eqb v u p) (eq-eqb old new (sym (h .3) ∙ ap (λ (y : ℕ). Rattle.lists.specs.Keyed.prevBy itself 0 x (Rattle.graph.specs.Graph.listIn (g .vseq) y)) p ∙ c .3))
+      and-both (v == u) (old == new) (eq-eqb v u p)
+      (eq-eqb old new (sym (h .3) ∙ ap (λ (y : ℕ). Rattle.lists.specs.Keyed.prevBy itself 0 x (Rattle.graph.specs.Graph.listIn (g .vseq) y)) p ∙ c .3))
 
   -- ---- a change that is one edit alters the graph exactly where the edit's old and new differ
 

@@ -15,7 +15,8 @@ use Rattle.lists.proofs.Sums.{all-imp, all-bool, bool-all, distinct-count, coun
 use Rattle.lists.proofs.Counts.{count-same, count-by}
 use Rattle.lists.proofs.KeyedAll.{all-find, find-all}
 use Rattle.lists.proofs.KeyedLaws.{find-none}
-use Rattle.graph.specs.Graph.{Vertex, Edge, Graph, vertexNumber, edgeNumber, itself, noVertex, noEdge, vertexIn, edgeIn, listIn, thisIn, outWord, inWord, hasVertex, vertexNumbers, edgeNumbers, readingKind, decimetres, isReading}
+use Rattle.graph.specs.Graph.{Vertex, Edge, Graph, vertexNumber, edgeNumber, itself, noVertex, noEdge, vertexIn, edgeIn, listIn, thisIn, outWord, inWord, hasVertex, vertexNumbers}
+use Rattle.graph.specs.Graph.{edgeNumbers, readingKind, decimetres, isReading}
 use Rattle.graph.specs.WellFormed.{Bounds, wordsAt, sameWords, soundVertex, soundEdge, wellFormed, Ordered, WellFormed, VertexIn, EdgeIn, Within}
 use Rattle.graph.proofs.Orders.{key-find}
 use Rattle.graph.proofs.Numbers.{vertex-count, count-vertex, vertex-real, edge-real}
@@ -60,7 +61,8 @@ module _ (b : Bounds) (g : Graph) where
 
   edge-facts : (e : Edge) → soundEdge b g e ≡ true → EdgeSound b g e
   edge-facts e h =
-      let a1 = and-true (within 1 (b .edges) (e .number) && hasVertex g (e .alpha) && hasVertex g (e .omega) && ltb (e .type) (b .types)) (isReading (readingKind (e .reading)) (decimetres (e .reading))) h in
+      let a1 = and-true (within 1 (b .edges) (e .number) && hasVertex g (e .alpha) && hasVertex g (e .omega) && ltb (e .type) (b .types))
+      (isReading (readingKind (e .reading)) (decimetres (e .reading))) h in
       let a2 = and-true (within 1 (b .edges) (e .number) && hasVertex g (e .alpha) && hasVertex g (e .omega)) (ltb (e .type) (b .types)) (a1 .0) in
       let a3 = and-true (within 1 (b .edges) (e .number) && hasVertex g (e .alpha)) (hasVertex g (e .omega)) (a2 .0) in
       let a4 = and-true (within 1 (b .edges) (e .number)) (hasVertex g (e .alpha)) (a3 .0) in

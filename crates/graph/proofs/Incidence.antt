@@ -32,7 +32,8 @@ count-detach l v w u k c = ap (countBy itself k) (list-upd l v u (removeBy itsel
   | differ e f ↦ simp pick-no (omega arith)
 ]
 
-pub list-back : (l : List Vertex) (v : ℕ) (h k : List ℕ → List ℕ) → Ordered vertexNumber l → k (h (listIn l v)) ≡ listIn l v → updateBy vertexNumber v (onList k) (updateBy vertexNumber v (onList h) l) ≡ l
+pub list-back : (l : List Vertex) (v : ℕ) (h k : List ℕ → List ℕ) → Ordered vertexNumber l → k (h (listIn l v)) ≡ listIn l v
+    → updateBy vertexNumber v (onList k) (updateBy vertexNumber v (onList h) l) ≡ l
 list-back l v h k d e = upd-back vertexNumber (onList h) (λ y. refl) noVertex v (onList k) l (λ n. omega (arith, d n))
     (λ i. record { number = (vertexIn l v) .number; type = (vertexIn l v) .type; value = (vertexIn l v) .value; incidences = e i })
 
@@ -76,7 +77,8 @@ this-out l n = pick-yes (outWord n % 2) 0 _ _ (omega arith) ∙ ap (λ (k : ℕ)
 pub this-into : (l : List Edge) (n : ℕ) → thisIn l (inWord n) ≡ (edgeIn l n) .omega
 this-into l n = pick-no (inWord n % 2) 0 _ _ (omega arith) ∙ ap (λ (k : ℕ). (edgeIn l k) .omega) (into-half n)
 
-pub attach-prev : (l : List Vertex) (v p w : ℕ) → countBy vertexNumber v l ≡ 1 → countBy itself w (listIn l v) ≡ 0 → 1 ≤ indicator 0 p + countBy itself p (listIn l v) → prevBy itself 0 w (listIn (attach l v p w) v) ≡ p
+pub attach-prev : (l : List Vertex) (v p w : ℕ) → countBy vertexNumber v l ≡ 1 → countBy itself w (listIn l v) ≡ 0 → 1 ≤ indicator 0 p + countBy itself p (listIn l v)
+    → prevBy itself 0 w (listIn (attach l v p w) v) ≡ p
 attach-prev l v p w c h i = ap (prevBy itself 0 w) (list-upd l v v (insertAfterBy itself 0 p w) c) ∙ rw pick-self (prev-ins itself 0 p w (listIn l v) h i)
 
 pub detach-prev : (l : List Vertex) (v p w : ℕ) → countBy vertexNumber v l ≡ 1 → Placed itself (listIn l v) w p → 1 ≤ indicator 0 p + countBy itself p (listIn (detach l v w) v)

@@ -17,7 +17,8 @@ use Rattle.graph.specs.WellFormed.{WellFormed}
 use Rattle.graph.specs.Changes.{onList, withVertex, withEdge, withSeen, detach}
 use Rattle.graph.specs.Edits.{attach, apply, Applies}
 use Rattle.graph.proofs.Orders.{ordered-ins, ordered-rem, find-kept, find-move, count-move, ordered-upd}
-use Rattle.graph.proofs.Incidence.{count-attach, count-detach, count-attach-other, count-detach-other, apart, apart′, out-half, into-half, this-out, this-into, this-set, this-other, count-list, list-ins, list-rem, Word, out-word, in-word, other-word, word?}
+use Rattle.graph.proofs.Incidence.{count-attach, count-detach, count-attach-other, count-detach-other, apart, apart′, out-half, into-half, this-out, this-into, this-set, this-other}
+use Rattle.graph.proofs.Incidence.{count-list, list-ins, list-rem, Word, out-word, in-word, other-word, word?}
 use Rattle.graph.proofs.Lists.{held, ends-at, gone, free-out, free-into, out-at, into-at, a-there, z-there}
 
 module _ (n a z t : ℕ) (r : Reading) (p o i : ℕ) (g : Graph) (h : Applies (InsertEdge n a z t r p o i) g) (w : WellFormed g) where
@@ -33,8 +34,10 @@ module _ (n a z t : ℕ) (r : Reading) (p o i : ℕ) (g : Graph) (h : Applies (I
   new-other : (k : ℕ) → n ≢ k / 2 → thisIn (insertAfterBy edgeNumber 0 p new (g .eseq)) k ≡ thisIn (g .eseq) k
   new-other k d = ap (λ (x : Edge). ifEqual (k % 2) 0 (x .alpha) (x .omega)) (find-ins-other edgeNumber noEdge 0 p (k / 2) new (g .eseq) d)
 
-  insert-lists : (u k : ℕ) → Word n k → countBy itself k (listIn (attach (attach (g .vseq) a o (outWord n)) z i (inWord n)) u) ≡ ifEqual (thisIn (insertAfterBy edgeNumber 0 p new (g .eseq)) k) u (countBy edgeNumber (k / 2) (insertAfterBy edgeNumber 0 p new (g .eseq))) 0
-  insert-lists u k (out-word e) = rw e (count-attach-other (attach (g .vseq) a o (outWord n)) z i (inWord n) u (outWord n) (count-list (g .vseq) a z (insertAfterBy itself 0 o (outWord n)) ∙ h .2) (apart′ n)
+  insert-lists : (u k : ℕ) → Word n k → countBy itself k (listIn (attach (attach (g .vseq) a o (outWord n)) z i (inWord n)) u)
+      ≡ ifEqual (thisIn (insertAfterBy edgeNumber 0 p new (g .eseq)) k) u (countBy edgeNumber (k / 2) (insertAfterBy edgeNumber 0 p new (g .eseq))) 0
+  insert-lists u k (out-word e) =
+      rw e (count-attach-other (attach (g .vseq) a o (outWord n)) z i (inWord n) u (outWord n) (count-list (g .vseq) a z (insertAfterBy itself 0 o (outWord n)) ∙ h .2) (apart′ n)
       ∙ count-attach (g .vseq) a o (outWord n) u (outWord n) (h .1)
       ∙ rw (new-out, out-half, count-ins edgeNumber n 0 p new (g .eseq), h .0 .fresh, free-out g w n u (h .0 .fresh), is-yes (outWord n) (outWord n) refl, is-yes n n refl) (omega arith))
   insert-lists u k (in-word e) = rw e (count-attach (attach (g .vseq) a o (outWord n)) z i (inWord n) u (inWord n) (count-list (g .vseq) a z (insertAfterBy itself 0 o (outWord n)) ∙ h .2)
@@ -43,7 +46,8 @@ module _ (n a z t : ℕ) (r : Reading) (p o i : ℕ) (g : Graph) (h : Applies (I
       ∙ count-attach-other (g .vseq) a o (outWord n) u k (h .1) e ∙ w .lists u k
       ∙ rw (new-other k d, count-ins edgeNumber (k / 2) 0 p new (g .eseq), is-no n (k / 2) d, zero-add)
 
-  insert-ends : (k : ℕ) → Word n k → countBy edgeNumber (k / 2) (insertAfterBy edgeNumber 0 p new (g .eseq)) ≡ 1 → countBy vertexNumber (thisIn (insertAfterBy edgeNumber 0 p new (g .eseq)) k) (g .vseq) ≡ 1
+  insert-ends : (k : ℕ) → Word n k → countBy edgeNumber (k / 2) (insertAfterBy edgeNumber 0 p new (g .eseq)) ≡ 1
+      → countBy vertexNumber (thisIn (insertAfterBy edgeNumber 0 p new (g .eseq)) k) (g .vseq) ≡ 1
   insert-ends k (out-word e) j = rw (e, new-out) (h .1)
   insert-ends k (in-word e) j = rw (e, new-into) (h .2)
   insert-ends k (other-word d e f) j = rw (new-other k d) (w .ends k (omega (arith, j, count-ins edgeNumber (k / 2) 0 p new (g .eseq), is-no n (k / 2) d)))
@@ -61,12 +65,32 @@ module _ (n a z t : ℕ) (r : Reading) (p o i : ℕ) (g : Graph) (h : Applies (R
   ca′ : countBy vertexNumber a (detach (g .vseq) z (inWord n)) ≡ 1
   ca′ = count-list (g .vseq) z a (removeBy itself (inWord n)) ∙ ca
 
-  remove-lists : (u k : ℕ) → Word n k → countBy itself k (listIn (detach (detach (g .vseq) z (inWord n)) a (outWord n)) u) ≡ ifEqual (thisIn (removeBy edgeNumber n (g .eseq)) k) u (countBy edgeNumber (k / 2) (removeBy edgeNumber n (g .eseq))) 0
+  remove-lists : (u k : ℕ) → Word n k → countBy itself k (listIn (detach (detach (g .vseq) z (inWord n)) a (outWord n)) u) ≡ ifEqual (thisIn (removeBy edgeNumber n (g .eseq)) k) u
+      (countBy edgeNumber (k / 2) (removeBy edgeNumber n (g .eseq))) 0
   remove-lists u k (out-word e) = rw e (count-detach (detach (g .vseq) z (inWord n)) a (outWord n) u (outWord n) ca′
-      ∙ rw (count-detach-other (g .vseq) z (inWord n) u (outWord n) cz (apart′ n), w .lists u (outWord n), out-at g w n a z t r (h .0 .there) (h .1), is-yes (outWord n) (outWord n) refl, out-half, count-rem edgeNumber n n (g .eseq), h .0 .there, is-yes n n refl, pick-both) (omega arith))
+      ∙ rw (
+        count-detach-other (g .vseq) z (inWord n) u (outWord n) cz (apart′ n),
+        w .lists u (outWord n),
+        out-at g w n a z t r (h .0 .there) (h .1),
+        is-yes (outWord n) (outWord n) refl,
+        out-half,
+        count-rem edgeNumber n n (g .eseq),
+        h .0 .there,
+        is-yes n n refl,
+        pick-both,
+      ) (omega arith))
   remove-lists u k (in-word e) = rw e (count-detach-other (detach (g .vseq) z (inWord n)) a (outWord n) u (inWord n) ca′ (apart n)
       ∙ count-detach (g .vseq) z (inWord n) u (inWord n) cz
-      ∙ rw (w .lists u (inWord n), into-at g w n a z t r (h .0 .there) (h .1), is-yes (inWord n) (inWord n) refl, into-half, count-rem edgeNumber n n (g .eseq), h .0 .there, is-yes n n refl, pick-both) (omega arith))
+      ∙ rw (
+        w .lists u (inWord n),
+        into-at g w n a z t r (h .0 .there) (h .1),
+        is-yes (inWord n) (inWord n) refl,
+        into-half,
+        count-rem edgeNumber n n (g .eseq),
+        h .0 .there,
+        is-yes n n refl,
+        pick-both,
+      ) (omega arith))
   remove-lists u k (other-word d e f) = count-detach-other (detach (g .vseq) z (inWord n)) a (outWord n) u k ca′ e ∙ count-detach-other (g .vseq) z (inWord n) u k cz f ∙ w .lists u k
       ∙ rw (old-other k d, count-rem edgeNumber (k / 2) n (g .eseq), is-no n (k / 2) d, sub-zero)
 
@@ -79,9 +103,13 @@ module _ (x v old u new : ℕ) (g : Graph) (h : Applies (MoveWord x v old u new)
   move-this : (k : ℕ) → x ≢ k → thisIn (updateBy edgeNumber (x / 2) (withSeen x u) (g .eseq)) k ≡ thisIn (g .eseq) k
   move-this k d = this-other (g .eseq) x u k (h .0) d
 
-  move-lists : (s k : ℕ) → Same x k → countBy itself k (listIn (attach (detach (g .vseq) v x) u new x) s) ≡ ifEqual (thisIn (updateBy edgeNumber (x / 2) (withSeen x u) (g .eseq)) k) s (countBy edgeNumber (k / 2) (updateBy edgeNumber (x / 2) (withSeen x u) (g .eseq))) 0
-  move-lists s k (same e f) = rw f (count-attach (detach (g .vseq) v x) u new x s x (count-list (g .vseq) v u (removeBy itself x) ∙ h .2) ∙ rw (gone g w x v s (h .0) (h .1), this-set (g .eseq) x u (h .0), count-upd edgeNumber (withSeen x u) (λ y. refl) (x / 2) (x / 2) (g .eseq), h .0, is-yes x x refl) (omega arith))
-  move-lists s k (differ e f) = count-attach-other (detach (g .vseq) v x) u new x s k (count-list (g .vseq) v u (removeBy itself x) ∙ h .2) e ∙ count-detach-other (g .vseq) v x s k (ends-at g w x v (h .0) (h .1)) e ∙ rw (move-this k e, count-upd edgeNumber (withSeen x u) (λ y. refl) (k / 2) (x / 2) (g .eseq)) (w .lists s k)
+  move-lists : (s k : ℕ) → Same x k → countBy itself k (listIn (attach (detach (g .vseq) v x) u new x) s) ≡ ifEqual (thisIn (updateBy edgeNumber (x / 2) (withSeen x u) (g .eseq)) k) s
+      (countBy edgeNumber (k / 2) (updateBy edgeNumber (x / 2) (withSeen x u) (g .eseq))) 0
+  move-lists s k (same e f) =
+      rw f (count-attach (detach (g .vseq) v x) u new x s x (count-list (g .vseq) v u (removeBy itself x) ∙ h .2)
+      ∙ rw (gone g w x v s (h .0) (h .1), this-set (g .eseq) x u (h .0), count-upd edgeNumber (withSeen x u) (λ y. refl) (x / 2) (x / 2) (g .eseq), h .0, is-yes x x refl) (omega arith))
+  move-lists s k (differ e f) = count-attach-other (detach (g .vseq) v x) u new x s k (count-list (g .vseq) v u (removeBy itself x) ∙ h .2) e ∙ count-detach-other (g .vseq) v x s k
+      (ends-at g w x v (h .0) (h .1)) e ∙ rw (move-this k e, count-upd edgeNumber (withSeen x u) (λ y. refl) (k / 2) (x / 2) (g .eseq)) (w .lists s k)
 
   move-ends : (k : ℕ) → Same x k → countBy edgeNumber (k / 2) (g .eseq) ≡ 1 → countBy vertexNumber (thisIn (updateBy edgeNumber (x / 2) (withSeen x u) (g .eseq)) k) (g .vseq) ≡ 1
   move-ends k (same e f) i = rw (f, this-set (g .eseq) x u (h .0)) (h .2)
@@ -94,7 +122,12 @@ keeps-formed (InsertVertex n t v p) g h w =
       vorder = ordered-ins vertexNumber g.vseq x p (w .vorder) h;
       eorder = w .eorder;
       lists = λ u k. rw (list-ins g.vseq n t v p u (h .fresh)) (w .lists u k);
-      ends = λ k i. omega (arith, count-ins vertexNumber (thisIn g.eseq k) 0 p x g.vseq, w .ends k i, is-no n (thisIn g.eseq k) (λ e. omega (arith, h .fresh, w .ends k i, ap (λ (m : ℕ). countBy vertexNumber m g.vseq) e)));
+      ends = λ k i. omega (
+        arith,
+        count-ins vertexNumber (thisIn g.eseq k) 0 p x g.vseq,
+        w .ends k i,
+        is-no n (thisIn g.eseq k) (λ e. omega (arith, h .fresh, w .ends k i, ap (λ (m : ℕ). countBy vertexNumber m g.vseq) e)),
+      );
     }
 keeps-formed (RemoveVertex n t v p) g h w =
     let z = ap (λ (x : Vertex). x .incidences) (h .1) in
@@ -105,13 +138,16 @@ keeps-formed (RemoveVertex n t v p) g h w =
       ends = λ k i. omega (arith, count-rem vertexNumber (thisIn g.eseq k) n g.vseq, w .ends k i, is-no n (thisIn g.eseq k) (λ e. omega (arith, rw z at (held g w k n i (sym e)))));
     }
 keeps-formed (InsertEdge n a z t r p o i) g h w = record {
-  vorder = ordered-upd vertexNumber (onList (insertAfterBy itself 0 i (inWord n))) (attach g.vseq a o (outWord n)) z (λ y. refl) (ordered-upd vertexNumber (onList (insertAfterBy itself 0 o (outWord n))) g.vseq a (λ y. refl) (w .vorder));
+  vorder = ordered-upd vertexNumber (onList (insertAfterBy itself 0 i (inWord n))) (attach g.vseq a o (outWord n)) z (λ y. refl)
+      (ordered-upd vertexNumber (onList (insertAfterBy itself 0 o (outWord n))) g.vseq a (λ y. refl) (w .vorder));
   eorder = ordered-ins edgeNumber g.eseq (record { number = n; alpha = a; omega = z; type = t; reading = r }) p (w .eorder) (h .0);
   lists = λ u k. insert-lists n a z t r p o i g h w u k (word? n k);
-  ends = λ k j. count-list (attach g.vseq a o (outWord n)) z _ (insertAfterBy itself 0 i (inWord n)) ∙ count-list g.vseq a _ (insertAfterBy itself 0 o (outWord n)) ∙ insert-ends n a z t r p o i g h w k (word? n k) j;
+  ends = λ k j. count-list (attach g.vseq a o (outWord n)) z _ (insertAfterBy itself 0 i (inWord n)) ∙ count-list g.vseq a _ (insertAfterBy itself 0 o (outWord n))
+      ∙ insert-ends n a z t r p o i g h w k (word? n k) j;
 }
 keeps-formed (RemoveEdge n a z t r p o i) g h w = record {
-  vorder = ordered-upd vertexNumber (onList (removeBy itself (outWord n))) (detach g.vseq z (inWord n)) a (λ y. refl) (ordered-upd vertexNumber (onList (removeBy itself (inWord n))) g.vseq z (λ y. refl) (w .vorder));
+  vorder = ordered-upd vertexNumber (onList (removeBy itself (outWord n))) (detach g.vseq z (inWord n)) a (λ y. refl)
+      (ordered-upd vertexNumber (onList (removeBy itself (inWord n))) g.vseq z (λ y. refl) (w .vorder));
   eorder = ordered-rem edgeNumber g.eseq n (w .eorder);
   lists = λ u k. remove-lists n a z t r p o i g h w u k (word? n k);
   ends = λ k j. count-list (detach g.vseq z (inWord n)) a _ (removeBy itself (outWord n)) ∙ count-list g.vseq z _ (removeBy itself (inWord n)) ∙ remove-ends n a z t r p o i g h w k (word? n k) j;
@@ -124,7 +160,8 @@ keeps-formed (SetVertex n t v t′ v′) g h w = record {
 }
 keeps-formed (SetEdge n t r t′ r′) g h w =
     let c : (k : ℕ) → countBy edgeNumber k (updateBy edgeNumber n (withEdge t′ r′) g.eseq) ≡ countBy edgeNumber k g.eseq = λ k. count-upd edgeNumber (withEdge t′ r′) (λ y. refl) k n g.eseq in
-    let s : (k : ℕ) → thisIn (updateBy edgeNumber n (withEdge t′ r′) g.eseq) k ≡ thisIn g.eseq k = λ k. find-kept edgeNumber noEdge (λ (x : Edge). ifEqual (k % 2) 0 (x .alpha) (x .omega)) (withEdge t′ r′) (k / 2) n g.eseq (λ y. refl) (λ y. refl) in
+    let s : (k : ℕ) → thisIn (updateBy edgeNumber n (withEdge t′ r′) g.eseq) k ≡ thisIn g.eseq k =
+    λ k. find-kept edgeNumber noEdge (λ (x : Edge). ifEqual (k % 2) 0 (x .alpha) (x .omega)) (withEdge t′ r′) (k / 2) n g.eseq (λ y. refl) (λ y. refl) in
     record {
       vorder = w .vorder;
       eorder = ordered-upd edgeNumber (withEdge t′ r′) g.eseq n (λ y. refl) (w .eorder);
@@ -132,7 +169,8 @@ keeps-formed (SetEdge n t r t′ r′) g h w =
       ends = λ k j. rw (s k) (w .ends k (sym (c (k / 2)) ∙ j));
     }
 keeps-formed (MoveVertex n old new) g h w =
-    let c : (k : ℕ) → countBy vertexNumber k (insertAfterBy vertexNumber 0 new (vertexIn g.vseq n) (removeBy vertexNumber n g.vseq)) ≡ countBy vertexNumber k g.vseq = λ k. count-move vertexNumber noVertex k n new g.vseq (h .0 .there) in
+    let c : (k : ℕ) → countBy vertexNumber k (insertAfterBy vertexNumber 0 new (vertexIn g.vseq n) (removeBy vertexNumber n g.vseq)) ≡ countBy vertexNumber k g.vseq =
+    λ k. count-move vertexNumber noVertex k n new g.vseq (h .0 .there) in
     record {
       vorder = λ k. omega (arith, c k, w .vorder k);
       eorder = w .eorder;
@@ -152,7 +190,8 @@ keeps-formed (MoveEdge n old new) g h w =
 keeps-formed (MoveWord x v old u new) g h w =
     let c : (k : ℕ) → countBy edgeNumber k (updateBy edgeNumber (x / 2) (withSeen x u) g.eseq) ≡ countBy edgeNumber k g.eseq = λ k. count-upd edgeNumber (withSeen x u) (λ y. refl) k (x / 2) g.eseq in
     record {
-      vorder = ordered-upd vertexNumber (onList (insertAfterBy itself 0 new x)) (detach g.vseq v x) u (λ y. refl) (ordered-upd vertexNumber (onList (removeBy itself x)) g.vseq v (λ y. refl) (w .vorder));
+      vorder = ordered-upd vertexNumber (onList (insertAfterBy itself 0 new x)) (detach g.vseq v x) u (λ y. refl)
+          (ordered-upd vertexNumber (onList (removeBy itself x)) g.vseq v (λ y. refl) (w .vorder));
       eorder = λ k. omega (arith, c k, w .eorder k);
       lists = λ s k. move-lists x v old u new g h w s k (same? x k);
       ends = λ k j. count-list (detach g.vseq v x) u _ (insertAfterBy itself 0 new x) ∙ count-list g.vseq v _ (removeBy itself x) ∙ move-ends x v old u new g h w k (same? x k) (sym (c (k / 2)) ∙ j);

@@ -25,7 +25,8 @@ pub attach-last : (l : List Vertex) (v w : ℕ) → Ordered vertexNumber l → O
 attach-last l v w d e = upd-agree vertexNumber noVertex v (onList (insertAfterBy itself 0 (lastBy itself 0 (listIn l v)) w)) (onList (λ ws. ws ++ (w ∷ []))) l (λ n. omega (arith, d n))
     (λ i. record { number = (vertexIn l v) .number; type = (vertexIn l v) .type; value = (vertexIn l v) .value; incidences = ins-last itself 0 w (listIn l v) e i })
 
-pub ordered-attach : (l : List Vertex) (v p w u : ℕ) → countBy vertexNumber v l ≡ 1 → 1 ≤ w → countBy itself w (listIn l u) ≡ 0 → Ordered itself (listIn l u) → Ordered itself (listIn (attach l v p w) u)
+pub ordered-attach : (l : List Vertex) (v p w u : ℕ) → countBy vertexNumber v l ≡ 1 → 1 ≤ w → countBy itself w (listIn l u) ≡ 0 → Ordered itself (listIn l u)
+    → Ordered itself (listIn (attach l v p w) u)
 ordered-attach l v p w u c r z d k = elim (same? w k) [
   | same e f ↦ omega (arith, count-attach l v p w u k c, pick-le v u (indicator w k), is-yes w k e, is-no 0 k (omega arith), ap (λ (m : ℕ). countBy itself m (listIn l u)) e)
   | differ e f ↦ omega (arith, count-attach-other l v p w u k c e, d k)
@@ -81,7 +82,8 @@ module _ (g : Graph) (w : WellFormed g) (x y : ℕ) (h : EdgeThere g (edgeOf x))
 
   -- the ends stay
   ends-same : updateBy edgeNumber (edgeOf x) (withSeen x (this g x)) (g .eseq) ≡ g .eseq
-  ends-same = upd-agree edgeNumber noEdge (edgeOf x) (withSeen x (this g x)) (λ (e : Edge). e) (g .eseq) (λ k. omega (arith, w .eorder k)) (end-same x (edge g (edgeOf x))) ∙ upd-same edgeNumber (edgeOf x) (g .eseq)
+  ends-same = upd-agree edgeNumber noEdge (edgeOf x) (withSeen x (this g x)) (λ (e : Edge). e) (g .eseq) (λ k. omega (arith, w .eorder k)) (end-same x (edge g (edgeOf x)))
+      ∙ upd-same edgeNumber (edgeOf x) (g .eseq)
 
   -- out and in again is one update of the list
   one-update : (p : ℕ) (f : List ℕ → List ℕ) → insertAfterBy itself 0 p x (removeBy itself x (listOf g (this g x))) ≡ f (listOf g (this g x))

@@ -48,7 +48,8 @@ module _ {A : Type 0} (key : A → ℕ) where
   pub find-at : (d : A) (k q p : ℕ) (x : A) (l : List A) → key x ≡ k → countBy key k l ≡ 0 → findBy key d k (insertAfterBy key q p x l) ≡ x
   find-at d k q p x l e h = rw (← e) (find-ins key d q p x l (rw e h))
 
-  pub move-back : (d : A) (l : List A) (n p q : ℕ) → Ordered key l → Placed key l n p → let m = insertAfterBy key 0 q (findBy key d n l) (removeBy key n l) in insertAfterBy key 0 p (findBy key d n m) (removeBy key n m) ≡ l
+  pub move-back : (d : A) (l : List A) (n p q : ℕ) → Ordered key l → Placed key l n p → let m =
+      insertAfterBy key 0 q (findBy key d n l) (removeBy key n l) in insertAfterBy key 0 p (findBy key d n m) (removeBy key n m) ≡ l
   move-back d l n p q u h =
       let e = key-find d n l (omega (arith, h .there)) in
       let z = placed-fits l n p u h .fresh in
@@ -71,7 +72,8 @@ module _ {A : Type 0} (key : A → ℕ) where
 
 module _ {A : Type 0} (key : A → ℕ) (d : A) where
   -- a projection that the update keeps
-  pub find-kept : {B : Type 0} (b : A → B) (f : A → A) (k n : ℕ) (l : List A) → ((y : A) → key (f y) ≡ key y) → ((y : A) → b (f y) ≡ b y) → b (findBy key d k (updateBy key n f l)) ≡ b (findBy key d k l)
+  pub find-kept : {B : Type 0} (b : A → B) (f : A → A) (k n : ℕ) (l : List A) → ((y : A) → key (f y) ≡ key y) → ((y : A) → b (f y) ≡ b y) → b (findBy key d k (updateBy key n f l))
+      ≡ b (findBy key d k l)
   find-kept b f k n [] e c = refl
   find-kept b f k n (y ∷ l) e c = rw (key-upd key f e n y) (elim (same? (key y) k) [
     | same i j ↦ simp pick-yes (elim (same? (key y) n) [ same s t ↦ rw (pick-yes (key y) n) (c y) | differ s t ↦ rw (pick-no (key y) n) ])
@@ -86,6 +88,14 @@ module _ {A : Type 0} (key : A → ℕ) (d : A) where
 
   pub count-move : (k n q : ℕ) (l : List A) → countBy key n l ≡ 1 → countBy key k (insertAfterBy key 0 q (findBy key d n l) (removeBy key n l)) ≡ countBy key k l
   count-move k n q l h = elim (same? n k) [
-    | same e f ↦ omega (arith, count-ins key k 0 q (findBy key d n l) (removeBy key n l), count-rem key k n l, is-yes n k e, ap (λ (z : ℕ). countBy key z l) e, ap (λ (z : ℕ). indicator z k) (key-find key d n l (omega arith)))
+    | same e f ↦
+        omega (
+          arith,
+          count-ins key k 0 q (findBy key d n l) (removeBy key n l),
+          count-rem key k n l,
+          is-yes n k e,
+          ap (λ (z : ℕ). countBy key z l) e,
+          ap (λ (z : ℕ). indicator z k) (key-find key d n l (omega arith)),
+        )
     | differ e f ↦ omega (arith, count-ins key k 0 q (findBy key d n l) (removeBy key n l), count-rem key k n l, is-no n k e, ap (λ (z : ℕ). indicator z k) (key-find key d n l (omega arith)))
   ]

@@ -28,7 +28,8 @@ use Rattle.graph.specs.declared.Change.the-variants.{
 }
 use Rattle.graph.specs.Graph.{Vertex, Graph, vertexNumber, edgeNumber, itself, noVertex, noEdge, vertex, edge, listIn, listOf, this, outWord, inWord, edgeOf, readingOf}
 use Rattle.graph.specs.WellFormed.{Bounds, Ordered, WellFormed}
-use Rattle.graph.specs.Changes.{withVertex, onList, withEdge, append, detach, onVseq, edgesAt, changed, deleteEdges, createVertex, deleteVertex, createEdge, retypeVertex, retypeEdge, setValue, setReading, reattach, vertexBefore, vertexAfter, edgeBefore, edgeAfter, VertexThere, EdgeThere, Allowed}
+use Rattle.graph.specs.Changes.{withVertex, onList, withEdge, append, detach, onVseq, edgesAt, changed, deleteEdges, createVertex, deleteVertex, createEdge, retypeVertex, retypeEdge}
+use Rattle.graph.specs.Changes.{setValue, setReading, reattach, vertexBefore, vertexAfter, edgeBefore, edgeAfter, VertexThere, EdgeThere, Allowed}
 use Rattle.graph.specs.Edits.{attach, apply, Applies}
 use Rattle.graph.specs.Plans.{vertexRemoval, wordMove, listWithout, moveLast, plan, removals, firstEdits}
 use Rattle.graph.proofs.Orders.{ordered-upd}
@@ -104,10 +105,14 @@ module _ (b : Bounds) (g : Graph) (w : WellFormed g) where
       (ap (λ (l : List Vertex). attach l o (lastBy itself 0 (listIn (append (g .vseq) a (outWord n)) o)) (inWord n)) (out-last g w n a) ∙ in-last g w n a o (h .0) (h .2) (h .3))
       (ins-last edgeNumber 0 (record { number = n; alpha = a; omega = o; type = t; reading = Untested }) (g .eseq) (w .eorder))
   plan-is (DeleteEdge a) h e = removal-is g a
-  plan-is (RetypeVertex a t) h e = graph-path _ _ (upd-agree vertexNumber noVertex a (withVertex t (vertex g a .value)) (λ v. withVertex t (v .value) v) (g .vseq) (λ k. omega (arith, w .vorder k)) refl) refl
+  plan-is (RetypeVertex a t) h e =
+      graph-path _ _ (upd-agree vertexNumber noVertex a (withVertex t (vertex g a .value)) (λ v. withVertex t (v .value) v) (g .vseq) (λ k. omega (arith, w .vorder k)) refl) refl
   plan-is (RetypeEdge a t) h e = graph-path _ _ refl (upd-agree edgeNumber noEdge a (withEdge t (edge g a .reading)) (λ x. withEdge t (x .reading) x) (g .eseq) (λ k. omega (arith, w .eorder k)) refl)
-  plan-is (SetValue a x) h e = graph-path _ _ (upd-agree vertexNumber noVertex a (withVertex (vertex g a .type) x) (λ v. withVertex (v .type) x v) (g .vseq) (λ k. omega (arith, w .vorder k)) refl) refl
-  plan-is (SetReading a k d) h e = graph-path _ _ refl (upd-agree edgeNumber noEdge a (withEdge (edge g a .type) (readingOf k d)) (λ x. withEdge (x .type) (readingOf k d) x) (g .eseq) (λ k. omega (arith, w .eorder k)) refl)
+  plan-is (SetValue a x) h e =
+      graph-path _ _ (upd-agree vertexNumber noVertex a (withVertex (vertex g a .type) x) (λ v. withVertex (v .type) x v) (g .vseq) (λ k. omega (arith, w .vorder k)) refl) refl
+  plan-is (SetReading a k d) h e =
+      graph-path _ _ refl (upd-agree edgeNumber noEdge a (withEdge (edge g a .type) (readingOf k d)) (λ x. withEdge (x .type) (readingOf k d) x) (g .eseq)
+      (λ k. omega (arith, w .eorder k)) refl)
   plan-is (SetAlpha n v) h e = move-last-is g w (outWord n) v (rw out-half (h .0))
   plan-is (SetOmega n v) h e = move-last-is g w (inWord n) v (rw into-half (h .0))
   plan-is (VertexBefore x y) h e = graph-path _ _ (before-is vertexNumber (g .vseq) x y (w .vorder) (h .1) (h .2) (vertex g x)) refl

@@ -35,7 +35,8 @@ pub undoes : (e : Edit) (g : Graph) → Applies e g → WellFormed g → apply (
 undoes (InsertVertex n t v p) g h w = graph-path _ _ (rem-ins vertexNumber 0 p (record { number = n; type = t; value = v; incidences = [] }) g.vseq (h .fresh)) refl
 undoes (RemoveVertex n t v p) g h w = graph-path _ _ (rw (← h .1) (placed-back vertexNumber noVertex g.vseq n p (w .vorder) (h .0))) refl
 undoes (InsertEdge n a z t r p o i) g h w = graph-path _ _
-    (rw (attach-back (attach g.vseq a o (outWord n)) z i (inWord n) (ordered-upd vertexNumber (onList (insertAfterBy itself 0 o (outWord n))) g.vseq a (λ y. refl) (w .vorder)) (free-into g w n a o z (h .0 .fresh) (h .1)))
+    (rw (attach-back (attach g.vseq a o (outWord n)) z i (inWord n) (ordered-upd vertexNumber (onList (insertAfterBy itself 0 o (outWord n))) g.vseq a (λ y. refl) (w .vorder))
+    (free-into g w n a o z (h .0 .fresh) (h .1)))
     (attach-back g.vseq a o (outWord n) (w .vorder) (free-out g w n a (h .0 .fresh))))
     (rem-ins edgeNumber 0 p (record { number = n; alpha = a; omega = z; type = t; reading = r }) g.eseq (h .0 .fresh))
 undoes (RemoveEdge n a z t r p o i) g h w = graph-path _ _

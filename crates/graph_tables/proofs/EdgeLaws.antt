@@ -53,7 +53,8 @@ module _ (n live t : ℕ) (r : Reading) (edges : List ℕ) where
             ∙ getD-set-other t₁ (edgePlace 4 n) (edgePlace 3 n) t 0 (λ z. omega arith) ∙ getD-set-same edges (edgePlace 3 n) live 0 (omega arith);
         type = getD-set-other t₃ (edgePlace 9 n) (edgePlace 4 n) (decimetres r) 0 (λ z. omega arith) ∙ getD-set-other t₂ (edgePlace 5 n) (edgePlace 4 n) (readingKind r) 0 (λ z. omega arith)
             ∙ getD-set-same t₁ (edgePlace 4 n) t 0 (simp length-set (omega arith)) ∙ sym p;
-        kind = getD-set-other t₃ (edgePlace 9 n) (edgePlace 5 n) (decimetres r) 0 (λ z. omega arith) ∙ getD-set-same t₂ (edgePlace 5 n) (readingKind r) 0 (simp length-set (omega arith)) ∙ ap readingKind (sym q);
+        kind = getD-set-other t₃ (edgePlace 9 n) (edgePlace 5 n) (decimetres r) 0 (λ z. omega arith) ∙ getD-set-same t₂ (edgePlace 5 n) (readingKind r) 0 (simp length-set (omega arith))
+            ∙ ap readingKind (sym q);
         decimetres = getD-set-same t₃ (edgePlace 9 n) (decimetres r) 0 (simp length-set (omega arith)) ∙ ap decimetres (sym q);
       }
 
@@ -94,7 +95,8 @@ module _ (n a z : ℕ) (edges : List ℕ) where
 
     seen-other : (w : ℕ) → 2 ≤ w → outWord n ≢ w → inWord n ≢ w → getD (thisET n a z edges) (halfPlace 2 w) 0 ≡ getD edges (halfPlace 2 w) 0
     unfolding thisET
-    seen-other w r p q = getD-set-other (set edges (halfPlace 2 (2 * n)) a) (halfPlace 2 (2 * n + 1)) (halfPlace 2 w) z 0 (λ e. omega arith) ∙ getD-set-other edges (halfPlace 2 (2 * n)) (halfPlace 2 w) a 0 (λ e. omega arith)
+    seen-other w r p q = getD-set-other (set edges (halfPlace 2 (2 * n)) a) (halfPlace 2 (2 * n + 1)) (halfPlace 2 w) z 0 (λ e. omega arith) ∙ getD-set-other edges (halfPlace 2 (2 * n))
+        (halfPlace 2 w) a 0 (λ e. omega arith)
 
     pub this-new : (live : ℕ) (y : Edge) (es es′ : List Edge) → ThisEntries edges es → Anew edgeNumber noEdge n live y es es′ → y .alpha ≡ a → y .omega ≡ z → ThisEntries (thisET n a z edges) es′
     this-new live y es es′ h m ca cz w r = go (word? n w)
@@ -120,12 +122,15 @@ module _ (n t : ℕ) (r : Reading) (s : State) (vs : List Vertex) (es : List Edg
       let k = row-keep n 1 t r (s .edges) in
       record {
         vseq = c .vseq;
-        eseq = rw (keys-upd edgeNumber (withEdge t r) (λ y. refl) n es) (keep-eseq (s .edges) edges′ (k EOrder (λ z. omega (arith, set-row)) (λ z. omega (arith, set-row)) (λ z. omega (arith, set-row)) (λ z. omega (arith, set-row)))
+        eseq = rw (keys-upd edgeNumber (withEdge t r) (λ y. refl) n es)
+            (keep-eseq (s .edges) edges′ (k EOrder (λ z. omega (arith, set-row)) (λ z. omega (arith, set-row)) (λ z. omega (arith, set-row)) (λ z. omega (arith, set-row)))
             (row-len n 1 t r (s .edges)) (edgeListEnds (s .head)) (map edgeNumber es) (c .eseq));
         vrows = c .vrows;
         erows = rows-new n 1 (withEdge t r (edgeIn es n)) (s .edges) es (updateBy edgeNumber n (withEdge t r) es) (c .erows) set-row (anew-set edgeNumber noEdge n es (withEdge t r) (λ y. refl) hn);
-        this = set-this edges′ (keep-this (s .edges) edges′ (k EThis (λ z. omega (arith, set-row)) (λ z. omega (arith, set-row)) (λ z. omega (arith, set-row)) (λ z. omega (arith, set-row))) es (c .this));
-        lists = keep-lists (s .vertices) (s .vertices) (s .edges) edges′ (λ i h. refl) (k ELinks (λ z. omega (arith, set-row)) (λ z. omega (arith, set-row)) (λ z. omega (arith, set-row)) (λ z. omega (arith, set-row)))
+        this = set-this edges′
+            (keep-this (s .edges) edges′ (k EThis (λ z. omega (arith, set-row)) (λ z. omega (arith, set-row)) (λ z. omega (arith, set-row)) (λ z. omega (arith, set-row))) es (c .this));
+        lists = keep-lists (s .vertices) (s .vertices) (s .edges) edges′ (λ i h. refl)
+            (k ELinks (λ z. omega (arith, set-row)) (λ z. omega (arith, set-row)) (λ z. omega (arith, set-row)) (λ z. omega (arith, set-row)))
             (row-len n 1 t r (s .edges)) vs (c .lists);
         disjoint = c .disjoint;
         vertices = c .vertices;
@@ -134,7 +139,8 @@ module _ (n t : ℕ) (r : Reading) (s : State) (vs : List Vertex) (es : List Edg
 
 -- ---- an edge moved in eseq
 
-module _ (n p : ℕ) (s : State) (vs : List Vertex) (es : List Edge) (c : Core s vs es) (o : Ordered edgeNumber es) (hn : countBy edgeNumber n es ≡ 1) (hp : 1 ≤ indicator 0 p + countBy edgeNumber p (removeBy edgeNumber n es)) where
+module _ (n p : ℕ) (s : State) (vs : List Vertex) (es : List Edge) (c : Core s vs es) (o : Ordered edgeNumber es) (hn : countBy edgeNumber n es ≡ 1)
+    (hp : 1 ≤ indicator 0 p + countBy edgeNumber p (removeBy edgeNumber n es)) where
   pub can-move-edge : CanMove edgeLinks n p (s .edges) (edgeListEnds (s .head))
   can-move-edge = can-move edgeNumber edgeLinks valid-e (s .edges) (edgeListEnds (s .head)) es (c .eseq) noEdge n p hn hp
 
@@ -191,7 +197,8 @@ module _ (n live : ℕ) (y : Edge) (edges t₁ : List ℕ) (i : EdgeRowIn t₁ n
 
   pub full-order : (e : Ends) (l : List ℕ) → Held edgeLinks t₁ e l → Held edgeLinks full e l
   full-order e l h = keep-eseq t₁ full
-      (λ j q. ends-keep n (y .alpha) (y .omega) row EOrder (λ x. omega arith) (λ x. omega arith) j q ∙ row-keep n live (y .type) (y .reading) t₁ EOrder (λ x. omega arith) (λ x. omega arith) (λ x. omega arith) (λ x. omega arith) j q)
+      (λ j q. ends-keep n (y .alpha) (y .omega) row EOrder (λ x. omega arith) (λ x. omega arith) j q ∙ row-keep n live (y .type) (y .reading) t₁ EOrder (λ x. omega arith) (λ x. omega arith)
+      (λ x. omega arith) (λ x. omega arith) j q)
       full-len e l h
 
   pub full-lists : (vertices : List ℕ) (vs : List Vertex) → Lists vertices edges vs → Lists vertices full vs
@@ -234,7 +241,8 @@ module _ (n a z t : ℕ) (r : Reading) (p : ℕ) (s : State) (vs : List Vertex) 
       let m = anew-put edgeNumber noEdge n es p new refl (f .fresh) in
       record {
         vseq = c .vseq;
-        eseq = full-order n 1 new (s .edges) t₁ i₁ k l (insertE edgeLinks (s .edges) e p n) (map edgeNumber es′) (held-put edgeNumber edgeLinks valid-e (s .edges) e es (c .eseq) n p new refl f in-row);
+        eseq = full-order n 1 new (s .edges) t₁ i₁ k l (insertE edgeLinks (s .edges) e p n) (map edgeNumber es′)
+            (held-put edgeNumber edgeLinks valid-e (s .edges) e es (c .eseq) n p new refl f in-row);
         vrows = c .vrows;
         erows = full-rows n 1 new (s .edges) t₁ i₁ k l es es′ m (c .erows);
         this = full-this n 1 new (s .edges) t₁ i₁ k l es es′ m (c .this);

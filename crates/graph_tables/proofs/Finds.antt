@@ -1,5 +1,5 @@
 -- A look-up finds a number exactly where the graph has it.
-use Prim.Native.Nat.{ℕ, _+_, _-_, _*_, _≤_}
+use Prim.Native.Nat.{ℕ, _+_, _-_, _*_, _%_, _^_, _≤_, _<_}
 use mathlib.Core.Path.{_≡_, refl, _∙_}
 use mathlib.Core.Bool.{Bool, true, false}
 use mathlib.Core.List.{List}
@@ -7,7 +7,9 @@ use native.Mathlib.Omega.{arith}
 use lib.ListN.{length, getD}
 use lib.Dec.{eqb, ltb}
 use Rattle.lists.specs.Choice.{_⇒_else_, _==_}
-use borrow.Author.Tests.{eq-eqb, ne-eqb, le-ltb, eqb-false}
+use mathlib.Core.Logic.{_≢_}
+use borrow.Author.Tests.{eq-eqb, ne-eqb, lt-ltb, le-ltb, eqb-false}
+use Rattle.lists.proofs.Picks.{same, differ, same?}
 use Rattle.graph.specs.Graph.{Graph, hasVertex, hasEdge}
 use Rattle.graph.proofs.Numbers.{vertex-none, edge-none, vertex-once, edge-once}
 use Rattle.graph_tables.specs.declared.Lookup.the-variants.{Found, Missing}
@@ -28,6 +30,18 @@ module _ (size live : ℕ) (table : List ℕ) (n : ℕ) where
   row-found : (1 ≤ n) × (size * n ≤ length table) → getD table (size * n - size + live) 0 ≡ 1 → foundRow size live table n ≡ Found (size * n - size)
   unfolding foundRow
   row-found r e = simp (ne-eqb n 0 (λ q. omega arith), le-ltb (length table) (size * n) (r .1), e)
+
+  -- one test for 0 and for what is past the table: n less 1 wraps to the greatest word
+  pub row-past : (n ≢ 0 → length table < size * n) → foundRow size live table n ≡ Missing
+  unfolding foundRow
+  row-past h = elim (same? n 0) [
+    | same e f ↦ simp (eq-eqb n 0 e)
+    | differ e f ↦ simp (ne-eqb n 0 e, lt-ltb (length table) (size * n) (h e))
+  ]
+
+-- n less 1 wrapped is n − 1, but for 0 the greatest word
+pub less-one : (n r : ℕ) → r < 2 ^ 64 → (r + 1) % 2 ^ 64 ≡ n → n ≢ 0 → r + 1 ≡ n
+less-one n r l e h = omega (arith, l, e, h)
 
 -- as one equation with the test of codes 3, 4 and 5
 module _ (s : State) (g : Graph) (h : Holds s g) (n : ℕ) where

@@ -101,7 +101,8 @@ module _ (t t′ : List ℕ) where
   pub keep-ends : Keeps VEnds t t′ → (v : ℕ) → 1 ≤ v → endsAt t′ v ≡ endsAt t v
   keep-ends k v r i = record { first = k (vertexPlace 3 v) (omega arith, omega arith) i; last = k (vertexPlace 4 v) (omega arith, omega arith) i }
 
-pub keep-lists : (vertices vertices′ edges edges′ : List ℕ) → Keeps VEnds vertices vertices′ → Keeps ELinks edges edges′ → length edges′ ≡ length edges → (vs : List Vertex) → Lists vertices edges vs → Lists vertices′ edges′ vs
+pub keep-lists : (vertices vertices′ edges edges′ : List ℕ) → Keeps VEnds vertices vertices′ → Keeps ELinks edges edges′ → length edges′ ≡ length edges → (vs : List Vertex)
+    → Lists vertices edges vs → Lists vertices′ edges′ vs
 keep-lists vertices vertices′ edges edges′ k i len vs h v r = rw (keep-ends vertices vertices′ k v r) (keep-list edges edges′ i len (endsAt vertices v) (listIn vs v) (h v r))
 
 -- ---- what each step keeps

@@ -44,7 +44,8 @@ module _ (s : State) (g : Graph) (h : Holds s g) where
   read-edge e c =
       let r = row-e (s .edges) (edgeListEnds (s .head)) (g .eseq) (h .core .eseq) e c in
       let o = h .core .erows e (r .0) in
-      let q : readingOf (getD (s .edges) (edgePlace 5 e) 0) (getD (s .edges) (edgePlace 9 e) 0) ≡ (edgeIn (g .eseq) e) .reading = rw (o .kind, o .decimetres) (reading-back ((edgeIn (g .eseq) e) .reading)) in
+      let q : readingOf (getD (s .edges) (edgePlace 5 e) 0) (getD (s .edges) (edgePlace 9 e) 0) ≡ (edgeIn (g .eseq) e) .reading =
+      rw (o .kind, o .decimetres) (reading-back ((edgeIn (g .eseq) e) .reading)) in
       λ i. record {
         number = sym (key-find edgeNumber noEdge e (g .eseq) c) i;
         alpha = (h .core .this (outWord e) (omega (arith, r)) ∙ this-out (g .eseq) e) i;
@@ -56,8 +57,10 @@ module _ (s : State) (g : Graph) (h : Holds s g) where
   pub graph-is : graphOf s ≡ g
   unfolding graphOf
   graph-is =
-      let v : nodes vertexLinks (s .vertices) (vertexListEnds (s .head)) ≡ map vertexNumber (g .vseq) = held-nodes vertexLinks (s .vertices) (vertexListEnds (s .head)) valid-v (map vertexNumber (g .vseq)) (h .core .vseq) in
-      let e : nodes edgeLinks (s .edges) (edgeListEnds (s .head)) ≡ map edgeNumber (g .eseq) = held-nodes edgeLinks (s .edges) (edgeListEnds (s .head)) valid-e (map edgeNumber (g .eseq)) (h .core .eseq) in
+      let v : nodes vertexLinks (s .vertices) (vertexListEnds (s .head)) ≡ map vertexNumber (g .vseq) =
+      held-nodes vertexLinks (s .vertices) (vertexListEnds (s .head)) valid-v (map vertexNumber (g .vseq)) (h .core .vseq) in
+      let e : nodes edgeLinks (s .edges) (edgeListEnds (s .head)) ≡ map edgeNumber (g .eseq) =
+      held-nodes edgeLinks (s .edges) (edgeListEnds (s .head)) valid-e (map edgeNumber (g .eseq)) (h .core .eseq) in
       let vs : map (vertexAt s) (map vertexNumber (g .vseq)) ≡ g .vseq = list-of vertexNumber noVertex (vertexAt s) (g .vseq) (λ n. omega (arith, h .sound .vorder n)) read-vertex in
       let es : map (edgeAt s) (map edgeNumber (g .eseq)) ≡ g .eseq = list-of edgeNumber noEdge (edgeAt s) (g .eseq) (λ n. omega (arith, h .sound .eorder n)) read-edge in
       λ i. record { vseq = (ap (map (vertexAt s)) v ∙ vs) i; eseq = (ap (map (edgeAt s)) e ∙ es) i }

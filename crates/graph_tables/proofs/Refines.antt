@@ -17,7 +17,8 @@ use Rattle.graph.specs.Edits.{attach, apply, Applies}
 use Rattle.graph.proofs.Keeps.{keeps-formed}
 use Rattle.graph.proofs.Lists.{held, unheld, gone, ends-at, free-out, out-at, into-at, a-there, z-there}
 use Rattle.graph.proofs.Incidence.{count-list, count-attach-other, count-detach-other, out-half, into-half, apart, apart′}
-use Rattle.graph_tables.specs.Tables.{State, vertexLinks, edgeLinks, vertexListEnds, edgeListEnds, EdgeRowIn, HalfRowIn, detachS, attachS, placeEdgeS, moveWordS, CanMoveWord, insertEdgeS, CanInsertEdge, removeEdgeS, CanRemoveEdge}
+use Rattle.graph_tables.specs.Tables.{State, vertexLinks, edgeLinks, vertexListEnds, edgeListEnds, EdgeRowIn, HalfRowIn, detachS, attachS, placeEdgeS, moveWordS, CanMoveWord}
+use Rattle.graph_tables.specs.Tables.{insertEdgeS, CanInsertEdge, removeEdgeS, CanRemoveEdge}
 use Rattle.graph_tables.specs.Holds.{Core, Holds}
 use Rattle.graph_tables.specs.Edits.{applyS, Can, Small, Room}
 use Rattle.graph_tables.proofs.Frames.{row-v, row-e}
@@ -34,7 +35,13 @@ module _ (s : State) (vs : List Vertex) (es : List Edge) (c : Core s vs es) wher
   word-in w h = let r = row-e (s .edges) (edgeListEnds (s .head)) es (c .eseq) (w / 2) h in (omega arith, omega arith)
 
   few-vertices : length vs ≤ length (s .vertices)
-  few-vertices = omega (arith, length-map vertexNumber vs, held-length vertexLinks (s .vertices) (vertexListEnds (s .head)) (length (s .vertices)) (map vertexNumber vs) (λ x a b. omega arith) (c .vseq))
+  few-vertices =
+      omega (
+        arith,
+        length-map vertexNumber vs,
+        held-length vertexLinks (s .vertices) (vertexListEnds (s .head)) (length (s .vertices)) (map vertexNumber vs) (λ x a b. omega arith)
+            (c .vseq),
+      )
 
   few-edges : length es ≤ length (s .edges)
   few-edges = omega (arith, length-map edgeNumber es, held-length edgeLinks (s .edges) (edgeListEnds (s .head)) (length (s .edges)) (map edgeNumber es) (λ x a b. omega arith) (c .eseq))
@@ -119,7 +126,12 @@ module _ (n x z t : ℕ) (r : Reading) (p o i : ℕ) (s : State) (g : Graph) (h 
   can-insert-edge = (
     omega (arith, m .edges),
     record {
-      place = record { row = row; room = omega (arith, m .edges, h .core .edges, few-edges s (g .vseq) (g .eseq) (h .core)); back = can-put-edge n x z t r p s (g .vseq) (g .eseq) (h .core) (a .0) row };
+      place = record {
+        row = row;
+        room = omega (arith, m .edges, h .core .edges, few-edges s (g .vseq) (g .eseq) (h .core));
+        back =
+            can-put-edge n x z t r p s (g .vseq) (g .eseq) (h .core) (a .0) row;
+      };
       out = can-attach x o (outWord n) s₁ (g .vseq) es′ placed (a .1) free-o (a .3) w-out;
       into = can-attach z i (inWord n) s₂ vs₂ es′ first target-z free-i (a .4) w-into;
     },

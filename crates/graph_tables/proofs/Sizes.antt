@@ -5,7 +5,8 @@ use lib.ListN.{length, length-set}
 use Rattle.graph.specs.declared.Reading.{Reading}
 use Rattle.graph.specs.declared.Edit.{Edit}
 use Rattle.graph.specs.declared.Edit.the-variants.{InsertVertex, RemoveVertex, InsertEdge, RemoveEdge, SetVertex, SetEdge, MoveVertex, MoveEdge, MoveWord}
-use Rattle.graph_tables.specs.Tables.{State, vertexLinks, edgeLinks, incidenceLinks, vertexListEnds, edgeListEnds, endsAt, detachS, attachS, setThisS, placeEdgeS, dropEdgeS, moveWordS, insertEdgeS, removeEdgeS, setVertexS, moveVertexS, insertVertexS, removeVertexS, setEdgeS, moveEdgeS}
+use Rattle.graph_tables.specs.Tables.{State, vertexLinks, edgeLinks, incidenceLinks, vertexListEnds, edgeListEnds, endsAt, detachS, attachS, setThisS, placeEdgeS, dropEdgeS, moveWordS}
+use Rattle.graph_tables.specs.Tables.{insertEdgeS, removeEdgeS, setVertexS, moveVertexS, insertVertexS, removeVertexS, setEdgeS, moveEdgeS}
 use Rattle.graph_tables.specs.Edits.{applyS}
 use Rattle.graph_tables.proofs.Frames.{unlink-len, insert-len, ends-len}
 use Rattle.graph_tables.proofs.Sequences.{move-len}

@@ -11,7 +11,9 @@ use Rattle.graph.specs.declared.Reading.the-variants.{Untested}
 use Rattle.graph.specs.declared.Edit.{Edit}
 use Rattle.graph.specs.Graph.{readingKind, decimetres}
 use Rattle.graph_tables.specs.declared.Head.{Head}
-use Rattle.graph_tables.specs.Tables.{State, state, vertexLinks, edgeLinks, incidenceLinks, vertexListEnds, edgeListEnds, endsAt, putEnds, withVertexEnds, withEdgeEnds, countV, countE, edgePlace, rowVT, rowET, thisET, moveT, moveE, detachS, CanDetach, attachS, CanAttach, moveVertexS, moveEdgeS, insertVertexS, removeVertexS, placeEdgeS, dropEdgeS, CanDropEdge}
+use Rattle.graph_tables.specs.Tables.{State, state, vertexLinks, edgeLinks, incidenceLinks, vertexListEnds, edgeListEnds, endsAt, putEnds, withVertexEnds, withEdgeEnds, countV, countE}
+use Rattle.graph_tables.specs.Tables.{edgePlace, rowVT, rowET, thisET, moveT, moveE, detachS, CanDetach, attachS, CanAttach, moveVertexS, moveEdgeS, insertVertexS, removeVertexS}
+use Rattle.graph_tables.specs.Tables.{placeEdgeS, dropEdgeS, CanDropEdge}
 use Rattle.graph_tables.specs.Edits.{applyS, Can}
 
 pub unlink-by : (layout : LinkLayout) (t : List ℕ) {e e′ : Ends} (x : ℕ) → e ≡ e′ → CanUnlink layout t e′ x → CanUnlink layout t e x
@@ -53,27 +55,33 @@ module _ (layout : LinkLayout) (n p : ℕ) (t : List ℕ) (e : Ends) where
   moved a b = (b .0 ∙ (λ i. insertT layout (a .0 i) (a .1 i) p n), b .1 ∙ (λ i. insertE layout (a .0 i) (a .1 i) p n))
 
 module _ (h : Head) (vertices edges : List ℕ) where
-  pub detached : (v w : ℕ) {e r : Ends} {vertices′ edges′ : List ℕ} → e ≡ endsAt vertices v → (edges′ ≡ unlinkT incidenceLinks edges e w) × (r ≡ unlinkE incidenceLinks edges e w) → vertices′ ≡ putEnds v r vertices →
+  pub detached : (v w : ℕ) {e r : Ends} {vertices′ edges′ : List ℕ} → e ≡ endsAt vertices v → (edges′ ≡ unlinkT incidenceLinks edges e w) × (r ≡ unlinkE incidenceLinks edges e w)
+      → vertices′ ≡ putEnds v r vertices →
       state h vertices′ edges′ ≡ detachS v w (state h vertices edges)
   unfolding detachS
   detached v w {vertices′ = vertices′} {edges′ = edges′} a b c =
       let x : edges′ ≡ unlinkT incidenceLinks edges (endsAt vertices v) w = b .0 ∙ (λ i. unlinkT incidenceLinks edges (a i) w) in
-      let y : vertices′ ≡ putEnds v (unlinkE incidenceLinks edges (endsAt vertices v) w) vertices = c ∙ (λ i. putEnds v (b .1 i) vertices) ∙ (λ i. putEnds v (unlinkE incidenceLinks edges (a i) w) vertices) in
+      let y : vertices′ ≡ putEnds v (unlinkE incidenceLinks edges (endsAt vertices v) w) vertices =
+      c ∙ (λ i. putEnds v (b .1 i) vertices) ∙ (λ i. putEnds v (unlinkE incidenceLinks edges (a i) w) vertices) in
       λ i. state h (y i) (x i)
 
-  pub attached : (v p w : ℕ) {e r : Ends} {vertices′ edges′ : List ℕ} → e ≡ endsAt vertices v → (edges′ ≡ insertT incidenceLinks edges e p w) × (r ≡ insertE incidenceLinks edges e p w) → vertices′ ≡ putEnds v r vertices →
+  pub attached : (v p w : ℕ) {e r : Ends} {vertices′ edges′ : List ℕ} → e ≡ endsAt vertices v → (edges′ ≡ insertT incidenceLinks edges e p w) × (r ≡ insertE incidenceLinks edges e p w)
+      → vertices′ ≡ putEnds v r vertices →
       state h vertices′ edges′ ≡ attachS v p w (state h vertices edges)
   unfolding attachS
   attached v p w {vertices′ = vertices′} {edges′ = edges′} a b c =
       let x : edges′ ≡ insertT incidenceLinks edges (endsAt vertices v) p w = b .0 ∙ (λ i. insertT incidenceLinks edges (a i) p w) in
-      let y : vertices′ ≡ putEnds v (insertE incidenceLinks edges (endsAt vertices v) p w) vertices = c ∙ (λ i. putEnds v (b .1 i) vertices) ∙ (λ i. putEnds v (insertE incidenceLinks edges (a i) p w) vertices) in
+      let y : vertices′ ≡ putEnds v (insertE incidenceLinks edges (endsAt vertices v) p w) vertices =
+      c ∙ (λ i. putEnds v (b .1 i) vertices) ∙ (λ i. putEnds v (insertE incidenceLinks edges (a i) p w) vertices) in
       λ i. state h (y i) (x i)
 
-  pub vertex-moved : (n p : ℕ) {vertices′ : List ℕ} {e : Ends} → (vertices′ ≡ moveT vertexLinks n p vertices (vertexListEnds h)) × (e ≡ moveE vertexLinks n p vertices (vertexListEnds h)) → state (withVertexEnds e h) vertices′ edges ≡ moveVertexS n p (state h vertices edges)
+  pub vertex-moved : (n p : ℕ) {vertices′ : List ℕ} {e : Ends} → (vertices′ ≡ moveT vertexLinks n p vertices (vertexListEnds h)) × (e ≡ moveE vertexLinks n p vertices (vertexListEnds h))
+      → state (withVertexEnds e h) vertices′ edges ≡ moveVertexS n p (state h vertices edges)
   unfolding moveVertexS
   vertex-moved n p a = λ i. state (withVertexEnds (a .1 i) h) (a .0 i) edges
 
-  pub edge-moved : (n p : ℕ) {edges′ : List ℕ} {e : Ends} → (edges′ ≡ moveT edgeLinks n p edges (edgeListEnds h)) × (e ≡ moveE edgeLinks n p edges (edgeListEnds h)) → state (withEdgeEnds e h) vertices edges′ ≡ moveEdgeS n p (state h vertices edges)
+  pub edge-moved : (n p : ℕ) {edges′ : List ℕ} {e : Ends} → (edges′ ≡ moveT edgeLinks n p edges (edgeListEnds h)) × (e ≡ moveE edgeLinks n p edges (edgeListEnds h))
+      → state (withEdgeEnds e h) vertices edges′ ≡ moveEdgeS n p (state h vertices edges)
   unfolding moveEdgeS
   edge-moved n p a = λ i. state (withEdgeEnds (a .1 i) h) vertices (a .0 i)
 

@@ -32,7 +32,8 @@ module _ (v live t x : ℕ) (vertices : List ℕ) where
   pub row-keep : (P : ℕ → Type 0) → (P (vertexPlace 0 v) → ⊥) → (P (vertexPlace 1 v) → ⊥) → (P (vertexPlace 2 v) → ⊥) → Keeps P vertices (rowVT v live t x vertices)
   unfolding rowVT
   row-keep P a b c i h =
-      set-keeps P (set (set vertices (vertexPlace 0 v) live) (vertexPlace 1 v) t) (vertexPlace 2 v) x c i h ∙ set-keeps P (set vertices (vertexPlace 0 v) live) (vertexPlace 1 v) t b i h ∙ set-keeps P vertices (vertexPlace 0 v) live a i h
+      set-keeps P (set (set vertices (vertexPlace 0 v) live) (vertexPlace 1 v) t) (vertexPlace 2 v) x c i h ∙ set-keeps P (set vertices (vertexPlace 0 v) live) (vertexPlace 1 v) t b i h
+      ∙ set-keeps P vertices (vertexPlace 0 v) live a i h
 
   pub row-live : VertexRowIn vertices v → getD (rowVT v live t x vertices) (vertexPlace 0 v) 0 ≡ live
   unfolding rowVT
@@ -95,7 +96,8 @@ module _ (n t x : ℕ) (s : State) (vs : List Vertex) (es : List Edge) (c : Core
   core-set-vertex =
       let vertices′ = rowVT n 1 t x (s .vertices) in
       record {
-        vseq = rw (keys-upd vertexNumber (withVertex t x) (λ y. refl) n vs) (keep-vseq (s .vertices) vertices′ (row-keep n 1 t x (s .vertices) VOrder (λ z. omega (arith, set-row)) (λ z. omega (arith, set-row)) (λ z. omega (arith, set-row)))
+        vseq = rw (keys-upd vertexNumber (withVertex t x) (λ y. refl) n vs)
+            (keep-vseq (s .vertices) vertices′ (row-keep n 1 t x (s .vertices) VOrder (λ z. omega (arith, set-row)) (λ z. omega (arith, set-row)) (λ z. omega (arith, set-row)))
             (row-len n 1 t x (s .vertices)) (vertexListEnds (s .head)) (map vertexNumber vs) (c .vseq));
         eseq = c .eseq;
         vrows = rows-new n 1 (withVertex t x (vertexIn vs n)) (s .vertices) vs (updateBy vertexNumber n (withVertex t x) vs) (c .vrows) set-row
@@ -103,7 +105,8 @@ module _ (n t x : ℕ) (s : State) (vs : List Vertex) (es : List Edge) (c : Core
         erows = c .erows;
         this = c .this;
         lists = same-lists vertices′ (s .edges) vs (updateBy vertexNumber n (withVertex t x) vs) set-list
-            (keep-lists (s .vertices) vertices′ (s .edges) (s .edges) (row-keep n 1 t x (s .vertices) VEnds (λ z. omega (arith, set-row)) (λ z. omega (arith, set-row)) (λ z. omega (arith, set-row))) (λ i h. refl) refl vs (c .lists));
+            (keep-lists (s .vertices) vertices′ (s .edges) (s .edges)
+            (row-keep n 1 t x (s .vertices) VEnds (λ z. omega (arith, set-row)) (λ z. omega (arith, set-row)) (λ z. omega (arith, set-row))) (λ i h. refl) refl vs (c .lists));
         disjoint = same-disjoint vs (updateBy vertexNumber n (withVertex t x) vs) set-list (c .disjoint);
         vertices = c .vertices ∙ sym (length-upd vertexNumber (withVertex t x) n vs);
         edges = c .edges;
@@ -111,7 +114,8 @@ module _ (n t x : ℕ) (s : State) (vs : List Vertex) (es : List Edge) (c : Core
 
 -- ---- a vertex moved in vseq
 
-module _ (n p : ℕ) (s : State) (vs : List Vertex) (es : List Edge) (c : Core s vs es) (o : Ordered vertexNumber vs) (hn : countBy vertexNumber n vs ≡ 1) (hp : 1 ≤ indicator 0 p + countBy vertexNumber p (removeBy vertexNumber n vs)) where
+module _ (n p : ℕ) (s : State) (vs : List Vertex) (es : List Edge) (c : Core s vs es) (o : Ordered vertexNumber vs) (hn : countBy vertexNumber n vs ≡ 1)
+    (hp : 1 ≤ indicator 0 p + countBy vertexNumber p (removeBy vertexNumber n vs)) where
   pub can-move-vertex : CanMove vertexLinks n p (s .vertices) (vertexListEnds (s .head))
   can-move-vertex = can-move vertexNumber vertexLinks valid-v (s .vertices) (vertexListEnds (s .head)) vs (c .vseq) noVertex n p hn hp
 
@@ -144,7 +148,8 @@ module _ (n p : ℕ) (s : State) (vs : List Vertex) (es : List Edge) (c : Core s
         vrows = moved-rows vertices′ (keep-vrows (s .vertices) vertices′ (λ i h. move-v n p (s .vertices) e i (omega arith)) vs (c .vrows));
         erows = c .erows;
         this = c .this;
-        lists = same-lists vertices′ (s .edges) vs moved moved-list (keep-lists (s .vertices) vertices′ (s .edges) (s .edges) (λ i h. move-v n p (s .vertices) e i (omega arith)) (λ i h. refl) refl vs (c .lists));
+        lists = same-lists vertices′ (s .edges) vs moved moved-list
+            (keep-lists (s .vertices) vertices′ (s .edges) (s .edges) (λ i h. move-v n p (s .vertices) e i (omega arith)) (λ i h. refl) refl vs (c .lists));
         disjoint = same-disjoint vs moved moved-list (c .disjoint);
         vertices = omega (arith, c .vertices, length-ins vertexNumber 0 p (vertexIn vs n) (removeBy vertexNumber n vs), length-rem vertexNumber n vs (omega arith));
         edges = c .edges;
@@ -173,7 +178,8 @@ module _ (n t x p : ℕ) (s : State) (vs : List Vertex) (es : List Edge) (c : Co
       let i₁ : VertexRowIn t₁ n = (i .0, rw (insert-len (s .vertices) e n vertexLinks p) (i .1)) in
       record {
         vseq = keep-vseq t₁ (rowVT n 1 t x t₁) (row-keep n 1 t x t₁ VOrder (λ z. omega arith) (λ z. omega arith) (λ z. omega arith)) (row-len n 1 t x t₁)
-            (insertE vertexLinks (s .vertices) e p n) (map vertexNumber (insertAfterBy vertexNumber 0 p new vs)) (held-put vertexNumber vertexLinks valid-v (s .vertices) e vs (c .vseq) n p new refl f in-row);
+            (insertE vertexLinks (s .vertices) e p n) (map vertexNumber (insertAfterBy vertexNumber 0 p new vs))
+            (held-put vertexNumber vertexLinks valid-v (s .vertices) e vs (c .vseq) n p new refl f in-row);
         eseq = c .eseq;
         vrows = rows-new n 1 new t₁ vs (insertAfterBy vertexNumber 0 p new vs) (keep-vrows (s .vertices) t₁ (λ j h. insert-v (s .vertices) e n p j (omega arith)) vs (c .vrows)) i₁
             (anew-put vertexNumber noVertex n vs p new refl (f .fresh));
@@ -212,7 +218,8 @@ module _ (n : ℕ) (s : State) (vs : List Vertex) (es : List Edge) (c : Core s v
         vseq = keep-vseq t₁ (rowVT n 0 0 0 t₁) (row-keep n 0 0 0 t₁ VOrder (λ z. omega arith) (λ z. omega arith) (λ z. omega arith)) (row-len n 0 0 0 t₁)
             (unlinkE vertexLinks (s .vertices) e n) (map vertexNumber (removeBy vertexNumber n vs)) (held-taken vertexNumber vertexLinks valid-v (s .vertices) e vs (c .vseq) n hn);
         eseq = c .eseq;
-        vrows = rows-new n 0 noVertex t₁ vs (removeBy vertexNumber n vs) (keep-vrows (s .vertices) t₁ (λ j h. unlink-v (s .vertices) e n j (omega arith)) vs (c .vrows)) i₁ (anew-taken vertexNumber noVertex n vs hn);
+        vrows = rows-new n 0 noVertex t₁ vs (removeBy vertexNumber n vs) (keep-vrows (s .vertices) t₁ (λ j h. unlink-v (s .vertices) e n j (omega arith)) vs (c .vrows)) i₁
+            (anew-taken vertexNumber noVertex n vs hn);
         erows = c .erows;
         this = c .this;
         lists = same-lists (rowVT n 0 0 0 t₁) (s .edges) vs (removeBy vertexNumber n vs) old-list (keep-lists (s .vertices) (rowVT n 0 0 0 t₁) (s .edges) (s .edges)

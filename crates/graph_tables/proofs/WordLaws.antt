@@ -18,11 +18,13 @@ use Rattle.graph.specs.Changes.{onList, withSeen, detach}
 use Rattle.graph.specs.Edits.{attach}
 use Rattle.graph.proofs.Incidence.{list-upd, count-list, this-set, this-other}
 use Rattle.graph.proofs.Orders.{find-kept}
-use Rattle.graph_tables.specs.Tables.{State, state, incidenceLinks, halfPlace, VertexRowIn, HalfRowIn, vertexListEnds, edgeListEnds, endsAt, putEnds, detachS, CanDetach, attachS, CanAttach, setThisS}
+use Rattle.graph_tables.specs.Tables.{State, state, incidenceLinks, halfPlace, VertexRowIn, HalfRowIn, vertexListEnds, edgeListEnds, endsAt, putEnds, detachS, CanDetach, attachS}
+use Rattle.graph_tables.specs.Tables.{CanAttach, setThisS}
 use Rattle.graph_tables.specs.Holds.{VRows, ERows, ThisEntries, DisjointLists, Core}
 use Rattle.linked_lists.proofs.Counted.{can-rem, held-rem, can-ins, held-ins, frame-rem, frame-ins}
 use Rattle.graph_tables.proofs.Keys.{keys-upd, length-upd}
-use Rattle.graph_tables.proofs.Frames.{valid-i, Keeps, VOrder, VData, EOrder, EData, ELinks, keep-vseq, keep-eseq, keep-vrows, keep-erows, keep-this, keep-lists, unlink-i, unlink-len, insert-i, insert-len, set-keeps, ends-len, ends-keep, ends-same, ends-other, row-v}
+use Rattle.graph_tables.proofs.Frames.{valid-i, Keeps, VOrder, VData, EOrder, EData, ELinks, keep-vseq, keep-eseq, keep-vrows, keep-erows, keep-this, keep-lists, unlink-i, unlink-len}
+use Rattle.graph_tables.proofs.Frames.{insert-i, insert-len, set-keeps, ends-len, ends-keep, ends-same, ends-other, row-v}
 
 held-by : (layout : LinkLayout) (t : List ℕ) {e e′ : Ends} {l l′ : List ℕ} → e′ ≡ e → l′ ≡ l → Held layout t e l → Held layout t e′ l′
 held-by layout t p q h = rw (p, q) h
@@ -71,7 +73,8 @@ module _ (v : ℕ) (f : List ℕ → List ℕ) (s : State) (vs : List Vertex) (e
 
   pub core-list : Core (state (s .head) (putEnds v e′ (s .vertices)) edges′) (updateBy vertexNumber v (onList f) vs) es
   core-list = record {
-    vseq = rw (keys-upd vertexNumber (onList f) (λ y. refl) v vs) (keep-vseq (s .vertices) (putEnds v e′ (s .vertices)) (ends-keep v e′ (s .vertices) VOrder (λ z. omega (arith, row)) (λ z. omega (arith, row)))
+    vseq = rw (keys-upd vertexNumber (onList f) (λ y. refl) v vs)
+        (keep-vseq (s .vertices) (putEnds v e′ (s .vertices)) (ends-keep v e′ (s .vertices) VOrder (λ z. omega (arith, row)) (λ z. omega (arith, row)))
         (ends-len v e′ (s .vertices)) (vertexListEnds (s .head)) (map vertexNumber vs) (c .vseq));
     eseq = keep-eseq (s .edges) edges′ (λ i h. keep i (omega arith)) len (edgeListEnds (s .head)) (map edgeNumber es) (c .eseq);
     vrows = new-vrows;
@@ -122,7 +125,8 @@ module _ (v p w : ℕ) (s : State) (vs : List Vertex) (es : List Edge) (c : Core
       let h = c .lists v (place .0) in
       let e = endsAt (s .vertices) v in
       let l = listIn vs v in
-      core-list v (insertAfterBy itself 0 p w) s vs es c hv (insertT incidenceLinks (s .edges) e p w) (insertE incidenceLinks (s .edges) e p w) (insert-i (s .edges) e w p) (insert-len (s .edges) e w incidenceLinks p)
+      core-list v (insertAfterBy itself 0 p w) s vs es c hv (insertT incidenceLinks (s .edges) e p w) (insertE incidenceLinks (s .edges) e p w) (insert-i (s .edges) e w p)
+      (insert-len (s .edges) e w incidenceLinks p)
       (held-ins incidenceLinks (s .edges) e l valid-i h p w (omega arith) (hw v) inside hp)
       (λ u r n. frame-ins incidenceLinks (s .edges) e l valid-i h (endsAt (s .vertices) u) (listIn vs u) (c .lists u r) (λ k. c .disjoint v u k n) p w (hw u) hp)
       (λ u k n. elim (same? w k) [
@@ -153,11 +157,14 @@ module _ (w u : ℕ) (s : State) (vs : List Vertex) (es : List Edge) (c : Core s
   unfolding setThisS
   core-this = record {
     vseq = c .vseq;
-    eseq = rw (keys-upd edgeNumber (withSeen w u) (λ y. refl) (w / 2) es) (keep-eseq (s .edges) (set (s .edges) (halfPlace 2 w) u) (set-keeps EOrder (s .edges) (halfPlace 2 w) u (λ z. omega arith)) (simp length-set) (edgeListEnds (s .head)) (map edgeNumber es) (c .eseq));
+    eseq = rw (keys-upd edgeNumber (withSeen w u) (λ y. refl) (w / 2) es)
+        (keep-eseq (s .edges) (set (s .edges) (halfPlace 2 w) u) (set-keeps EOrder (s .edges) (halfPlace 2 w) u (λ z. omega arith)) (simp length-set) (edgeListEnds (s .head))
+        (map edgeNumber es) (c .eseq));
     vrows = c .vrows;
     erows = kept-rows;
     this = seen;
-    lists = keep-lists (s .vertices) (s .vertices) (s .edges) (set (s .edges) (halfPlace 2 w) u) (λ i h. refl) (set-keeps ELinks (s .edges) (halfPlace 2 w) u (λ z. omega arith)) (simp length-set) vs (c .lists);
+    lists = keep-lists (s .vertices) (s .vertices) (s .edges) (set (s .edges) (halfPlace 2 w) u) (λ i h. refl) (set-keeps ELinks (s .edges) (halfPlace 2 w) u (λ z. omega arith))
+        (simp length-set) vs (c .lists);
     disjoint = c .disjoint;
     vertices = c .vertices;
     edges = c .edges ∙ sym (length-upd edgeNumber (withSeen w u) (w / 2) es);

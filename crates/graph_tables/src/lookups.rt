@@ -1,5 +1,6 @@
-// Is a number in the graph, and where does its row start. Any number may be asked for.
+// Is a number in the graph, and where does its row start. Any number may be asked for; 0 less 1 is past every row.
 use crate::Lookup;
+use std::num::wrapping_sub_usize;
 ghost use mathlib.Core.Path.{_≡_};
 ghost use Prim.Native.Nat.{_/_};
 ghost use Rattle.graph_tables.specs.Tables.{foundV, foundE};
@@ -9,10 +10,7 @@ pub fn find_vertex(vertices: &[u32], v: u32) -> Lookup
     ensures { λ r. ⌜ r ≡ foundV (now (vertices .entry)) v ⌝ }
 {
     let n = v as usize;
-    if n == 0 {
-        return Lookup::Missing;
-    }
-    if vertices.len() < 8 * n {
+    if vertices.len() / 8 <= wrapping_sub_usize(n, 1) {
         return Lookup::Missing;
     }
     let at = 8 * n - 8;
@@ -27,10 +25,7 @@ pub fn find_edge(edges: &[u32], e: u32) -> Lookup
     ensures { λ r. ⌜ r ≡ foundE (now (edges .entry)) e ⌝ }
 {
     let n = e as usize;
-    if n == 0 {
-        return Lookup::Missing;
-    }
-    if edges.len() < 12 * n {
+    if edges.len() / 12 <= wrapping_sub_usize(n, 1) {
         return Lookup::Missing;
     }
     let at = 12 * n - 12;

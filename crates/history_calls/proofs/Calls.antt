@@ -12,7 +12,8 @@ use Rattle.lists.proofs.Bools.{ft}
 use Rattle.lists.proofs.Picks.{same, differ, same?}
 use Rattle.graph.specs.Graph.{Graph}
 use Rattle.graph.specs.WellFormed.{Bounds}
-use Rattle.history.specs.Machine.{MarkPlace, gone, at, Machine, begun, placed, freeOf, distance, noMarks, stands, placeOr, marked, present, movedTo, Name, name, noName, named, freshAt, Step, stepsBetween, madeBy}
+use Rattle.history.specs.Machine.{MarkPlace, gone, at, Machine, begun, placed, freeOf, distance, noMarks, stands, placeOr, marked, present, movedTo, Name, name, noName, named, freshAt, Step}
+use Rattle.history.specs.Machine.{stepsBetween, madeBy}
 use Rattle.machine.specs.HistoryCodes.{noBench}
 use Rattle.machine.specs.Rules.{effected, historyRule, firstCode}
 use Rattle.commands.specs.declared.HistoryCall.{HistoryCall}
@@ -90,7 +91,8 @@ module _ (b : Bounds) (x : Store) (mem : Memory) (m : Machine) (h : Represents b
       → effected (historyRule capacity c .deed m .effect) m ≡ m → ByRule capacity c (done x 0 number) mem
   told capacity c number e f i = accepted (historyRule capacity c) m b x mem number e f (rw i h)
 
-  pub moved-to : (x′ : Store) (vertices′ edges′ : List ℕ) (p : ℕ) → x′ .set ≡ x .set → x′ .bench ≡ x .bench → Journal b (x′ .current .position) (state (x′ .current .head) vertices′ edges′) (mem .journal) (placed p (m .line))
+  pub moved-to : (x′ : Store) (vertices′ edges′ : List ℕ) (p : ℕ) → x′ .set ≡ x .set → x′ .bench ≡ x .bench → Journal b (x′ .current .position) (state (x′ .current .head) vertices′ edges′)
+      (mem .journal) (placed p (m .line))
       → Represents b x′ (memory vertices′ edges′ (mem .journal) (mem .marks)) (movedTo p m)
   moved-to x′ vertices′ edges′ p e f j = record {
     journal = j;
@@ -158,7 +160,8 @@ module _ (b : Bounds) (x : Store) (mem : Memory) (m : Machine) (h : Represents b
           let s = with-is (x .set) a _ w refl in
           let stood = sym (in-set (m .marks) (x .set) (mem .marks) (h .marks) a (k .low) (k .high)) ∙ k .stands in
           let put : markPut a p (mem .marks) ≡ placesSet x a (mem .marks) = rw (eq-eqb (newCode (x .set) a) 0 z) in
-          let d = subst (λ (n : ℕ). Marked (marked a (at p) (m .marks)) n (markPut a p (mem .marks))) s (named-marked _ _ _ a noName (k .low) (mark-put (m .marks) (x .set) (mem .marks) (h .marks) a (k .low) (k .high) p _ stood refl)) in
+          let d = subst (λ (n : ℕ). Marked (marked a (at p) (m .marks)) n (markPut a p (mem .marks))) s
+          (named-marked _ _ _ a noName (k .low) (mark-put (m .marks) (x .set) (mem .marks) (h .marks) a (k .low) (k .high) p _ stood refl)) in
           let e = subst (λ (l : List ℕ). Marked (marked a (at p) (m .marks)) (withMark a (x .set)) l) put d in
           follows-by _ m b marksAfter (λ i. done (record { current = x .current; set = withMark a (x .set); bench = x .bench }) (z i) 0)
           (accepted (historyRule capacity (SetMark a)) m b _ marksAfter 0 (sym set-code ∙ z) refl (record {
@@ -166,7 +169,8 @@ module _ (b : Bounds) (x : Store) (mem : Memory) (m : Machine) (h : Represents b
             marks = subst (λ (i : ℕ). Marked (marked a (at i) (m .marks)) (withMark a (x .set)) (placesSet x a (mem .marks))) (h .journal .place) e;
             inside = set-inside (m .marks) a (m .line .place) (length (m .line .steps)) (h .journal .inside) (h .inside);
             names = subst (λ (i : ℕ). Named (marked a (at i) (m .marks)) (named a noName (m .names)) (placesSet x a (mem .marks))) (h .journal .place)
-                (subst (λ (l : List ℕ). Named (marked a (at p) (m .marks)) (named a noName (m .names)) l) put (set-named (m .marks) (m .names) (x .set) (mem .marks) a p (h .marks) (k .low) (k .high) (h .names)));
+                (subst (λ (l : List ℕ). Named (marked a (at p) (m .marks)) (named a noName (m .names)) l) put
+                (set-named (m .marks) (m .names) (x .set) (mem .marks) a p (h .marks) (k .low) (k .high) (h .names)));
             bench = h .bench;
           }))
       | differ n y ↦
@@ -202,14 +206,17 @@ module _ (b : Bounds) (x : Store) (mem : Memory) (m : Machine) (h : Represents b
           }))
       | differ z y ↦
           let stay : mem .marks ≡ namesSet x a n (mem .marks) = sym (ap (λ (t : Bool). t ⇒ nameSet a n (mem .marks) else mem .marks) (ne-eqb (nameCode (x .set) (mem .marks) a n) 0 z)) in
-          subst (λ (l : List ℕ). ByRule capacity (NameMark a b′ c) (done x (nameCode (x .set) (mem .marks) a n) 0) (memory (mem .vertices) (mem .edges) (mem .journal) l)) stay (kept capacity (NameMark a b′ c) _ name-is z)
+          subst (λ (l : List ℕ). ByRule capacity (NameMark a b′ c) (done x (nameCode (x .set) (mem .marks) a n) 0) (memory (mem .vertices) (mem .edges) (mem .journal) l)) stay
+          (kept capacity (NameMark a b′ c) _ name-is z)
     ]
 
   -- 22
 
   pub commit-follows : (capacity : ℕ) → ByRule capacity Commit (committed x) mem
   commit-follows capacity = accepted (historyRule capacity Commit) m b _ mem _ refl (h .journal .place)
-      (subst (λ (k : ℕ). Represents b (committed x .store) mem (freshAt k (present m))) (h .bench) (begun-represents b (committed x .store) mem (present m) (journal-commit b (x .current .position) _ (tablesOf x mem) (mem .journal) (m .line) (h .journal) refl refl refl) refl (h .marks .room)))
+      (subst (λ (k : ℕ). Represents b (committed x .store) mem (freshAt k (present m))) (h .bench)
+      (begun-represents b (committed x .store) mem (present m) (journal-commit b (x .current .position) _ (tablesOf x mem) (mem .journal) (m .line) (h .journal) refl refl refl) refl
+      (h .marks .room)))
 
   -- 49, 50 and 51
 
@@ -217,11 +224,21 @@ module _ (b : Bounds) (x : Store) (mem : Memory) (m : Machine) (h : Represents b
   between-follows capacity a c = elim (same? (pairCode x a c) 0) [
     | same z y ↦
         let s = both-none (x .set) a c z in
-        follows-by _ m b mem (λ i. record { store = x; answer = record { code = z i; number = ap (λ (t : Bool). t ⇒ distance (placeIn (mem .marks) a) (placeIn (mem .marks) c) else 0) (eq-eqb (pairCode x a c) 0 z) i } })
+        follows-by _ m b mem
+        (λ i. record {
+          store = x;
+          answer =
+              record { code = z i; number = ap (λ (t : Bool). t ⇒ distance (placeIn (mem .marks) a) (placeIn (mem .marks) c) else 0) (eq-eqb (pairCode x a c) 0 z) i };
+        })
         (told capacity (Between a c) _ (sym code ∙ z)
         (ap (λ (k : ℕ). distance k (placeIn (mem .marks) c)) (mark-place a (s .0) 0) ∙ ap (distance (placeOr 0 (m .marks a))) (mark-place c (s .1) 0)) refl)
     | differ n y ↦
-        follows-by _ m b mem (λ i. record { store = x; answer = record { code = pairCode x a c; number = ap (λ (t : Bool). t ⇒ distance (placeIn (mem .marks) a) (placeIn (mem .marks) c) else 0) (ne-eqb (pairCode x a c) 0 n) i } })
+        follows-by _ m b mem
+        (λ i. record {
+          store = x;
+          answer =
+              record { code = pairCode x a c; number = ap (λ (t : Bool). t ⇒ distance (placeIn (mem .marks) a) (placeIn (mem .marks) c) else 0) (ne-eqb (pairCode x a c) 0 n) i };
+        })
         (kept capacity (Between a c) _ code n)
   ]
     where
@@ -258,7 +275,8 @@ module _ (b : Bounds) (x : Store) (mem : Memory) (m : Machine) (h : Represents b
 
   module _ (capacity a c k : ℕ) where
     made-is : madeCode (x .set) a c k ≡ historyRule capacity (MadeBy a c k) .code m
-    made-is = ap (λ (r : ℕ). firstCode r (benchCode k)) (both-is m (x .set) (mem .marks) (h .marks) a c) ∙ go (noMark a || noMark c) (not (stands (m .marks a)) || not (stands (m .marks c))) (noBench k)
+    made-is = ap (λ (r : ℕ). firstCode r (benchCode k)) (both-is m (x .set) (mem .marks) (h .marks) a c) ∙ go (noMark a || noMark c) (not (stands (m .marks a)) || not (stands (m .marks c)))
+        (noBench k)
       where
         go : (s t u : Bool) → _≡_ {A = ℕ} (firstCode (s ⇒ 11 else t ⇒ 13 else 0) (u ⇒ 20 else 0)) (s ⇒ 11 else t ⇒ 13 else u ⇒ 20 else 0)
         go true t u = refl

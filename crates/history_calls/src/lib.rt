@@ -54,8 +54,8 @@ pub struct Store {
 
 // The store after a call, and the answer to it.
 pub struct Called {
-    pub store: Store,
     pub answer: Answer,
+    pub store: Store,
 }
 
 // The same store, built word by word (see graph_tables::same).

@@ -237,7 +237,8 @@ module _ (cap types : ℕ) (vs : List ℕ) where
         let z : a ≡ 0 → ⊥ = not-zero a (r .ok .starts) in
         omega (
           arith,
-          owners-agree (owned n a o own) (n ∷ seen) k (drop edgeSize ws) (at + edgeSize) (rw (length-set, length-set) h) (seen-owned own n a o seen i z u) (paired-owned own n a o i z p) (r .rest) v l w,
+          owners-agree (owned n a o own) (n ∷ seen) k (drop edgeSize ws) (at + edgeSize) (rw (length-set, length-set) h) (seen-owned own n a o seen i z u) (paired-owned own n a o i z p)
+              (r .rest) v l w,
           owned-count own n a o v w i out (p n out) l,
           sum-append (λ x. toBit (x == w)) (((v == a) ⇒ (outWord n ∷ []) else []) ++ ((v == o) ⇒ (inWord n ∷ []) else [])) (wordsAt (edgesFrom k (drop edgeSize ws)) v),
           words-count n w (v == a) (v == o),

@@ -13,8 +13,10 @@ use Rattle.lists.specs.Choice.{_⇒_else_}
 use Rattle.lists.specs.Lists.{distinct}
 use Rattle.graph.specs.Graph.{Edge}
 use Rattle.graph.specs.WellFormed.{Bounds, wordsAt}
-use Rattle.image.specs.Image.{edgeSize, vertexOffset, edgeOffset, incidenceOffset, lengthAs, vertexCount, edgeCount, recordSize, soundHeader, vertexPart, edgePart, incidencePart, edgesFrom, loadable}
-use Rattle.image.specs.Checks.{vertexWalk, numbersIn, edgeWalk, degreeWalk, goodList, listWalk, soundCounts, numbersOf, edgesOf, vertexVerdict, edgeVerdict, degreeVerdict, listVerdict, partsVerdict, verdict}
+use Rattle.image.specs.Image.{edgeSize, vertexOffset, edgeOffset, incidenceOffset, lengthAs, vertexCount, edgeCount, recordSize, soundHeader, vertexPart, edgePart, incidencePart}
+use Rattle.image.specs.Image.{edgesFrom, loadable}
+use Rattle.image.specs.Checks.{vertexWalk, numbersIn, edgeWalk, degreeWalk, goodList, listWalk, soundCounts, numbersOf, edgesOf, vertexVerdict, edgeVerdict, degreeVerdict, listVerdict}
+use Rattle.image.specs.Checks.{partsVerdict, verdict}
 use Rattle.image.specs.FirstBad.{passOf, Begins}
 use Rattle.image.specs.declared.Verdict.{Verdict}
 use Rattle.image.specs.declared.Verdict.the-variants.{Sound, BadHeader, BadRecord, BadIncidence}
@@ -25,7 +27,9 @@ use Rattle.image.proofs.VertexPass.{walk-distinct}
 use Rattle.image.proofs.EdgePass.{edge-step}
 use Rattle.image.proofs.SoundLoads.{Sounds, sounds}
 use Rattle.image.proofs.SavedSound.{loads-sound}
-use Rattle.image.proofs.Offsets.{sound-record, sound-incidence, header-record, header-incidence, then-record, then-incidence, list-bad, row-drop, row-first, Place, vertex-range, vertex-no-incidence, vertex-prefix, edge-range, edge-no-incidence, edge-prefix, degree-wrong, degrees-right, degree-no-incidence, list-from, list-no-bad-record, list-prefix}
+use Rattle.image.proofs.Offsets.{sound-record, sound-incidence, header-record, header-incidence, then-record, then-incidence, list-bad, row-drop, row-first, Place, vertex-range}
+use Rattle.image.proofs.Offsets.{vertex-no-incidence, vertex-prefix, edge-range, edge-no-incidence, edge-prefix, degree-wrong, degrees-right, degree-no-incidence, list-from}
+use Rattle.image.proofs.Offsets.{list-no-bad-record, list-prefix}
 use Rattle.image.proofs.ReadOrder.{header-plain, is-degree, read-plain, read-degree, read-list, read-row, read-edge}
 
 -- ---- the walk that finds the bad word
@@ -144,7 +148,8 @@ module _ (b : Bounds) (ws : List ℕ) (k : ℕ) where
         arith,
         sound-length ws t,
         length-drop (incidenceOffset size (vertexCount ws) (edgeCount ws)) ws,
-        walk-ends (b .edges) (b .types) (numbersOf size ws) [] (edgeCount ws) (edgePart size ws) (edgeOffset size (vertexCount ws)) (walk-distinct size (b .vertices) (b .types) [] (vertexCount ws) (vertexPart size ws) vertexOffset x) y,
+        walk-ends (b .edges) (b .types) (numbersOf size ws) [] (edgeCount ws) (edgePart size ws) (edgeOffset size (vertexCount ws))
+            (walk-distinct size (b .vertices) (b .types) [] (vertexCount ws) (vertexPart size ws) vertexOffset x) y,
       )
 
   -- an offset of a bad incidence names a word of the incidence part

@@ -14,7 +14,8 @@ use Rattle.lists.specs.Lists.{member, equalLists}
 use Rattle.lists.proofs.Bools.{and-true, and-both}
 use Rattle.graph.specs.Graph.{Edge}
 use Rattle.graph.specs.WellFormed.{Bounds, wordsAt}
-use Rattle.image.specs.Image.{edgeSize, vertexOffset, edgeOffset, incidenceOffset, lengthAs, headerOf, vertexCount, edgeCount, recordSize, headerAs, soundHeader, vertexPart, edgePart, incidencePart, edgesFrom, loadable}
+use Rattle.image.specs.Image.{edgeSize, vertexOffset, edgeOffset, incidenceOffset, lengthAs, headerOf, vertexCount, edgeCount, recordSize, headerAs, soundHeader, vertexPart, edgePart}
+use Rattle.image.specs.Image.{incidencePart, edgesFrom, loadable}
 use Rattle.image.specs.Checks.{vertexWalk, numbersIn, edgeWalk, degreeWalk, listWalk, soundCounts, numbersOf, edgesOf, vertexVerdict, edgeVerdict, degreeVerdict, listVerdict, verdict}
 use Rattle.image.specs.FirstBad.{passOf, ReadBefore, Begins}
 use Rattle.image.specs.declared.Verdict.the-variants.{Sound, BadRecord, BadIncidence}
@@ -111,7 +112,8 @@ module _ (b : Bounds) (ws : List ℕ) (header : soundHeader ws ≡ true) where
     unfolding headerAs
     whole-header =
         sound-as n (record-size ws) (whole vs es is)
-        (and-both (equalLists (headerOf n v e) (headerOf n v e)) (length (whole vs es is) == lengthAs n v e) (same-refl (headerOf n v e)) (eq-eqb (length (whole vs es is)) (lengthAs n v e) whole-length))
+        (and-both (equalLists (headerOf n v e) (headerOf n v e)) (length (whole vs es is) == lengthAs n v e) (same-refl (headerOf n v e))
+        (eq-eqb (length (whole vs es is)) (lengthAs n v e) whole-length))
 
     whole-size : recordSize (whole vs es is) ≡ n
     whole-size = size-by (whole vs es is) ws refl (sym (header-words ws header .second))

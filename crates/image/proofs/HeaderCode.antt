@@ -13,7 +13,8 @@ use Rattle.lists.proofs.Bools.{tf}
 use Rattle.graph.specs.Graph.{Edge}
 use Rattle.graph.specs.WellFormed.{Bounds, wordsAt}
 use Rattle.image.specs.Image.{oldVertexSize, edgeSize, vertexOffset, edgeOffset, incidenceOffset, vertexCount, edgeCount, recordSize, soundHeader, vertexPart, edgePart, incidencePart}
-use Rattle.image.specs.Checks.{codeOf, goodVertex, goodEdge, goodDegree, goodList, recordAt, listAt, ended, andThen, vertexWalk, edgeWalk, degreeWalk, listWalk, soundCounts, numbersOf, edgesOf, vertexVerdict, edgeVerdict, degreeVerdict, listVerdict, partsVerdict, verdict, loadCode}
+use Rattle.image.specs.Checks.{codeOf, goodVertex, goodEdge, goodDegree, goodList, recordAt, listAt, ended, andThen, vertexWalk, edgeWalk, degreeWalk, listWalk, soundCounts, numbersOf}
+use Rattle.image.specs.Checks.{edgesOf, vertexVerdict, edgeVerdict, degreeVerdict, listVerdict, partsVerdict, verdict, loadCode}
 use Rattle.image.specs.declared.Verdict.{Verdict}
 use Rattle.image.specs.declared.Verdict.the-variants.{Sound, BadHeader, BadRecord, BadIncidence}
 

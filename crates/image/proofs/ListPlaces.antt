@@ -14,7 +14,8 @@ use Rattle.image.proofs.Sizes.{new, row-in}
 use Rattle.image.proofs.Loads.{vertex-words, incidence-words, loaded}
 
 -- a word of record i
-row-word : (vs : List Vertex) (i r : ℕ) → i < length vs → getD (concatMap (vertexRecord vertexSize) vs) (vertexSize * i + r) 0 ≡ getD (vertexRecord vertexSize (getD vs i noVertex) ++ concatMap (vertexRecord vertexSize) (drop (suc i) vs)) r 0
+row-word : (vs : List Vertex) (i r : ℕ) → i < length vs → getD (concatMap (vertexRecord vertexSize) vs) (vertexSize * i + r) 0
+    ≡ getD (vertexRecord vertexSize (getD vs i noVertex) ++ concatMap (vertexRecord vertexSize) (drop (suc i) vs)) r 0
 row-word [] i r h = absurd (omega arith)
 row-word (v ∷ vs) zero r h = let e : vertexSize * 0 + r ≡ r = omega arith in ap (λ (k : ℕ). getD (concatMap (vertexRecord vertexSize) (v ∷ vs)) k 0) e
 row-word (v ∷ vs) (suc i) r h =

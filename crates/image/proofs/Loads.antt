@@ -14,7 +14,8 @@ use Rattle.lists.specs.Lists.{concatMap, equalLists}
 use Rattle.lists.proofs.Bools.{ft, and-true, and-both, or-right}
 use Rattle.graph.specs.Graph.{Vertex, Edge, Graph}
 use Rattle.graph.specs.WellFormed.{Bounds, wellFormed}
-use Rattle.image.specs.Image.{vertexSize, vertexRecord, edgeSize, edgeRecord, incidencesOf, edgeOffset, lengthAs, imageLength, headerOf, saveAs, save, saveOld, SavesAs, recordSize, headerAs, soundHeader, vertexPart, edgePart, incidencePart, edgesFrom, verticesFrom, loadAs, load, loadable}
+use Rattle.image.specs.Image.{vertexSize, vertexRecord, edgeSize, edgeRecord, incidencesOf, edgeOffset, lengthAs, imageLength, headerOf, saveAs, save, saveOld, SavesAs, recordSize}
+use Rattle.image.specs.Image.{headerAs, soundHeader, vertexPart, edgePart, incidencePart, edgesFrom, verticesFrom, loadAs, load, loadable}
 use Rattle.image.proofs.Sizes.{Size, old, new, record-size, size-shown}
 use Rattle.image.proofs.Headers.{sound-as}
 use Rattle.image.proofs.Formed.{formed}
@@ -153,7 +154,8 @@ module _ (b : Bounds) (g : Graph) (h : wellFormed b g ≡ true) where
       (and-both (soundHeader ws) (wellFormed b g) (subst (λ (l : List ℕ). soundHeader l ≡ true) (saved-shown g ws s) (header-sound (recordSize ws) (record-size ws) g b h)) h)
       (elim s [
         | inl e ↦ subst (λ (l : List ℕ). (equalLists l (save g) || equalLists l (saveOld g)) ≡ true) e (rw (same-refl (save g)))
-        | inr e ↦ subst (λ (l : List ℕ). (equalLists l (save g) || equalLists l (saveOld g)) ≡ true) e (or-right (equalLists (saveOld g) (save g)) (equalLists (saveOld g) (saveOld g)) (same-refl (saveOld g)))
+        | inr e ↦ subst (λ (l : List ℕ). (equalLists l (save g) || equalLists l (saveOld g)) ≡ true) e
+            (or-right (equalLists (saveOld g) (save g)) (equalLists (saveOld g) (saveOld g)) (same-refl (saveOld g)))
       ]))
 
   pub saved-loads : loadable b (save g) ≡ true

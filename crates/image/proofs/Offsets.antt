@@ -235,7 +235,8 @@ module _ (cap types : ℕ) (ns : List ℕ) where
   unfolding goodEdge
   edge-same seen us ws a =
       rw (a 0 (omega arith) (omega arith))
-      (edge-cut (within 1 cap (getD ws 0 0) && not (member (getD ws 0 0) seen)) (member (getD ws 1 0) ns) (member (getD ws 2 0) ns) (ltb (getD ws 3 0) types) (leb (getD ws 4 0) 2) (isReading (getD ws 4 0) (getD ws 5 0))
+      (edge-cut (within 1 cap (getD ws 0 0) && not (member (getD ws 0 0) seen)) (member (getD ws 1 0) ns) (member (getD ws 2 0) ns) (ltb (getD ws 3 0) types) (leb (getD ws 4 0) 2)
+      (isReading (getD ws 4 0) (getD ws 5 0))
       (member (getD us 1 0) ns) (member (getD us 2 0) ns) (ltb (getD us 3 0) types) (leb (getD us 4 0) 2) (isReading (getD us 4 0) (getD us 5 0))
       (λ h. ap (λ (x : ℕ). member x ns) (a 1 (omega arith) h))
       (λ h. ap (λ (x : ℕ). member x ns) (a 2 (omega arith) h))

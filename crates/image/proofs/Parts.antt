@@ -69,7 +69,8 @@ unfolding partBound part
 part-cut k ws = go (soundHeader ws) (within 1 3 k) refl refl
   where
     numbered : (e : soundHeader ws ≡ true) → (n : ℕ) → 1 ≤ n → n ≤ 3 →
-        take (getD ws (n + 2) 0 - getD ws (n + 1) 0) (drop (getD ws (n + 1) 0) ws) ≡ ((n == 1) ⇒ vertexPart (recordSize ws) ws else (n == 2) ⇒ edgePart (recordSize ws) ws else (n == 3) ⇒ incidencePart (recordSize ws) ws else [])
+        take (getD ws (n + 2) 0 - getD ws (n + 1) 0) (drop (getD ws (n + 1) 0) ws)
+        ≡ ((n == 1) ⇒ vertexPart (recordSize ws) ws else (n == 2) ⇒ edgePart (recordSize ws) ws else (n == 3) ⇒ incidencePart (recordSize ws) ws else [])
     numbered e zero l m = absurd (omega arith)
     numbered e (suc zero) l m = cut-1 ws e
     numbered e (suc (suc zero)) l m = cut-2 ws e

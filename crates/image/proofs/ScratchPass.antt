@@ -151,7 +151,8 @@ module _ (ws : List ℕ) (h : soundHeader ws ≡ true) where
       let n = recordSize ws in
       let small : Small vs = subst (λ (l : List ℕ). Small l) (sym (p ∙ part-1 ws h)) (small-take (n * vertexCount ws) (drop vertexOffset ws) (small-drop vertexOffset ws m)) in
       let t =
-      scratch-agrees (replicate (g .degs) 0) (replicate (g .owns) 0) (zeros (g .degs)) (zeros (g .owns)) (bounds vcap ecap types) (rw length-replicate (g .vertices)) (rw length-replicate (g .edges)) size v e vs es is small in
+      scratch-agrees (replicate (g .degs) 0) (replicate (g .owns) 0) (zeros (g .degs)) (zeros (g .owns)) (bounds vcap ecap types) (rw length-replicate (g .vertices))
+      (rw length-replicate (g .edges)) size v e vs es is small in
       rw (h, k′) (rw (p ∙ part-1 ws h, q ∙ part-2 ws h, s ∙ part-3 ws h, hs, hv, he) at (g .verdict ∙ t))
 
   -- without a vertex there is nothing to go through

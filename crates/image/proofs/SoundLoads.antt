@@ -16,8 +16,10 @@ use Rattle.lists.proofs.Sums.{has-count, Alike, alike-same, alike-length}
 use Rattle.graph.specs.declared.Reading.the-variants.{Untested, Silent, Heard}
 use Rattle.graph.specs.Graph.{Edge, Graph, vertexNumber, edgeNumber, itself, hasVertex, vertexNumbers, edgeNumbers, readingKind, decimetres, readingOf, isReading}
 use Rattle.graph.specs.WellFormed.{Bounds, wordsAt, sameWords, soundVertex, soundEdge, wellFormed}
-use Rattle.image.specs.Image.{degreeWord, vertexRecord, edgeSize, edgeRecord, incidencesOf, vertexOffset, edgeOffset, incidenceOffset, saveAs, vertexCount, edgeCount, recordSize, soundHeader, vertexPart, edgePart, incidencePart, edgesFrom, verticesFrom, load, loadable}
-use Rattle.image.specs.Checks.{vertexWalk, numbersIn, edgeWalk, degreeWalk, goodList, listWalk, soundCounts, numbersOf, edgesOf, vertexVerdict, edgeVerdict, degreeVerdict, listVerdict, partsVerdict, verdict}
+use Rattle.image.specs.Image.{degreeWord, vertexRecord, edgeSize, edgeRecord, incidencesOf, vertexOffset, edgeOffset, incidenceOffset, saveAs, vertexCount, edgeCount, recordSize}
+use Rattle.image.specs.Image.{soundHeader, vertexPart, edgePart, incidencePart, edgesFrom, verticesFrom, load, loadable}
+use Rattle.image.specs.Checks.{vertexWalk, numbersIn, edgeWalk, degreeWalk, goodList, listWalk, soundCounts, numbersOf, edgesOf, vertexVerdict, edgeVerdict, degreeVerdict, listVerdict}
+use Rattle.image.specs.Checks.{partsVerdict, verdict}
 use Rattle.image.specs.declared.Verdict.the-variants.{Sound, BadHeader}
 use Rattle.image.proofs.Sizes.{Size, size-range, degree-cut, record-size}
 use Rattle.image.proofs.Loads.{saves-by, saves-loads}

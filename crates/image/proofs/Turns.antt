@@ -14,7 +14,8 @@ use Rattle.lists.proofs.Bools.{within-range}
 use Rattle.lists.proofs.Picks.{same?, same, differ}
 use Rattle.image.specs.Checks.{goodVertex, goodFields, goodEdge}
 use Rattle.image.proofs.Verdicts.{vertex-ok, edge-ok}
-use Rattle.image.specs.Scratch.{NoneAbove, bumped, withEnds, owned, edgeGood, edgeEnds, edgeOwned, vertexRun, vertexMarks, edgeRun, edgeDegrees, edgeOwners, degreeRun, listRun, listOwners, incidenceRun}
+use Rattle.image.specs.Scratch.{NoneAbove, bumped, withEnds, owned, edgeGood, edgeEnds, edgeOwned, vertexRun, vertexMarks, edgeRun, edgeDegrees, edgeOwners, degreeRun, listRun}
+use Rattle.image.specs.Scratch.{listOwners, incidenceRun}
 use Rattle.image.specs.declared.Verdict.the-variants.{Sound, BadRecord, BadIncidence}
 
 -- ---- the word at a place of the rest

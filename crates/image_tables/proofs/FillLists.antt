@@ -67,8 +67,10 @@ module _ (es : List Edge) where
   count-filled : (ws : List ℕ) (k n : ℕ) (vs : List Vertex) → countBy itself k (listIn (map (filled es ws) vs) n) ≤ countBy itself k ws
   count-filled ws k n [] = omega arith
   count-filled ws k n (v ∷ vs) = elim (same? (v .number) n) [
-    | same e f ↦ subst (λ (x : Vertex). countBy itself k (x .incidences) ≤ countBy itself k ws) (sym (pick-yes (v .number) n (filled es ws v) (vertexIn (map (filled es ws) vs) n) e)) (count-keep (λ w. thisIn es w == v .number) k ws)
-    | differ e f ↦ subst (λ (x : Vertex). countBy itself k (x .incidences) ≤ countBy itself k ws) (sym (pick-no (v .number) n (filled es ws v) (vertexIn (map (filled es ws) vs) n) e)) (count-filled ws k n vs)
+    | same e f ↦ subst (λ (x : Vertex). countBy itself k (x .incidences) ≤ countBy itself k ws) (sym (pick-yes (v .number) n (filled es ws v) (vertexIn (map (filled es ws) vs) n) e))
+        (count-keep (λ w. thisIn es w == v .number) k ws)
+    | differ e f ↦ subst (λ (x : Vertex). countBy itself k (x .incidences) ≤ countBy itself k ws) (sym (pick-no (v .number) n (filled es ws v) (vertexIn (map (filled es ws) vs) n) e))
+        (count-filled ws k n vs)
   ]
 
 -- the tables hold the graph, with lists filled so far
@@ -101,7 +103,14 @@ module _ (g : Graph) (wf : WellFormed g) where
   unfolding Own
   few-words k done = omega arith
   few-words k (more {x = v} {xs = vs} o a) =
-      omega (arith, count-append itself k (v .incidences) (concatMap incidencesOf vs), o k, pick-is (thisIn (g .eseq) k) (v .number) (countBy edgeNumber (k / 2) (g .eseq)) (omega (arith, wf .eorder (k / 2))), few-words k a)
+      omega (
+        arith,
+        count-append itself k (v .incidences) (concatMap incidencesOf vs),
+        o k,
+        pick-is (thisIn (g .eseq) k) (v .number) (countBy edgeNumber (k / 2) (g .eseq))
+            (omega (arith, wf .eorder (k / 2))),
+        few-words k a,
+      )
 
   no-words : (k : ℕ) → countBy edgeNumber (k / 2) (g .eseq) ≡ 0 → {vs : List Vertex} → All Own vs → countBy itself k (concatMap incidencesOf vs) ≡ 0
   unfolding Own
@@ -208,7 +217,8 @@ module _ (g : Graph) (wf : WellFormed g) where
     next-list : attach vs v (vlast (s .vertices) v) w ≡ map (filled (g .eseq) (ws ++ w ∷ [])) (g .vseq)
     next-list =
         ap (λ (p : ℕ). attach vs v p w) last
-        ∙ attach-last vs v w (λ n. omega (arith, count-map vertexNumber (filled (g .eseq) ws) (λ y. refl) n (g .vseq), wf .vorder n)) (ordered incidenceLinks (s .edges) (endsAt (s .vertices) v) (listIn vs v) valid-i (c .lists v real))
+        ∙ attach-last vs v w (λ n. omega (arith, count-map vertexNumber (filled (g .eseq) ws) (λ y. refl) n (g .vseq), wf .vorder n))
+        (ordered incidenceLinks (s .edges) (endsAt (s .vertices) v) (listIn vs v) valid-i (c .lists v real))
         ∙ append-filled (g .eseq) ws w (g .vseq)
 
     next-word : WCore g (wordS w s) (ws ++ w ∷ [])
@@ -246,7 +256,8 @@ module _ (w : ℕ) (s : State) {v : ℕ} {o : Ends} (e : v ≡ wthis (s .edges) 
   pub word-can : CanWord w s → CanAppend incidenceLinks (s .edges) o w
   word-can c = rw (f, e) (c .back)
 
-  pub word-did : {r : Ends} {vertices′ edges′ : List ℕ} → (edges′ ≡ insertT incidenceLinks (s .edges) o (o .last) w) × (r ≡ insertE incidenceLinks (s .edges) o (o .last) w) → vertices′ ≡ putEnds v r (s .vertices) →
+  pub word-did : {r : Ends} {vertices′ edges′ : List ℕ} → (edges′ ≡ insertT incidenceLinks (s .edges) o (o .last) w) × (r ≡ insertE incidenceLinks (s .edges) o (o .last) w)
+      → vertices′ ≡ putEnds v r (s .vertices) →
       state (s .head) vertices′ edges′ ≡ wordS w s
   unfolding wordS
   word-did b c =

@@ -21,7 +21,8 @@ use Rattle.image.specs.Image.{vertexRecord, edgeRecord, recordSize, load}
 use Rattle.image.proofs.Sizes.{size-range, record-size}
 use Rattle.image.proofs.RecordWords.{record-length}
 use Rattle.graph_tables.specs.declared.Head.{Head}
-use Rattle.graph_tables.specs.Tables.{State, state, vertexLinks, edgeLinks, vertexListEnds, edgeListEnds, VertexRowIn, EdgeRowIn, insertVertexS, CanInsertVertex, countE, withEdgeEnds, rowET, thisET, placeEdgeS, CanPlaceEdge}
+use Rattle.graph_tables.specs.Tables.{State, state, vertexLinks, edgeLinks, vertexListEnds, edgeListEnds, VertexRowIn, EdgeRowIn, insertVertexS, CanInsertVertex, countE, withEdgeEnds, rowET}
+use Rattle.graph_tables.specs.Tables.{thisET, placeEdgeS, CanPlaceEdge}
 use Rattle.graph_tables.proofs.Steps.{edge-placed}
 use Rattle.graph_tables.specs.Holds.{Core}
 use Rattle.graph_tables.specs.Capacities.{Sized}
@@ -188,7 +189,8 @@ module _ (b : Bounds) (g : Graph) (wf : WellFormed g) (wi : Within b g) (few : l
 
 -- ---- for callers: a turn of each pass
 
-module _ (words vertices₀ edges₀ : List ℕ) (k : CanLoad words vertices₀ edges₀) (part : List ℕ) (at : ℕ) (h : Head) (vertices edges : List ℕ) (p : length vertices ≡ length vertices₀) (q : length edges ≡ length edges₀) where
+module _ (words vertices₀ edges₀ : List ℕ) (k : CanLoad words vertices₀ edges₀) (part : List ℕ) (at : ℕ) (h : Head) (vertices edges : List ℕ) (p : length vertices ≡ length vertices₀)
+    (q : length edges ≡ length edges₀) where
   module _ (t : Turn (vertexRecord (recordSize words)) VCore (load words .vseq) part (state h vertices edges) at) where
     size : length (vertexRecord (recordSize words) (t .here)) ≡ recordSize words
     size = record-length (recordSize words) (record-size words) (t .here)
@@ -200,7 +202,8 @@ module _ (words vertices₀ edges₀ : List ℕ) (k : CanLoad words vertices₀ 
         let r = fill-room (vertexRecord (recordSize words)) VCore (load words .vseq) part (state h vertices edges) at t (omega arith) in (
           omega (arith, r, size),
           omega (arith, r, size, size-range (recordSize words) (record-size words) .0),
-          can-vertex (recordSize words) (k .bounds) (load words) (f .formed) (f .within) (most-vertices words vertices₀ edges₀ k) part (state h vertices edges) at (sized-by words vertices₀ edges₀ k h vertices edges p q) t,
+          can-vertex (recordSize words) (k .bounds) (load words) (f .formed) (f .within) (most-vertices words vertices₀ edges₀ k) part (state h vertices edges) at
+              (sized-by words vertices₀ edges₀ k h vertices edges p q) t,
         )
 
     pub vertex-next : (s′ : State) → s′ ≡ vertexS part at (state h vertices edges) → Fill (vertexRecord (recordSize words)) VCore (load words .vseq) part s′ (at + recordSize words)
@@ -208,7 +211,8 @@ module _ (words vertices₀ edges₀ : List ℕ) (k : CanLoad words vertices₀ 
         let f = given words vertices₀ edges₀ k in
         fill-next (vertexRecord (recordSize words)) VCore (load words .vseq) part (state h vertices edges) at t (recordSize words) size s′ (
         subst (λ (r : State). VCore r (t .past ++ t .here ∷ [])) (sym e)
-        (next-vertex (recordSize words) (k .bounds) (load words) (f .formed) (f .within) (most-vertices words vertices₀ edges₀ k) part (state h vertices edges) at (sized-by words vertices₀ edges₀ k h vertices edges p q) t)
+        (next-vertex (recordSize words) (k .bounds) (load words) (f .formed) (f .within) (most-vertices words vertices₀ edges₀ k) part (state h vertices edges) at
+        (sized-by words vertices₀ edges₀ k h vertices edges p q) t)
         )
 
   module _ (vs : List Vertex) (t : Turn edgeRecord (ECore vs) (load words .eseq) part (state h vertices edges) at) where
@@ -216,7 +220,8 @@ module _ (words vertices₀ edges₀ : List ℕ) (k : CanLoad words vertices₀ 
     edge-can =
         let f = given words vertices₀ edges₀ k in (
           fill-room edgeRecord (ECore vs) (load words .eseq) part (state h vertices edges) at t (omega arith),
-          can-edge (k .bounds) (load words) (f .formed) (f .within) (most-edges words vertices₀ edges₀ k) vs part (state h vertices edges) at (sized-by words vertices₀ edges₀ k h vertices edges p q) t,
+          can-edge (k .bounds) (load words) (f .formed) (f .within) (most-edges words vertices₀ edges₀ k) vs part (state h vertices edges) at
+              (sized-by words vertices₀ edges₀ k h vertices edges p q) t,
         )
 
     pub edge-next : (s′ : State) → s′ ≡ edgeS part at (state h vertices edges) → Fill edgeRecord (ECore vs) (load words .eseq) part s′ (at + 6)
@@ -224,7 +229,8 @@ module _ (words vertices₀ edges₀ : List ℕ) (k : CanLoad words vertices₀ 
         let f = given words vertices₀ edges₀ k in
         fill-next edgeRecord (ECore vs) (load words .eseq) part (state h vertices edges) at t 6 refl s′ (
         subst (λ (r : State). ECore vs r (t .past ++ t .here ∷ [])) (sym e)
-        (next-edge (k .bounds) (load words) (f .formed) (f .within) (most-edges words vertices₀ edges₀ k) vs part (state h vertices edges) at (sized-by words vertices₀ edges₀ k h vertices edges p q) t)
+        (next-edge (k .bounds) (load words) (f .formed) (f .within) (most-edges words vertices₀ edges₀ k) vs part (state h vertices edges) at
+        (sized-by words vertices₀ edges₀ k h vertices edges p q) t)
         )
 
 -- ---- for callers: the step of `edge`
@@ -235,4 +241,5 @@ pub edge-did : (part : List ℕ) (at : ℕ) (h : Head) (vertices edges : List �
     t₃ ≡ thisET (getD part at 0) (getD part (at + 1) 0) (getD part (at + 2) 0) t₂ →
     state (countE (h .edges + 1) (withEdgeEnds o h)) vertices t₃ ≡ edgeS part at (state h vertices edges)
 unfolding edgeS
-edge-did part at h vertices edges p q r = edge-placed h vertices edges (getD part at 0) (getD part (at + 1) 0) (getD part (at + 2) 0) (getD part (at + 3) 0) (readingOf (getD part (at + 4) 0) (getD part (at + 5) 0)) (h .elast) p q r
+edge-did part at h vertices edges p q r = edge-placed h vertices edges (getD part at 0) (getD part (at + 1) 0) (getD part (at + 2) 0) (getD part (at + 3) 0)
+    (readingOf (getD part (at + 4) 0) (getD part (at + 5) 0)) (h .elast) p q r

@@ -46,7 +46,8 @@ imageOf s =
 module _ (s : State) (g : Graph) (h : Holds s g) where
   vertex-part : vertexPartOf (s .head) (s .vertices) (s .edges) ≡ concatMap (vertexRecord vertexSize) (g .vseq)
   unfolding vertexPartOf graphOf
-  vertex-part = each-map (vertexRecord vertexSize) (vertexAt s) (nodes vertexLinks (s .vertices) (vertexListEnds (s .head))) ∙ ap (λ (x : Graph). concatMap (vertexRecord vertexSize) (x .vseq)) (graph-is s g h)
+  vertex-part = each-map (vertexRecord vertexSize) (vertexAt s) (nodes vertexLinks (s .vertices) (vertexListEnds (s .head)))
+      ∙ ap (λ (x : Graph). concatMap (vertexRecord vertexSize) (x .vseq)) (graph-is s g h)
 
   -- a row has the words of its reading
   AsRead : ℕ → Type 0
@@ -72,7 +73,8 @@ module _ (s : State) (g : Graph) (h : Holds s g) where
 
   edge-part : edgePartOf (s .head) (s .edges) ≡ concatMap edgeRecord (g .eseq)
   unfolding edgePartOf graphOf
-  edge-part = each-same (edgeWords (s .edges)) (λ e. edgeRecord (edgeAt s e)) edge-words (nodes edgeLinks (s .edges) (edgeListEnds (s .head))) ∙ each-map edgeRecord (edgeAt s) (nodes edgeLinks (s .edges) (edgeListEnds (s .head))) ∙ ap (λ (x : Graph). concatMap edgeRecord (x .eseq)) (graph-is s g h)
+  edge-part = each-same (edgeWords (s .edges)) (λ e. edgeRecord (edgeAt s e)) edge-words (nodes edgeLinks (s .edges) (edgeListEnds (s .head)))
+      ∙ each-map edgeRecord (edgeAt s) (nodes edgeLinks (s .edges) (edgeListEnds (s .head))) ∙ ap (λ (x : Graph). concatMap edgeRecord (x .eseq)) (graph-is s g h)
 
   incidence-part : incidencePartOf (s .head) (s .vertices) (s .edges) ≡ concatMap incidencesOf (g .vseq)
   unfolding incidencePartOf graphOf

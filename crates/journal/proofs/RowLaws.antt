@@ -89,7 +89,18 @@ listed-words (MoveWord w v old u new) = refl
 -- the edit at a word, from the ten words there
 edit-at : (t l : List ℕ) (q : ℕ) → ((i : ℕ) → i < 10 → getD t (q + i) 0 ≡ getD l i 0) → editAt t q ≡ listed l
 edit-at t l q at =
-    rw (at 0 (omega arith), at 1 (omega arith), at 2 (omega arith), at 3 (omega arith), at 4 (omega arith), at 5 (omega arith), at 6 (omega arith), at 7 (omega arith), at 8 (omega arith), at 9 (omega arith))
+    rw (
+      at 0 (omega arith),
+      at 1 (omega arith),
+      at 2 (omega arith),
+      at 3 (omega arith),
+      at 4 (omega arith),
+      at 5 (omega arith),
+      at 6 (omega arith),
+      at 7 (omega arith),
+      at 8 (omega arith),
+      at 9 (omega arith),
+    )
 
 -- ---- words that agree below row u
 

@@ -13,7 +13,18 @@ module _ (t : List ℕ) (i j x : ℕ) where
 
   pub stamped-row : rowAt (set t (12 * i + 11) x) j ≡ rowAt t j
   unfolding rowAt
-  stamped-row = rw (other 0 (omega arith), other 1 (omega arith), other 2 (omega arith), other 3 (omega arith), other 4 (omega arith), other 5 (omega arith), other 6 (omega arith), other 7 (omega arith), other 8 (omega arith), other 9 (omega arith))
+  stamped-row = rw (
+    other 0 (omega arith),
+    other 1 (omega arith),
+    other 2 (omega arith),
+    other 3 (omega arith),
+    other 4 (omega arith),
+    other 5 (omega arith),
+    other 6 (omega arith),
+    other 7 (omega arith),
+    other 8 (omega arith),
+    other 9 (omega arith),
+  )
 
   pub stamped-cost : stepAt (set t (12 * i + 11) x) j ≡ stepAt t j
   unfolding stepAt

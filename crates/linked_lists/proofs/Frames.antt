@@ -47,7 +47,8 @@ chain-agree n p n′ p′ a (x ∷ l) b ha hl hb h =
     ((ha ∙ h .0 .0, hl .0 .1 ∙ h .0 .1), chain-agree n p n′ p′ x l b (hl .0 .0) (hl .1) hb (h .1))
 
 -- where a table agrees at a node's words, the node's links agree
-link-agree : (s : Side) (layout : LinkLayout) (t t′ : List ℕ) (e : Ends) (k : ℕ) → getD t′ (linkAddress s layout k) 0 ≡ getD t (linkAddress s layout k) 0 → linkOf s layout t′ e k ≡ linkOf s layout t e k
+link-agree : (s : Side) (layout : LinkLayout) (t t′ : List ℕ) (e : Ends) (k : ℕ) → getD t′ (linkAddress s layout k) 0 ≡ getD t (linkAddress s layout k) 0
+    → linkOf s layout t′ e k ≡ linkOf s layout t e k
 unfolding linkOf
 link-agree s layout t t′ e k h = simp h
 
@@ -130,7 +131,8 @@ pub unlink-word : (layout : LinkLayout) (t : List ℕ) (e : Ends) (x i : ℕ) �
 unlink-word layout t e x i h =
     join-other layout (linkOf backward layout t e x) (linkOf forward layout t e x) t i (h forward (linkOf backward layout t e x)) (h backward (linkOf forward layout t e x))
 
-pub insert-word : (layout : LinkLayout) (t : List ℕ) (e : Ends) (p x i : ℕ) → ((s : Side) (k : ℕ) → HasAddress layout k → i ≡ linkAddress s layout k → ⊥) → getD (insertT layout t e p x) i 0 ≡ getD t i 0
+pub insert-word : (layout : LinkLayout) (t : List ℕ) (e : Ends) (p x i : ℕ) → ((s : Side) (k : ℕ) → HasAddress layout k → i ≡ linkAddress s layout k → ⊥)
+    → getD (insertT layout t e p x) i 0 ≡ getD t i 0
 insert-word layout t e p x i h =
     join-other layout x (linkOf forward layout t e p) (joinT layout p x t) i (h forward x) (h backward (linkOf forward layout t e p)) ∙
     join-other layout p x t i (h forward p) (h backward x)

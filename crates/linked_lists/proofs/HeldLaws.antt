@@ -10,7 +10,8 @@ use Rattle.linked_lists.specs.declared.LinkLayout.{LinkLayout}
 use Rattle.linked_lists.specs.declared.Ends.{Ends}
 use Rattle.linked_lists.specs.Lists.{Fresh, All, remove, insertAfter, predOf}
 use Rattle.linked_lists.specs.Links.{ValidLayout, backward, forward, Inside, linkOf, joinT, joinE, Held, unlinkT, unlinkE, insertT, insertE, CanUnlink, CanInsert}
-use Rattle.linked_lists.proofs.ListLaws.{lastOr, headOr, Split, split, SplitAfter, split-after, remove-at, insert-at, pred-at, all-left, all-right, all-last, all-head, all-drop, all-put, all-mid, fresh-mid, fresh-last, fresh-first, fresh-left, fresh-right, distinct-left, distinct-drop, distinct-put}
+use Rattle.linked_lists.proofs.ListLaws.{lastOr, headOr, Split, split, SplitAfter, split-after, remove-at, insert-at, pred-at, all-left, all-right, all-last, all-head, all-drop}
+use Rattle.linked_lists.proofs.ListLaws.{all-put, all-mid, fresh-mid, fresh-last, fresh-first, fresh-left, fresh-right, distinct-left, distinct-drop, distinct-put}
 use Rattle.linked_lists.proofs.Chains.{cut-chain, head-link, chain-out, chain-in}
 use Rattle.linked_lists.proofs.Puts.{length-join, join-next, join-prev, join-next-other, join-prev-other}
 

@@ -51,7 +51,8 @@ unfolding linkOf putT putE
 link-apart r s layout j k v t e he hw = go (j == 0) (k == 0) (lacksAddress layout j) (lacksAddress layout k) refl refl refl refl
   where
     go : (b c b′ c′ : Bool) → (j == 0) ≡ b → (k == 0) ≡ c → lacksAddress layout j ≡ b′ → lacksAddress layout k ≡ c′ →
-        (b ⇒ endOf r (c ⇒ withEnd s v e else e) else b′ ⇒ 0 else getD (c ⇒ t else c′ ⇒ t else set t (linkAddress s layout k) v) (linkAddress r layout j) 0) ≡ (b ⇒ endOf r e else b′ ⇒ 0 else getD t (linkAddress r layout j) 0)
+        (b ⇒ endOf r (c ⇒ withEnd s v e else e) else b′ ⇒ 0 else getD (c ⇒ t else c′ ⇒ t else set t (linkAddress s layout k) v) (linkAddress r layout j) 0)
+        ≡ (b ⇒ endOf r e else b′ ⇒ 0 else getD t (linkAddress r layout j) 0)
     go true true b′ c′ h g i o = he (eqb-true j 0 h) (eqb-true k 0 g)
     go true false b′ c′ h g i o = refl
     go false true b′ c′ h g i o = refl

@@ -166,11 +166,11 @@ pub fn before(table: &[u32], layout: LinkLayout, ends: Ends, a: u32, b: u32) -> 
     ensures { λ r. ⌜ r ≡ isBefore a b (nodes layout (now (table .entry)) ends) ⌝ }
 {
     let mut x = next(table, layout, ends, a);
-    while x != 0 {
-        if x == b {
-            return true;
+    while x != b {
+        if x == 0 {
+            return false;
         }
         x = next(table, layout, ends, x);
     }
-    false
+    x != 0
 }

@@ -48,7 +48,8 @@ module _ {A : Type 0} (key : A → ℕ) where
     | differ e f ↦ simp pick-no (omega (arith, prev-in (key y) k l (omega (arith, is-no (key y) k e))))
   ]
 
-  pub ins-rem : (d : A) (q k : ℕ) (l : List A) → 1 ≤ countBy key k l → ((n : ℕ) → indicator q n + countBy key n l ≤ 1) → insertAfterBy key q (prevBy key q k l) (findBy key d k l) (removeBy key k l) ≡ l
+  pub ins-rem : (d : A) (q k : ℕ) (l : List A) → 1 ≤ countBy key k l → ((n : ℕ) → indicator q n + countBy key n l ≤ 1)
+      → insertAfterBy key q (prevBy key q k l) (findBy key d k l) (removeBy key k l) ≡ l
   ins-rem d q k [] h u = absurd (omega arith)
   ins-rem d q k (y ∷ l) h u = elim (same? (key y) k) [
     | same e f ↦ simp pick-yes (ins-same q y l)

@@ -7,7 +7,8 @@ use lib.Dec.{leb}
 use borrow.Author.Tests.{eqb-true, eqb-false, leb-false, not-false}
 use Rattle.lists.specs.Choice.{_⇒_else_, _==_, within}
 use Rattle.graph.specs.declared.Change.{Change}
-use Rattle.graph.specs.declared.Change.the-variants.{CreateVertex, DeleteVertex, CreateEdge, DeleteEdge, RetypeVertex, RetypeEdge, SetValue, SetReading, SetAlpha, SetOmega, VertexBefore, VertexAfter, EdgeBefore, EdgeAfter, WordBefore, WordAfter}
+use Rattle.graph.specs.declared.Change.the-variants.{CreateVertex, DeleteVertex, CreateEdge, DeleteEdge, RetypeVertex, RetypeEdge, SetValue, SetReading, SetAlpha, SetOmega, VertexBefore}
+use Rattle.graph.specs.declared.Change.the-variants.{VertexAfter, EdgeBefore, EdgeAfter, WordBefore, WordAfter}
 use Rattle.graph.specs.Graph.{Graph, hasVertex, hasEdge, edgeOf, this, isReading}
 use Rattle.graph.specs.WellFormed.{Bounds, WellFormed}
 use Rattle.graph.specs.Changes.{VertexThere, EdgeThere, Allowed}

@@ -60,7 +60,8 @@ use Rattle.machine.specs.Machine.{questionNumber, deedOf, answerTo, answ
 use Rattle.machine.specs.Run.{Lent, parametersOf, Limits, listRefusal, answerWords}
 use Rattle.machine.specs.Demand.{begins}
 use Rattle.machine.proofs.Graphs.{Formed, present-formed}
-use Rattle.machine.proofs.GraphBounds.{vertex-numbers-le, edge-numbers-le, alpha-le, omega-le, this-le, that-le, vertex-type-le, edge-type-le, value-lt, reading-kind-le, decimetres-le, list-words, degree-le, cost-le}
+use Rattle.machine.proofs.GraphBounds.{vertex-numbers-le, edge-numbers-le, alpha-le, omega-le, this-le, that-le, vertex-type-le, edge-type-le, value-lt, reading-kind-le}
+use Rattle.machine.proofs.GraphBounds.{decimetres-le, list-words, degree-le, cost-le}
 use Rattle.machine.proofs.Invariant.{Invariant, fresh-invariant, step-invariant, place-le, moved-le, between-le, made-le, free-le, standing-le}
 use Rattle.machine.proofs.ListRows.{passed, start-formed}
 

@@ -51,7 +51,8 @@ module _ (l : Lent) where
 
   -- 108: the number is the offset of the first bad word, which stands among the records
   pub record-number : listRefusal l ≡ 108 →
-      FirstBad (boundsIn (parametersOf l)) (l .start) (listNumber l) × (vertexOffset ≤ listNumber l) × (listNumber l < incidenceOffset (recordSize (l .start)) (vertexCount (l .start)) (edgeCount (l .start)))
+      FirstBad (boundsIn (parametersOf l)) (l .start) (listNumber l) × (vertexOffset ≤ listNumber l)
+      × (listNumber l < incidenceOffset (recordSize (l .start)) (vertexCount (l .start)) (edgeCount (l .start)))
   unfolding listNumber
   record-number e =
       let f = found 108 e (omega arith) (λ z. omega arith) in

@@ -175,7 +175,8 @@ benched-step : (w : Parameters) (m : Machine) (x : Call) → Benched m → Bench
 benched-step w m x h = let b = go (refusal w m (commandOf x) == 0) refl in record { present = b .0; earlier = b .1; places = places-step w m x (h .places) }
   where
     go : (t : Bool) → (refusal w m (commandOf x) == 0) ≡ t → Below (step w m x)
-    go true f = rw (accepted-step w m (commandOf x) f) (benched-next (deedOf w (commandOf x) m .effect) m (proper w m (commandOf x) f) (makes-benched w m (commandOf x) (h .present)) (h .present, h .earlier))
+    go true f = rw (accepted-step w m (commandOf x) f) (benched-next (deedOf w (commandOf x) m .effect) m (proper w m (commandOf x) f) (makes-benched w m (commandOf x) (h .present))
+        (h .present, h .earlier))
     go false f = rw (refused-step w m (commandOf x) f) (h .present, h .earlier)
 
 benched-last : {m n : Machine} {es : List Event} → Reached m es n → Benched m → Benched n

@@ -89,15 +89,27 @@ demand-1 l T f = record {
   either = list-either l;
   refusal = λ k h. let e = list-code-given l k .1 h in (refused-is l k e, f (λ z. omega (arith, e, z)));
   answered = λ h.
-      let d = demand-3 l (not-refused l h) in
-      (d .code, d .done, (answers (parametersOf l) (begins l) (callsOf (l .calls)), d .answered, each (ByTable (parametersOf l)) (parametersOf l) (by-table (parametersOf l)) (begins l) (callsOf (l .calls))));
+      let d = demand-3 l (not-refused l h) in (
+        d .code,
+        d .done,
+        (
+          answers (parametersOf l) (begins l) (callsOf (l .calls)),
+          d .answered,
+          each (ByTable (parametersOf l)) (parametersOf l) (by-table (parametersOf l)) (begins l)
+              (callsOf (l .calls)),
+        ),
+      );
 }
 
 -- the words of the calls have 32 bits, as those of every slice that is lent
 pub demand-2 : (l : Lent) → All Word (l .calls) → Demand2 l (run l)
 demand-2 l fits = record {
-  answered = λ h.
-      (answers (parametersOf l) (begins l) (callsOf (l .calls)), demand-3 l (not-refused l h) .answered, each (OfTheGraph (parametersOf l)) (parametersOf l) (of-the-graph (parametersOf l)) (begins l) (callsOf (l .calls)));
+  answered = λ h. (
+    answers (parametersOf l) (begins l) (callsOf (l .calls)),
+    demand-3 l (not-refused l h) .answered,
+    each (OfTheGraph (parametersOf l)) (parametersOf l) (of-the-graph (parametersOf l))
+        (begins l) (callsOf (l .calls)),
+  );
   starts = λ h. let d = loaded (boundsIn (parametersOf l)) (l .start) (passed l (not-refused l h) .start-loads) in (d .formed, d .saves);
   refuses = λ o g h s.
       ⊎-elim (λ e. unsaved l 105 e (omega arith) (λ z. omega arith) g h s)

@@ -12,7 +12,8 @@ use Rattle.lists.specs.Lists.{All, done, more}
 use Rattle.lists.proofs.Bools.{ft}
 use Rattle.lists.proofs.Sums.{all-bool}
 use Rattle.graph.specs.declared.Change.{Change}
-use Rattle.graph.specs.declared.Change.the-variants.{CreateVertex, DeleteVertex, CreateEdge, DeleteEdge, RetypeVertex, RetypeEdge, SetValue, SetReading, SetAlpha, SetOmega, VertexBefore, VertexAfter, EdgeBefore, EdgeAfter, WordBefore, WordAfter}
+use Rattle.graph.specs.declared.Change.the-variants.{CreateVertex, DeleteVertex, CreateEdge, DeleteEdge, RetypeVertex, RetypeEdge, SetValue, SetReading, SetAlpha, SetOmega, VertexBefore}
+use Rattle.graph.specs.declared.Change.the-variants.{VertexAfter, EdgeBefore, EdgeAfter, WordBefore, WordAfter}
 use Rattle.graph.specs.Changes.{cost}
 use Rattle.graph.specs.Same.{alters}
 use Rattle.history.specs.Machine.{Step, stepOf, Machine, present}
@@ -21,7 +22,8 @@ use Rattle.machine.specs.Rules.{Effect, steps, marks, unmarks, goes, nam
 use Rattle.commands.specs.declared.HistoryCall.{HistoryCall}
 use Rattle.commands.specs.declared.HistoryCall.the-variants.{SetMark, DropMark, Undo, Redo, GoTo, Commit, Between, Standing, Free, NameMark, GoToName, SetBench, MadeBy}
 use Rattle.commands.specs.declared.Question.{Question}
-use Rattle.commands.specs.declared.Question.the-variants.{FirstVertex, NextVertex, FirstEdge, NextEdge, FirstWord, NextWord, Alpha, Omega, This, That, VertexType, EdgeType, Value, ReadingKind, Decimetres, Degree, VertexOrder, EdgeOrder, WordOrder, Below}
+use Rattle.commands.specs.declared.Question.the-variants.{FirstVertex, NextVertex, FirstEdge, NextEdge, FirstWord, NextWord, Alpha, Omega, This, That, VertexType, EdgeType, Value}
+use Rattle.commands.specs.declared.Question.the-variants.{ReadingKind, Decimetres, Degree, VertexOrder, EdgeOrder, WordOrder, Below}
 use Rattle.commands.specs.declared.PriceCall.{PriceCall}
 use Rattle.commands.specs.declared.PriceCall.the-variants.{Range, Grade}
 use Rattle.commands.specs.declared.Command.the-variants.{Alter, History, Ask, Quote}
@@ -77,7 +79,8 @@ module _ (w : Parameters) (m : Machine) where
   unfolding refusal
   change-refusal c =
       let t = chartTable (boundsIn w) (present m) (changeCall c) in
-      lowest-both t (historyTable (w .changes) m (changeCall c) ++ (lastTable (present m) (changeCall c) ++ laterTable m (changeCall c))) (all-bool (λ (r : Row). leb 1 (r .code)) (λ r e. leb-true 1 (r .code) e) t refl)
+      lowest-both t (historyTable (w .changes) m (changeCall c) ++ (lastTable (present m) (changeCall c) ++ laterTable m (changeCall c)))
+      (all-bool (λ (r : Row). leb 1 (r .code)) (λ r e. leb-true 1 (r .code) e) t refl)
       ∙ ap (firstCode (lowest t)) (room-only c)
 
   -- what an accepted change has passed

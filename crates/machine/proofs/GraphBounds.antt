@@ -15,7 +15,8 @@ use Rattle.lists.proofs.KeyedLaws.{find-none}
 use Rattle.lists.proofs.Firsts.{distinct-firsts}
 use Rattle.lists.proofs.Members.{all-counted, counted-all, all-firsts, all-keys, keep-length}
 use Rattle.graph.specs.declared.Change.{Change}
-use Rattle.graph.specs.Graph.{Vertex, Edge, Graph, vertexNumber, edgeNumber, noVertex, noEdge, edgeIn, vertex, edge, vertexNumbers, edgeNumbers, outWord, inWord, edgeOf, this, that, thisIn, listOf, readingKind, decimetres}
+use Rattle.graph.specs.Graph.{Vertex, Edge, Graph, vertexNumber, edgeNumber, noVertex, noEdge, edgeIn, vertex, edge, vertexNumbers, edgeNumbers, outWord, inWord, edgeOf, this, that, thisIn}
+use Rattle.graph.specs.Graph.{listOf, readingKind, decimetres}
 use Rattle.graph.specs.WellFormed.{Bounds, wellFormed, WellFormed, VertexIn, EdgeIn, Within}
 use Rattle.graph.specs.Changes.{edgesAt, cost}
 use Rattle.graph.specs.Questions.{onSide, degree}

@@ -63,7 +63,8 @@ makes-formed : (w : Parameters) (m : Machine) (c : Command) → CommandFits c �
 unfolding stepOf
 makes-formed w m (Alter c) f a e =
     let p = present-formed w m a in
-    change-effect (Makes (λ s. Formed w (s .graph))) c m (λ _. change-keeps (boundsIn w) (present m) c p (allows (boundsIn w) (present m) (to-facts (boundsIn w) (present m) p .0) c f (change-passed w m c e .0))) tt
+    change-effect (Makes (λ s. Formed w (s .graph))) c m
+    (λ _. change-keeps (boundsIn w) (present m) c p (allows (boundsIn w) (present m) (to-facts (boundsIn w) (present m) p .0) c f (change-passed w m c e .0))) tt
 makes-formed w m (History h) f a e = history-makes (λ s. Formed w (s .graph)) (w .changes) h m
 makes-formed w m (Ask q) f a e = tt
 makes-formed w m (Quote p) f a e = tt

@@ -126,7 +126,8 @@ module _ (w : Parameters) (m : Machine) (c : Command) where
   none-given = (none-to (codeTable w m (callOf c)) (coded w m (callOf c)), none-from)
 
 -- what row 10 says of a change
-pub no-room : (w : Parameters) (m : Machine) (x : Call) → isChange (x .kind) ≡ true → (noRoom (w .changes) m x ≡ true) ↔ ((free w m < cost (changeOf x) (present m)) × (alters (changeOf x) (present m) ≡ true))
+pub no-room : (w : Parameters) (m : Machine) (x : Call) → isChange (x .kind) ≡ true
+    → (noRoom (w .changes) m x ≡ true) ↔ ((free w m < cost (changeOf x) (present m)) × (alters (changeOf x) (present m) ≡ true))
 unfolding free
 no-room w m x k =
     rw k (λ e. let q = and-true _ _ e in (ltb-true _ _ (q .0), q .1), λ h. rw (lt-ltb _ _ (h .0), h .1))

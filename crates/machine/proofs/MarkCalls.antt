@@ -143,15 +143,47 @@ module _ (w : Parameters) (m : Machine) (k q : ℕ) (x : Call) where
 
   history-kind : x .kind ≤ 22 → 17 ≤ x .kind → ByKind w m k q x
   unfolding commandOf
-  history-kind top = next 17 (refl, refl, refl, λ n. refl, λ b. refl, λ b bs. refl) (next 18 (refl, refl, refl, λ n. refl, λ b. refl, λ b bs. refl) (next 19 (refl, refl, refl, λ n. refl, λ b. refl, λ b bs. refl) (next 20 (refl, refl, refl, λ n. refl, λ b. refl, λ b bs. refl) (next 21 (refl, refl, refl, λ n. refl, λ b. refl, λ b bs. refl) (next 22 (refl, refl, refl, λ n. refl, λ b. refl, λ b bs. refl) (λ h. absurd (omega arith)))))))
+  history-kind top =
+      next 17 (refl, refl, refl, λ n. refl, λ b. refl, λ b bs. refl)
+      (next 18 (refl, refl, refl, λ n. refl, λ b. refl, λ b bs. refl)
+      (next 19 (refl, refl, refl, λ n. refl, λ b. refl, λ b bs. refl)
+      (next 20 (refl, refl, refl, λ n. refl, λ b. refl, λ b bs. refl)
+      (next 21 (refl, refl, refl, λ n. refl, λ b. refl, λ b bs. refl) (next 22 (refl, refl, refl, λ n. refl, λ b. refl, λ b bs. refl) (λ h. absurd (omega arith)))))))
 
   late-kind : x .kind ≤ 54 → 30 ≤ x .kind → ByKind w m k q x
   unfolding commandOf
-  late-kind top = next 30 (refl, refl, refl, λ n. refl, λ b. refl, λ b bs. refl) (next 31 (refl, refl, refl, λ n. refl, λ b. refl, λ b bs. refl) (next 32 (refl, refl, refl, λ n. refl, λ b. refl, λ b bs. refl) (next 33 (refl, refl, refl, λ n. refl, λ b. refl, λ b bs. refl) (next 34 (refl, refl, refl, λ n. refl, λ b. refl, λ b bs. refl) (next 35 (refl, refl, refl, λ n. refl, λ b. refl, λ b bs. refl) (next 36 (refl, refl, refl, λ n. refl, λ b. refl, λ b bs. refl) (next 37 (refl, refl, refl, λ n. refl, λ b. refl, λ b bs. refl) (next 38 (refl, refl, refl, λ n. refl, λ b. refl, λ b bs. refl) (next 39 (refl, refl, refl, λ n. refl, λ b. refl, λ b bs. refl) (next 40 (refl, refl, refl, λ n. refl, λ b. refl, λ b bs. refl) (next 41 (refl, refl, refl, λ n. refl, λ b. refl, λ b bs. refl) (next 42 (refl, refl, refl, λ n. refl, λ b. refl, λ b bs. refl) (next 43 (refl, refl, refl, λ n. refl, λ b. refl, λ b bs. refl) (next 44 (refl, refl, refl, λ n. refl, λ b. refl, λ b bs. refl) (next 45 (refl, refl, refl, λ n. refl, λ b. refl, λ b bs. refl) (next 46 (refl, refl, refl, λ n. refl, λ b. refl, λ b bs. refl) (next 47 (refl, refl, refl, λ n. refl, λ b. refl, λ b bs. refl) (next 48 (refl, refl, refl, λ n. refl, λ b. refl, λ b bs. refl) (next 49 (refl, refl, refl, λ n. refl, λ b. refl, λ b bs. refl) (next 50 (refl, refl, refl, λ n. refl, λ b. refl, λ b bs. refl) (next 51 (refl, refl, refl, λ n. refl, λ b. refl, λ b bs. refl) (next 52 (refl, refl, refl, λ n. refl, λ b. refl, λ b bs. refl) (next 53 (refl, refl, refl, λ n. refl, λ b. refl, λ b bs. refl) (next 54 (refl, refl, refl, λ n. refl, λ b. refl, λ b bs. refl) (λ h. absurd (omega arith))))))))))))))))))))))))))
+  late-kind top =
+      next 30 (refl, refl, refl, λ n. refl, λ b. refl, λ b bs. refl)
+      (next 31 (refl, refl, refl, λ n. refl, λ b. refl, λ b bs. refl)
+      (next 32 (refl, refl, refl, λ n. refl, λ b. refl, λ b bs. refl)
+      (next 33 (refl, refl, refl, λ n. refl, λ b. refl, λ b bs. refl)
+      (next 34 (refl, refl, refl, λ n. refl, λ b. refl, λ b bs. refl)
+      (next 35 (refl, refl, refl, λ n. refl, λ b. refl, λ b bs. refl)
+      (next 36 (refl, refl, refl, λ n. refl, λ b. refl, λ b bs. refl)
+      (next 37 (refl, refl, refl, λ n. refl, λ b. refl, λ b bs. refl)
+      (next 38 (refl, refl, refl, λ n. refl, λ b. refl, λ b bs. refl)
+      (next 39 (refl, refl, refl, λ n. refl, λ b. refl, λ b bs. refl)
+      (next 40 (refl, refl, refl, λ n. refl, λ b. refl, λ b bs. refl)
+      (next 41 (refl, refl, refl, λ n. refl, λ b. refl, λ b bs. refl)
+      (next 42 (refl, refl, refl, λ n. refl, λ b. refl, λ b bs. refl)
+      (next 43 (refl, refl, refl, λ n. refl, λ b. refl, λ b bs. refl)
+      (next 44 (refl, refl, refl, λ n. refl, λ b. refl, λ b bs. refl)
+      (next 45 (refl, refl, refl, λ n. refl, λ b. refl, λ b bs. refl)
+      (next 46 (refl, refl, refl, λ n. refl, λ b. refl, λ b bs. refl)
+      (next 47 (refl, refl, refl, λ n. refl, λ b. refl, λ b bs. refl)
+      (next 48 (refl, refl, refl, λ n. refl, λ b. refl, λ b bs. refl)
+      (next 49 (refl, refl, refl, λ n. refl, λ b. refl, λ b bs. refl)
+      (next 50 (refl, refl, refl, λ n. refl, λ b. refl, λ b bs. refl)
+      (next 51 (refl, refl, refl, λ n. refl, λ b. refl, λ b bs. refl)
+      (next 52 (refl, refl, refl, λ n. refl, λ b. refl, λ b bs. refl)
+      (next 53 (refl, refl, refl, λ n. refl, λ b. refl, λ b bs. refl) (next 54 (refl, refl, refl, λ n. refl, λ b. refl, λ b bs. refl) (λ h. absurd (omega arith))))))))))))))))))))))))))
 
   latest-kind : x .kind ≤ 59 → 56 ≤ x .kind → ByKind w m k q x
   unfolding commandOf
-  latest-kind top = next 56 (refl, refl, refl, λ n. refl, λ b. refl, λ b bs. refl) (next 57 (refl, refl, refl, λ n. refl, λ b. refl, λ b bs. refl) (next 58 (refl, refl, refl, λ n. refl, λ b. refl, λ b bs. refl) (next 59 (refl, refl, refl, λ n. refl, λ b. refl, λ b bs. refl) (λ h. absurd (omega arith)))))
+  latest-kind top =
+      next 56 (refl, refl, refl, λ n. refl, λ b. refl, λ b bs. refl)
+      (next 57 (refl, refl, refl, λ n. refl, λ b. refl, λ b bs. refl)
+      (next 58 (refl, refl, refl, λ n. refl, λ b. refl, λ b bs. refl) (next 59 (refl, refl, refl, λ n. refl, λ b. refl, λ b bs. refl) (λ h. absurd (omega arith)))))
 
   -- a kind that is not named
   other-kind : known (x .kind) ≡ false → ByKind w m k q x
@@ -160,7 +192,8 @@ module _ (w : Parameters) (m : Machine) (k q : ℕ) (x : Call) where
       unlike : (n : ℕ) → known n ≡ true → x .kind ≢ n
       unlike n h i = tf (sym h ∙ sym (ap known i) ∙ e)
 
-      quiet : (t : Bool) → (x .kind == 0) ≡ t → (callSets k x ≡ false) × (callEnds k q (m .line .place) 0 x ≡ false) × (callNames k x ≡ false) × ((n : Name) → callGives k n x ≡ false) × ((b : ℕ) → ((x .kind == 58) ⇒ x .a else b) ≡ b) × ((b : ℕ) (bs : List ℕ) → callSigns b (m .line .place) 0 x bs ≡ bs)
+      quiet : (t : Bool) → (x .kind == 0) ≡ t → (callSets k x ≡ false) × (callEnds k q (m .line .place) 0 x ≡ false) × (callNames k x ≡ false) × ((n : Name) → callGives k n x ≡ false)
+          × ((b : ℕ) → ((x .kind == 58) ⇒ x .a else b) ≡ b) × ((b : ℕ) (bs : List ℕ) → callSigns b (m .line .place) 0 x bs ≡ bs)
       quiet true z =
           let i = eqb-true (x .kind) 0 z in (
             rw (ne-eqb (x .kind) 17 (omega (arith, i))),
@@ -172,7 +205,10 @@ module _ (w : Parameters) (m : Machine) (k q : ℕ) (x : Call) where
           )
       quiet false z =
           let i = eqb-false (x .kind) 0 z in
-          let j : 22 < x .kind = leb-false (x .kind) 22 (sym (ap (λ (t : Bool). t && leb (x .kind) 22) (le-leb 1 (x .kind) (omega arith))) ∙ or-none (within 1 22 (x .kind)) (within 30 54 (x .kind) || within 56 59 (x .kind)) e .0) in (
+          let j : 22 < x .kind =
+          leb-false (x .kind) 22
+          (sym (ap (λ (t : Bool). t && leb (x .kind) 22) (le-leb 1 (x .kind) (omega arith))) ∙ or-none (within 1 22 (x .kind)) (within 30 54 (x .kind) || within 56 59 (x .kind))
+          e .0) in (
             rw (ne-eqb (x .kind) 17 (omega arith)),
             rw (ne-eqb 17 (x .kind) (omega arith), ne-eqb 18 (x .kind) (omega arith), ne-eqb (x .kind) 22 (omega arith), le-leb 1 (x .kind) (omega arith), lt-leb (x .kind) 16 (omega arith)),
             rw (ne-eqb (x .kind) 56 (unlike 56 refl)),

@@ -191,7 +191,8 @@ holds-ends w m x k q g h i e = go (refusal w m (commandOf x) == 0) refl
     go : (t : Bool) → (refusal w m (commandOf x) == 0) ≡ t → Holds (step w m x) q g
     go true f =
         rw (accepted-step w m (commandOf x) f)
-        (holds-next (deedOf w (commandOf x) m .effect) m q g h i (ends-loses (deedOf w (commandOf x) m .effect) k q (m .line .place) (rw (code-is w m (commandOf x) true f) at (sym (ends-is w m k q x) ∙ e))))
+        (holds-next (deedOf w (commandOf x) m .effect) m q g h i
+        (ends-loses (deedOf w (commandOf x) m .effect) k q (m .line .place) (rw (code-is w m (commandOf x) true f) at (sym (ends-is w m k q x) ∙ e))))
     go false f = rw (refused-step w m (commandOf x) f) i
 
 holds-sets : (w : Parameters) (m : Machine) (x : Call) (k q : ℕ) (g : Graph) → PlacesInRange m → Holds m q g →

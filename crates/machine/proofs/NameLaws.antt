@@ -308,7 +308,8 @@ step-to w m x k q n r a e = go (refusal w m (commandOf x) == 0) refl
     one (inr h) f = inr (h .0, neither (ends-is w m k q x ∙ rw f (h .1)) (renames-is w m k q x ∙ rw f (h .2)))
 
     go : (t : Bool) → (refusal w m (commandOf x) == 0) ≡ t → AfterCall w m x k q n
-    go true f = one (name-to (deedOf w (commandOf x) m .effect) m k q n r (rw (accepted-step w m (commandOf x) f) at a) (rw (accepted-step w m (commandOf x) f) at e)) (code-is w m (commandOf x) true f)
+    go true f = one (name-to (deedOf w (commandOf x) m .effect) m k q n r (rw (accepted-step w m (commandOf x) f) at a) (rw (accepted-step w m (commandOf x) f) at e))
+        (code-is w m (commandOf x) true f)
     go false f = inr (rw (refused-step w m (commandOf x) f) at e, rw (code-is w m (commandOf x) false f))
 
 step-from : (w : Parameters) (m : Machine) (x : Call) (k q : ℕ) (n : Name) → step w m x .marks k ≡ at q → AfterCall w m x k q n → step w m x .names k ≡ n
@@ -428,7 +429,8 @@ by-command : (n : Name) (c d : ℕ) → commandOf (goBy n c d) ≡ History (GoTo
 unfolding commandOf
 by-command n c d = refl
 
-by-code : (w : Parameters) (m : Machine) (n : Name) → refusal w m (History (GoToName (n .first) (n .second))) ≡ (tooFar (w .changes) m (placeOf m (holderOf n m)) ⇒ 10 else (holderOf n m == 0) ⇒ 19 else 0)
+by-code : (w : Parameters) (m : Machine) (n : Name) → refusal w m (History (GoToName (n .first) (n .second)))
+    ≡ (tooFar (w .changes) m (placeOf m (holderOf n m)) ⇒ 10 else (holderOf n m == 0) ⇒ 19 else 0)
 unfolding refusal
 by-code w m n = refl
 

@@ -84,11 +84,15 @@ module _ (w : Parameters) (m : Machine) (x : Call) where
 
   early : x .kind ≤ 22 → 1 ≤ x .kind → OnWords w m x
   unfolding refusal commandOf
-  early top = next 1 refl (next 2 refl (next 3 refl (next 4 refl (next 5 refl (next 6 refl (next 7 refl (next 8 refl (next 9 refl (next 10 refl (next 11 refl (next 12 refl (next 13 refl (next 14 refl (next 15 refl (next 16 refl (next 17 refl (next 18 refl (next 19 refl (next 20 refl (next 21 refl (next 22 refl (λ h. absurd (omega arith)))))))))))))))))))))))
+  early top = next 1 refl (next 2 refl (next 3 refl (next 4 refl (next 5 refl (next 6 refl (next 7 refl (next 8 refl (next 9 refl (next 10 refl
+      (next 11 refl (next 12 refl (next 13 refl (next 14 refl (next 15 refl (next 16 refl (next 17 refl (next 18 refl (next 19 refl (next 20 refl
+      (next 21 refl (next 22 refl (λ h. absurd (omega arith)))))))))))))))))))))))
 
   late : x .kind ≤ 54 → 30 ≤ x .kind → OnWords w m x
   unfolding refusal commandOf
-  late top = next 30 refl (next 31 refl (next 32 refl (next 33 refl (next 34 refl (next 35 refl (next 36 refl (next 37 refl (next 38 refl (next 39 refl (next 40 refl (next 41 refl (next 42 refl (next 43 refl (next 44 refl (next 45 refl (next 46 refl (next 47 refl (next 48 refl (next 49 refl (next 50 refl (next 51 refl (next 52 refl (next 53 refl (next 54 refl (λ h. absurd (omega arith))))))))))))))))))))))))))
+  late top = next 30 refl (next 31 refl (next 32 refl (next 33 refl (next 34 refl (next 35 refl (next 36 refl (next 37 refl (next 38 refl
+      (next 39 refl (next 40 refl (next 41 refl (next 42 refl (next 43 refl (next 44 refl (next 45 refl (next 46 refl (next 47 refl (next 48 refl
+      (next 49 refl (next 50 refl (next 51 refl (next 52 refl (next 53 refl (next 54 refl (λ h. absurd (omega arith))))))))))))))))))))))))))
 
   latest : x .kind ≤ 59 → 56 ≤ x .kind → OnWords w m x
   unfolding refusal commandOf

@@ -30,7 +30,8 @@ use Rattle.machine.specs.Machine.{answer, answers, step, last}
 use Rattle.machine.specs.Run.{Lent, parametersOf, numberBeside, answerWords, listRefusal, listNumber, accepted, refused, run}
 use Rattle.machine.specs.Posed.{roomed}
 use Rattle.machine.specs.Stores.{Stores, StoreCall, storeCallsOf, spentBy, jointRoom, isStore, answerIn, stepIn, answersIn, lastIn}
-use Rattle.machine.specs.StoreRun.{parametersIn, statedLength, startOf, startsCode, startsOffset, storesRefusal, storesNumber, opened, afterIn, imagesOf, images, overParts, acceptedIn, runIn, NoneBehind, toStore1, asOne}
+use Rattle.machine.specs.StoreRun.{parametersIn, statedLength, startOf, startsCode, startsOffset, storesRefusal, storesNumber, opened, afterIn, imagesOf, images, overParts, acceptedIn}
+use Rattle.machine.specs.StoreRun.{runIn, NoneBehind, toStore1, asOne}
 use Rattle.machine.proofs.CostsFit.{CostsFit, costs-fit-fresh, costs-fit-step}
 use Rattle.machine.proofs.ListRows.{passed}
 use Rattle.machine.proofs.OneStart.{stated, behind, no-number, cut, whole, start-one, offset-one, left, left-code, left-offset}

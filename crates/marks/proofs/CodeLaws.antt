@@ -142,7 +142,8 @@ module _ (set : ℕ) (words : List ℕ) (a : ℕ) (n : Name) where
   pub name-stands : (code : ℕ) → code ≡ standingCode set a → code ≢ 0 → code ≡ nameCode set words a n
   name-stands code e z = e ∙ go (noMark a) (inSet set a) (λ i. z (e ∙ i))
     where
-      go : (s t : Bool) → _≢_ {A = ℕ} (s ⇒ 11 else not t ⇒ 13 else 0) 0 → _≡_ {A = ℕ} (s ⇒ 11 else not t ⇒ 13 else 0) (s ⇒ 11 else not t ⇒ 13 else (not (isName n) || not (holderIn set words a n == 0)) ⇒ 18 else 0)
+      go : (s t : Bool) → _≢_ {A = ℕ} (s ⇒ 11 else not t ⇒ 13 else 0) 0
+          → _≡_ {A = ℕ} (s ⇒ 11 else not t ⇒ 13 else 0) (s ⇒ 11 else not t ⇒ 13 else (not (isName n) || not (holderIn set words a n == 0)) ⇒ 18 else 0)
       go true t h = refl
       go false false h = refl
       go false true h = absurd (h refl)

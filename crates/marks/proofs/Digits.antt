@@ -5,11 +5,11 @@ use mathlib.Core.Path.{_≡_, refl, sym, ap, subst, _∙_}
 use mathlib.Core.Logic.{_≢_}
 use mathlib.Core.List.{List, [], _∷_, _++_}
 use native.Mathlib.Omega.{arith}
-use native.Mathlib.Nat.{div-div-eq-div-mul, div-eq-of-lt, zero-div, pow-suc, mul-comm, one-mul, mod-eq-of-lt}
+use native.Mathlib.Nat.{div-div-eq-div-mul, div-eq-of-lt, div-one, zero-div, pow-suc, pow-zero, mul-comm, one-mul, mod-eq-of-lt}
 use borrow.Author.Tests.{eq-eqb, ne-eqb}
 use lib.Pow.{pow-lt, pow-add, shr-shr}
 use lib.Bits.{bitAnd, bitOr, bitXor, and-high, or-add-and, xor-add-and}
-use lib.Count.{ones, ones-step}
+use lib.Count.{ones, ones-step, trailingZeros, under}
 use lib.ListN.{length}
 use Rattle.lists.specs.Choice.{_==_, _⇒_else_, toBit}
 use Rattle.lists.specs.Lists.{filter, range}
@@ -74,6 +74,43 @@ pub digit-past : (s a i : ℕ) → s / 2 ^ a ≡ 0 → a ≤ i → s / 2 ^ i ≡
 digit-past s a i e h =
     let f : a + (i - a) ≡ i = omega arith in
     ap (λ (x : ℕ). s / 2 ^ x) (sym f) ∙ sym (shr-shr s a (i - a)) ∙ ap (λ (x : ℕ). x / 2 ^ (i - a)) e ∙ zero-div (2 ^ (i - a))
+
+-- ---- the lowest one
+
+-- a number that is not 0 has its lowest one among its digits, and zeros below it
+pub record Lowest (d n z : ℕ) : Type 0 where
+  pub inside : z < d
+  pub one : n / 2 ^ z % 2 ≡ 1
+  pub below : (j : ℕ) → j < z → n / 2 ^ j % 2 ≡ 0
+
+pub lowest : (d n : ℕ) → n ≢ 0 → n < 2 ^ d → Lowest d n (trailingZeros d n)
+unfolding trailingZeros
+lowest zero n h l = absurd (h (omega (arith, subst (λ (x : ℕ). n < x) (pow-zero 2) l)))
+lowest (suc d) n h l = go (n % 2) refl (λ (e : n % 2 ≡ 0). lowest d (n / 2) (λ z. h (omega (arith, e))) (omega (arith, l, pow-suc 2 d)))
+  where
+    half-of : (i : ℕ) → n / 2 ^ suc i ≡ n / 2 / 2 ^ i
+    half-of i =
+        let c : 2 ^ suc i ≡ 2 * 2 ^ i = pow-suc 2 i ∙ mul-comm (2 ^ i) 2 in
+        ap (λ (x : ℕ). n / x) c ∙ sym (div-div-eq-div-mul n 2 (2 ^ i))
+
+    even : n % 2 ≡ 0 → Lowest d (n / 2) (trailingZeros d (n / 2)) → Lowest (suc d) n (suc (trailingZeros d (n / 2)))
+    even e r = record {
+      inside = omega (arith, r .inside);
+      one = ap (λ (x : ℕ). x % 2) (half-of (trailingZeros d (n / 2))) ∙ r .one;
+      below = λ j u. under-it j u;
+    }
+      where
+        under-it : (j : ℕ) → j < suc (trailingZeros d (n / 2)) → n / 2 ^ j % 2 ≡ 0
+        under-it zero u = ap (λ (x : ℕ). n / x % 2) (pow-zero 2) ∙ ap (λ (x : ℕ). x % 2) (div-one n) ∙ e
+        under-it (suc j) u = ap (λ (x : ℕ). x % 2) (half-of j) ∙ r .below j (omega arith)
+
+    go : (r : ℕ) → n % 2 ≡ r → (n % 2 ≡ 0 → Lowest d (n / 2) (trailingZeros d (n / 2))) → Lowest (suc d) n (under r (trailingZeros d (n / 2)))
+    go zero e f = even e (f e)
+    go (suc r) e f = record {
+      inside = omega arith;
+      one = ap (λ (x : ℕ). n / x % 2) (pow-zero 2) ∙ ap (λ (x : ℕ). x % 2) (div-one n) ∙ omega (arith, e);
+      below = λ j u. absurd (omega arith);
+    }
 
 -- ---- the count of ones
 

@@ -4,11 +4,11 @@ use mathlib.Core.Bool.{Bool, true, false, not, _&&_}
 use mathlib.Core.Path.{_≡_, refl, sym, ap, _∙_}
 use mathlib.Core.Logic.{_≢_}
 use mathlib.Core.List.{List}
-use native.Mathlib.Nat.{div-eq-of-lt, div-one, pow-zero, lt-of-lt-of-le}
+use native.Mathlib.Nat.{div-eq-of-lt, div-le-self, div-one, pow-zero, lt-of-lt-of-le}
 use native.Mathlib.Omega.{arith}
-use borrow.Author.Tests.{eq-eqb, ne-eqb, eqb-true, le-leb, lt-leb, leb-false, ltb-true, ltb-false}
+use borrow.Author.Tests.{eq-eqb, ne-eqb, eqb-true, le-leb, lt-leb, leb-false, leb-true, ltb-true, ltb-false}
 use lib.Bits.{bitOr, bitXor}
-use lib.Count.{ones}
+use lib.Count.{ones, trailingZeros}
 use lib.Dec.{leb, ltb}
 use lib.Pow.{pow-mono, shr-shr}
 use lib.ListN.{length, getD, set, length-set}
@@ -18,7 +18,7 @@ use Rattle.lists.proofs.Bools.{ft, and-true, within-range}
 use Rattle.lists.proofs.Picks.{Same, same, differ, same?}
 use Rattle.history.specs.Machine.{MarkPlace, gone, at, noMarks, stands, placeOr, marked, cut, cutMarks, countStanding}
 use Rattle.marks.specs.Marked.{markWords, binary, inSet, placeIn, withMark, withoutMark, cutSet, Marked}
-use Rattle.marks.proofs.Digits.{digits-at, digits-agree, digits-more, digits-of, digit-past, ones-count, one-shl, or-bit, or-same, xor-bit}
+use Rattle.marks.proofs.Digits.{digits-at, digits-agree, digits-more, digits-of, digit-past, lowest, ones-count, one-shl, or-bit, or-same, xor-bit}
 
 -- ---- one mark is another
 
@@ -183,8 +183,46 @@ left-marks s left a h e n = elim (same? (64 - a) 0) [
   | differ u v ↦ omega arith
 ]
 
+-- the next that stands is mark a + z + 1: z zeros stand below its digit
+pub record Next (s left a z : ℕ) : Type 0 where
+  pub inside : a + z + 1 ≤ 64
+  pub rest : left / 2 ^ z ≡ s / 2 ^ (a + z)
+  pub smaller : left / 2 ^ z ≤ left
+  pub one : left / 2 ^ z % 2 ≡ 1
+  pub below : (j : ℕ) → j < z → left / 2 ^ j % 2 ≡ 0
+
+pub next-mark : (s left a : ℕ) → s < 2 ^ 64 → left ≡ s / 2 ^ a → left ≢ 0 → Next s left a (trailingZeros 64 left)
+next-mark s left a h e n =
+    let z = trailingZeros 64 left in
+    let r = lowest 64 left n (omega (arith, h, e, div-le-self s (2 ^ a))) in
+    let q : left / 2 ^ z ≡ s / 2 ^ (a + z) = ap (λ (x : ℕ). x / 2 ^ z) e ∙ shr-shr s a z in
+    let o : left / 2 ^ z ≢ 0 = λ v. omega (arith, r .one, v) in
+    record {
+      inside = omega (arith, left-marks s (left / 2 ^ z) (a + z) h q o);
+      rest = q;
+      smaller = div-le-self left (2 ^ z);
+      one = r .one;
+      below = r .below;
+    }
+
 pub left-half : (s left a n : ℕ) → left ≡ s / 2 ^ a → n ≡ a + 1 → left / 2 ≡ s / 2 ^ n
 left-half s left a n e f = ap (λ (x : ℕ). x / 2) e ∙ shr-shr s a 1 ∙ ap (λ (x : ℕ). s / 2 ^ x) (sym f)
+
+-- the marks below the next that stands are none: they count as looked at
+pub cut-skip : (s left a z p : ℕ) (places : List ℕ) → left ≡ s / 2 ^ a → ((j : ℕ) → j < z → left / 2 ^ j % 2 ≡ 0) →
+    binary 64 1 (cutTo a p places s) ≡ binary 64 1 (cutTo (a + z) p places s)
+cut-skip s left a z p places e h = digits-agree 64 1 (cutTo (a + z) p places s) (cutTo a p places s) (λ j l u. go j l (omega arith) (leb j a) refl (leb j (a + z)) refl)
+  where
+    go : (j : ℕ) → 1 ≤ j → j ≤ 64 → (t : Bool) → leb j a ≡ t → (u : Bool) → leb j (a + z) ≡ u → cutTo a p places s j ≡ cutTo (a + z) p places s j
+    go j l n true f true g = rw (f, g)
+    go j l n false f false g = rw (f, g)
+    go j l n true f false g = absurd (omega (arith, leb-true j a f, leb-false j (a + z) g))
+    go j l n false f true g =
+        let k : a + (j - 1 - a) ≡ j - 1 = omega (arith, leb-false j a f) in
+        let d : s / 2 ^ (j - 1) ≡ left / 2 ^ (j - 1 - a) =
+        ap (λ (x : ℕ). s / 2 ^ x) (sym k) ∙ sym (shr-shr s a (j - 1 - a)) ∙ ap (λ (x : ℕ). x / 2 ^ (j - 1 - a)) (sym e) in
+        let o = h (j - 1 - a) (omega (arith, leb-false j a f, leb-true j (a + z) g)) in
+        rw (in-marks j l n, d, o)
 
 -- one more is looked at
 module _ (s left a n p t t′ : ℕ) (places : List ℕ) (e : left ≡ s / 2 ^ a) (f : n ≡ a + 1) (high : n ≤ 64) (g : t ≡ binary 64 1 (cutTo a p places s)) where
@@ -215,24 +253,30 @@ module _ (s left a n p t t′ : ℕ) (places : List ℕ) (e : left ≡ s / 2 ^ a
       go j (same x y) = ap (cutTo a p places s) x ∙ sym h ∙ ap (cutTo n p places s) y
       go j (differ x y) = unlike j x
 
+  pub cut-stands : left % 2 ≡ 1 → inSet t n ≡ true
+  cut-stands h =
+      let z : n - 1 ≡ a = omega arith in
+      let y : 1 + a ≡ n = omega arith in
+      let o : cutTo a p places s (1 + a) ≡ true = ap (cutTo a p places s) y ∙ old ∙ eq-eqb _ _ h in
+      let d : t / 2 ^ a % 2 ≡ 1 = ap (λ (x : ℕ). x / 2 ^ a % 2) g ∙ digits-at 64 1 a (cutTo a p places s) (omega arith) ∙ ap toBit o in
+      rw (in-marks n (omega arith) high, z, d)
+
   goes : left % 2 ≡ 1 → p < placeIn places n → withoutMark n t ≡ binary 64 1 (cutTo n p places s)
   goes h l =
       let z : n - 1 ≡ a = omega arith in
       let y : 1 + a ≡ n = omega arith in
       let o : cutTo a p places s (1 + a) ≡ true = ap (cutTo a p places s) y ∙ old ∙ eq-eqb _ _ h in
       let w : cutTo n p places s (1 + a) ≡ false = ap (cutTo n p places s) y ∙ (rw (new, eq-eqb _ _ h, lt-leb _ p l)) in
-      let d : t / 2 ^ a % 2 ≡ 1 = ap (λ (x : ℕ). x / 2 ^ a % 2) g ∙ digits-at 64 1 a (cutTo a p places s) (omega arith) ∙ ap toBit o in
-      let i : inSet t n ≡ true = rw (in-marks n (omega arith) high, z, d) in
+      let i : inSet t n ≡ true = cut-stands h in
       let m = digits-more 64 1 a (cutTo n p places s) (cutTo a p places s) (omega arith) (λ j q. unlike j (λ r. q (r ∙ sym y))) w o in
       rw (i, z) (omega (arith, g, m))
 
-  pub cut-turn : t′ ≡ (left % 2 == 1 && ltb p (placeIn places n) ⇒ withoutMark n t else t) → t′ ≡ binary 64 1 (cutTo n p places s)
-  cut-turn h = h ∙ go (same? (left % 2) 1) (ltb p (placeIn places n)) refl
+  pub cut-turn : left % 2 ≡ 1 → t′ ≡ (ltb p (placeIn places n) ⇒ withoutMark n t else t) → t′ ≡ binary 64 1 (cutTo n p places s)
+  cut-turn x h = h ∙ go (ltb p (placeIn places n)) refl
     where
-      go : Same (left % 2) 1 → (u : Bool) → ltb p (placeIn places n) ≡ u → (left % 2 == 1 && ltb p (placeIn places n) ⇒ withoutMark n t else t) ≡ binary 64 1 (cutTo n p places s)
-      go (same x y) true v = rw (eq-eqb _ _ x, v) (goes x (ltb-true _ _ v))
-      go (same x y) false v = rw (eq-eqb _ _ x, v) (stays (rw (new, old, eq-eqb _ _ x, le-leb _ p (ltb-false _ _ v))))
-      go (differ x y) u v = rw (ne-eqb _ _ x) (stays (rw (new, old, ne-eqb _ _ x)))
+      go : (u : Bool) → ltb p (placeIn places n) ≡ u → (ltb p (placeIn places n) ⇒ withoutMark n t else t) ≡ binary 64 1 (cutTo n p places s)
+      go true v = rw v (goes x (ltb-true _ _ v))
+      go false v = rw v (stays (rw (new, old, eq-eqb _ _ x, le-leb _ p (ltb-false _ _ v))))
 
 -- none is left
 pub cut-end : (s left a p t : ℕ) (places : List ℕ) → left ≡ s / 2 ^ a → left ≡ 0 → t ≡ binary 64 1 (cutTo a p places s) → t ≡ cutSet p places s

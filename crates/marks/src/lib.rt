@@ -150,23 +150,20 @@ pub fn drop_mark(set: u64, a: u32) -> u64
     set ^ (1u64 << k)
 }
 
-// Where the lowest digit of `left` says that mark a stands: it goes if its place is above p.
-fn cut_mark(set: u64, left: u64, places: &[u32], a: u32, p: u32) -> u64
-    requires { ⌜ length (now places) ≡ markWords ⌝ }
-    ensures { λ r. ⌜ r ≡ (left % 2 == 1 && ltb p (placeIn (now (places .entry)) a) ⇒ withoutMark a set else set) ⌝ }
+// Mark a, which stands, goes if its place is above p.
+fn cut_mark(set: u64, places: &[u32], a: u32, p: u32) -> u64
+    requires { ⌜ (length (now places) ≡ markWords) × (inSet set a ≡ true) ⌝ }
+    ensures { λ r. ⌜ r ≡ (ltb p (placeIn (now (places .entry)) a) ⇒ withoutMark a set else set) ⌝ }
 {
-    if left % 2 != 1 {
+    let k = a - 1;
+    if places[k as usize] <= p {
         return set;
     }
-    let q = place_of(places, a);
-    if q <= p {
-        return set;
-    }
-    drop_mark(set, a)
+    set ^ (1u64 << k)
 }
 
 // A change at place p: the marks whose place is above p go. The marks above a, still to be looked at, are the digits of
-// `left`; only the places of standing marks are read.
+// `left`. From one standing mark the next is found by counting zeros, so those that do not stand cost nothing.
 pub fn cut_marks(set: u64, places: &[u32], p: u32) -> u64
     requires { ⌜ length (now places) ≡ markWords ⌝ }
     ensures { λ r. ⌜ r ≡ cutSet p (now (places .entry)) set ⌝ }
@@ -177,9 +174,10 @@ pub fn cut_marks(set: u64, places: &[u32], p: u32) -> u64
     let mut left = set;
     let mut a: u32 = 0;
     while left != 0 {
-        a += 1;
-        s = cut_mark(s, left, places, a, p);
-        left = left / 2;
+        let z = u64::trailing_zeros(left);
+        a = a + z + 1;
+        s = cut_mark(s, places, a, p);
+        left = (left >> z) / 2;
     }
     s
 }

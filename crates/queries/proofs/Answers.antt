@@ -21,7 +21,8 @@ use Rattle.graph.specs.Changes.{VertexThere, EdgeThere}
 use Rattle.graph.proofs.Readings.{reading-back}
 use Rattle.graph.proofs.Incidence.{this-out, this-into, pick-le}
 use Rattle.graph.proofs.Lists.{held}
-use Rattle.graph_tables.specs.Tables.{State, vertexLinks, edgeLinks, incidenceLinks, vertexListEnds, edgeListEnds, endsAt, VertexRowIn, EdgeRowIn, HalfRowIn, vertexPlace, edgePlace, halfPlace, vtype, vvalue, vfirst, vlast, vprev, vnext, etype, ekind, edecimetres, eprev, enext, wprev, wnext, wthis, readingAt}
+use Rattle.graph_tables.specs.Tables.{State, vertexLinks, edgeLinks, incidenceLinks, vertexListEnds, edgeListEnds, endsAt, VertexRowIn, EdgeRowIn, HalfRowIn, vertexPlace, edgePlace}
+use Rattle.graph_tables.specs.Tables.{halfPlace, vtype, vvalue, vfirst, vlast, vprev, vnext, etype, ekind, edecimetres, eprev, enext, wprev, wnext, wthis, readingAt}
 use Rattle.graph_tables.specs.Holds.{Holds}
 use Rattle.queries.specs.Walks.{CanWalk}
 use Rattle.queries.proofs.ListWalks.{link-word}
@@ -95,7 +96,8 @@ module _ (s : State) (g : Graph) (h : Holds s g) where
     pub vertex-prev : vprev (s .vertices) v ≡ prevBy vertexNumber 0 v (g .vseq)
     vertex-prev =
         let q : vertexPlace 6 v ≡ linkAddress backward vertexLinks v = omega (arith, vertex-row .0) in
-        ap (λ (i : ℕ). getD (s .vertices) i 0) q ∙ before-is vertexLinks (s .vertices) (vertexListEnds (s .head)) (vertexNumbers g) valid-v (h .core .vseq) v listed-v ∙ keys-prev vertexNumber 0 v (g .vseq)
+        ap (λ (i : ℕ). getD (s .vertices) i 0) q ∙ before-is vertexLinks (s .vertices) (vertexListEnds (s .head)) (vertexNumbers g) valid-v (h .core .vseq) v listed-v
+        ∙ keys-prev vertexNumber 0 v (g .vseq)
 
     -- question 31
     pub vertex-next : vnext (s .vertices) v ≡ after v (vertexNumbers g)
@@ -171,17 +173,20 @@ module _ (s : State) (g : Graph) (h : Holds s g) where
     word-prev =
         let q : halfPlace 0 w ≡ linkAddress backward incidenceLinks w = omega (arith, word-row .0) in
         ap (λ (i : ℕ). getD (s .edges) i 0) q
-        ∙ before-is incidenceLinks (s .edges) (endsAt (s .vertices) (this g w)) (listOf g (this g w)) valid-i (h .core .lists (this g w) (vertex-row (this g w) word-vertex .0)) w (omega (arith, word-listed))
+        ∙ before-is incidenceLinks (s .edges) (endsAt (s .vertices) (this g w)) (listOf g (this g w)) valid-i (h .core .lists (this g w) (vertex-row (this g w) word-vertex .0)) w
+        (omega (arith, word-listed))
 
     -- question 35
     pub word-next : wnext (s .edges) w ≡ after w (listOf g (this g w))
     word-next =
         let q : halfPlace 1 w ≡ linkAddress forward incidenceLinks w = omega (arith, word-row .0) in
         ap (λ (i : ℕ). getD (s .edges) i 0) q
-        ∙ after-is incidenceLinks (s .edges) (endsAt (s .vertices) (this g w)) (listOf g (this g w)) valid-i (h .core .lists (this g w) (vertex-row (this g w) word-vertex .0)) w (omega (arith, word-listed))
+        ∙ after-is incidenceLinks (s .edges) (endsAt (s .vertices) (this g w)) (listOf g (this g w)) valid-i (h .core .lists (this g w) (vertex-row (this g w) word-vertex .0)) w
+        (omega (arith, word-listed))
 
     pub word-at : HeldAt incidenceLinks (s .edges) (endsAt (s .vertices) (this g w)) w
-    word-at = at-is incidenceLinks (s .edges) (endsAt (s .vertices) (this g w)) (listOf g (this g w)) valid-i (h .core .lists (this g w) (vertex-row (this g w) word-vertex .0)) w (omega (arith, word-listed))
+    word-at = at-is incidenceLinks (s .edges) (endsAt (s .vertices) (this g w)) (listOf g (this g w)) valid-i (h .core .lists (this g w) (vertex-row (this g w) word-vertex .0)) w
+        (omega (arith, word-listed))
 
     -- what `word_before` of the questions asks
     pub word-asks : HalfRowIn (s .edges) w × VertexRowIn (s .vertices) (wthis (s .edges) w) × HeldAt incidenceLinks (s .edges) (endsAt (s .vertices) (wthis (s .edges) w)) w

@@ -120,7 +120,8 @@ module _ (s : State) (g : Graph) (h : Holds s g) (v : ℕ) (c : VertexThere g v)
         let no-in : countBy itself (inWord e) (listOf g v) ≡ 0 = unheld g (h .sound) (inWord e) v (rw (into-half e) none) in
         let x = words-share e f (f (inWord e)) (out-one e) refl (listOf g v) in
         share-is e (share f edgeOf e (listOf g v)) (listOf g v)
-        (omega (arith, x, no-out, none-of (inWord e) (f (inWord e)) (listOf g v) no-in)) (λ z. omega arith) (λ z. absurd (omega (arith, x, no-out, none-of (inWord e) (f (inWord e)) (listOf g v) no-in)))
+        (omega (arith, x, no-out, none-of (inWord e) (f (inWord e)) (listOf g v) no-in)) (λ z. omega arith)
+        (λ z. absurd (omega (arith, x, no-out, none-of (inWord e) (f (inWord e)) (listOf g v) no-in)))
     | differ i j ↦ elim (same? (edge g e .alpha) (edge g e .omega)) [
       | same p q ↦
           let x = words-share e f 0 (out-one e) (loop? e (omega arith) ∙ pick-yes _ _ _ _ p) (listOf g v) in

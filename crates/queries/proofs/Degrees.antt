@@ -1,16 +1,17 @@
 -- The words counted along a list are the degree.
-use Prim.Native.Nat.{ℕ, _+_, _/_, _%_, _≤_}
+use Prim.Native.Nat.{ℕ, _+_, _/_, _%_, _^_, _≤_, _<_}
 use mathlib.Core.Path.{_≡_, refl, sym, ap, subst, _∙_}
 use mathlib.Core.Logic.{_≢_}
 use mathlib.Core.Bool.{Bool, true, false, not, _&&_}
 use mathlib.Core.List.{List, [], _∷_}
 use native.Mathlib.Omega.{arith}
-use lib.ListN.{length}
-use borrow.Author.Tests.{ne-eqb}
+use lib.Dec.{ltb}
+use lib.ListN.{length, getD}
+use borrow.Author.Tests.{eq-eqb, ne-eqb, lt-ltb, le-ltb}
 use Rattle.lists.specs.Choice.{_⇒_else_, _==_, toBit}
 use Rattle.lists.specs.Lists.{sumOf, filter}
 use Rattle.lists.specs.Keyed.{countBy}
-use Rattle.lists.proofs.Picks.{is-yes}
+use Rattle.lists.proofs.Picks.{is-yes, Same, same, differ, same?}
 use Rattle.linked_lists.specs.Links.{nodes}
 use Rattle.linked_lists.proofs.Model.{held-nodes}
 use Rattle.graph.specs.Graph.{Graph, itself, edge, edgeOf, listOf}
@@ -53,6 +54,19 @@ bit-right false q e = refl
 pub bit-both : (p q : Bool) → p ≡ true → q ≡ true → 1 ≡ toBit (p && q)
 bit-both p q e f = rw (e, f) refl
 
+-- the bit of a class modulo 64 is a number
+pub bit-word : (words : List ℕ) (k t : ℕ) (q : Bool) → k ≤ 63 → q ≡ true → getD words k 0 / 2 ^ (t % 64) % 2 ≡ toBit (bitOf words k (t % 64) && q)
+bit-word words k t q h e =
+    let l : t % 64 ≤ 63 = omega arith in
+    rw (e, le-ltb 63 k h, le-ltb 63 (t % 64) l) (go (same? (getD words k 0 / 2 ^ (t % 64) % 2) 1))
+  where
+    go : Same (getD words k 0 / 2 ^ (t % 64) % 2) 1 → getD words k 0 / 2 ^ (t % 64) % 2 ≡ toBit ((getD words k 0 / 2 ^ (t % 64) % 2 == 1) && true)
+    go (same u v) = rw (eq-eqb _ _ u) u
+    go (differ u v) = rw (ne-eqb _ _ u) (omega (arith, u))
+
+pub bit-past : (words : List ℕ) (k t : ℕ) → 63 < k → bitOf words k t ≡ false
+bit-past words k t h = rw (lt-ltb 63 k h)
+
 bit-le : (p : Bool) → toBit p ≤ 1
 bit-le true = omega arith
 bit-le false = omega arith
@@ -89,7 +103,8 @@ pub degree-below : (rows words : List ℕ) → goodRows rows ≡ true → words 
 degree-below rows words good e t c vertices edges v = λ i. degreeAt (λ s. bit-below rows words s t good e i) c vertices edges v
 
 -- question 45
-pub degree-is : (b : Bounds) (s : State) → Sized b s → (g : Graph) → Holds s g → (v : ℕ) → VertexThere g v → (inClass : ℕ → Bool) (c : ℕ) → degreeAt inClass c (s .vertices) (s .edges) v ≡ degree inClass c g v
+pub degree-is : (b : Bounds) (s : State) → Sized b s → (g : Graph) → Holds s g → (v : ℕ) → VertexThere g v → (inClass : ℕ → Bool) (c : ℕ) → degreeAt inClass c (s .vertices) (s .edges) v
+    ≡ degree inClass c g v
 unfolding degreeAt degree
 degree-is b s z g h v t inClass c =
     ap (λ (l : List ℕ). length (filter (λ w. inClass (etype (s .edges) (w / 2)) && onSide c w) l))
@@ -97,3 +112,25 @@ degree-is b s z g h v t inClass c =
     ∙ ap length
     (keep-agree (λ w. inClass (etype (s .edges) (w / 2)) && onSide c w) (λ w. inClass (edge g (edgeOf w) .type) && onSide c w) (listOf g v)
     (λ w i. ap (λ (k : ℕ). inClass k && onSide c w) (edge-type s g h (edgeOf w) (listed-edge b s z g h v t w i))))
+
+-- ---- classes
+
+none-kept : (p : ℕ → Bool) (l : List ℕ) → ((w : ℕ) → p w ≡ false) → 0 ≡ length (filter p l)
+none-kept p [] h = refl
+none-kept p (w ∷ l) h = rw (h w) (none-kept p l h)
+
+-- no edge is in a class above 63
+pub class-none : (words : List ℕ) (t c : ℕ) (vertices edges : List ℕ) (v : ℕ) → 63 < t → 0 ≡ degreeAt (λ s. bitOf words s t) c vertices edges v
+unfolding degreeAt
+class-none words t c vertices edges v h =
+    none-kept (λ w. bitOf words (etype edges (w / 2)) t && onSide c w) (nodes incidenceLinks edges (endsAt vertices v)) (λ w. ap (λ (b : Bool). b && onSide c w) (out (etype edges (w / 2))))
+  where
+    out : (k : ℕ) → bitOf words k t ≡ false
+    out k = rw (lt-ltb 63 t h) (go (ltb 63 k))
+      where
+        go : (b : Bool) → (b ⇒ false else false) ≡ false
+        go true = refl
+        go false = refl
+
+pub class-same : (t : ℕ) → t ≤ 63 → t % 64 ≡ t
+class-same t h = omega arith

@@ -73,7 +73,8 @@ module _ (f : ℕ → ℕ) (P : ℕ → Type 0) (layout : LinkLayout) (t : List 
         go (x ∷ l) c r i a m q =
             let here : w ≡ x = k .here ∙ c .0 .0 in
             let now : nodesFrom (linkOf forward layout t e) (length t + layout .offset) w ≡ x ∷ l =
-            ap (nodesFrom (linkOf forward layout t e) (length t + layout .offset)) (k .here) ∙ nodes-chain (linkOf forward layout t e) (linkOf backward layout t e) (length t + layout .offset) (k .from) (x ∷ l) c r m in
+            ap (nodesFrom (linkOf forward layout t e) (length t + layout .offset)) (k .here) ∙ nodes-chain (linkOf forward layout t e) (linkOf backward layout t e)
+            (length t + layout .offset) (k .from) (x ∷ l) c r m in
             record {
               inside = rw here (i .0);
               holds = rw here (a .0);
@@ -101,7 +102,8 @@ sum-le : (f : ℕ → ℕ) → ((w : ℕ) → f w ≤ 1) → (l : List ℕ) → 
 sum-le f h [] = omega arith
 sum-le f h (w ∷ l) = omega (arith, sum-le f h l, h w)
 
-pub sum-few : (f : ℕ → ℕ) → ((w : ℕ) → f w ≤ 1) → (layout : LinkLayout) (t : List ℕ) (e : Ends) → ValidLayout layout → (l : List ℕ) → Held layout t e l → sumOf f (nodes layout t e) ≤ length t + layout .offset
+pub sum-few : (f : ℕ → ℕ) → ((w : ℕ) → f w ≤ 1) → (layout : LinkLayout) (t : List ℕ) (e : Ends) → ValidLayout layout → (l : List ℕ) → Held layout t e l
+    → sumOf f (nodes layout t e) ≤ length t + layout .offset
 sum-few f b layout t e valid l h =
     rw (held-nodes layout t e valid l h) (omega (arith, sum-le f b l, held-length layout t e (length t + layout .offset) l (λ x s i. node-below layout (length t) x valid s i) h))
 

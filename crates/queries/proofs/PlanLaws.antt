@@ -11,7 +11,8 @@ use Rattle.lists.proofs.Places.{prev-there}
 use Rattle.graph.specs.declared.Edit.the-variants.{InsertVertex, RemoveVertex, InsertEdge, RemoveEdge, SetVertex, SetEdge, MoveVertex, MoveEdge, MoveWord}
 use Rattle.graph.specs.declared.Reading.the-variants.{Untested}
 use Rattle.graph.specs.declared.Change.{Change}
-use Rattle.graph.specs.declared.Change.the-variants.{CreateVertex, DeleteVertex, CreateEdge, DeleteEdge, RetypeVertex, RetypeEdge, SetValue, SetReading, SetAlpha, SetOmega, VertexBefore, VertexAfter, EdgeBefore, EdgeAfter, WordBefore, WordAfter}
+use Rattle.graph.specs.declared.Change.the-variants.{CreateVertex, DeleteVertex, CreateEdge, DeleteEdge, RetypeVertex, RetypeEdge, SetValue, SetReading, SetAlpha, SetOmega, VertexBefore}
+use Rattle.graph.specs.declared.Change.the-variants.{VertexAfter, EdgeBefore, EdgeAfter, WordBefore, WordAfter}
 use Rattle.graph.specs.Graph.{Graph, vertexNumber, edgeNumber, itself, edge, edgeOf, outWord, inWord, this, listIn, listOf, readingOf}
 use Rattle.graph.specs.WellFormed.{Bounds}
 use Rattle.graph.specs.Changes.{VertexThere, EdgeThere, Allowed, append, detach, cost}
@@ -24,7 +25,8 @@ use Rattle.graph_tables.specs.Holds.{Holds}
 use Rattle.graph_tables.specs.Capacities.{Sized}
 use Rattle.queries.specs.Plans.{unless, planRemoveEdge, planWordLast, planS, CanPlan, OneEdit}
 use Rattle.queries.proofs.Removed.{prev-rem, last-rem, last-other, last-append}
-use Rattle.queries.proofs.Answers.{last-vertex, last-edge, vertex-row, vertex-type, vertex-value, last-word, vertex-prev, edge-row, edge-type, reading-at, alpha-is, omega-is, edge-prev, word-row, word-this, word-vertex, word-listed, word-prev}
+use Rattle.queries.proofs.Answers.{last-vertex, last-edge, vertex-row, vertex-type, vertex-value, last-word, vertex-prev, edge-row, edge-type, reading-at, alpha-is, omega-is}
+use Rattle.queries.proofs.Answers.{edge-prev, word-row, word-this, word-vertex, word-listed, word-prev}
 
 -- `unless` of equal parts
 unless-by : (a : ℕ) {p p′ x x′ : ℕ} → p ≡ p′ → x ≡ x′ → unless a p x ≡ unless a p′ x′

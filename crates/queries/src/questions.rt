@@ -12,7 +12,7 @@ use graph_tables::rows::this;
 use linked_lists::Ends;
 use linked_lists::LinkLayout;
 ghost use mathlib.Core.Path.{_≡_};
-ghost use Prim.Native.Nat.{ℕ, _+_, _/_, _^_, _<_};
+ghost use Prim.Native.Nat.{ℕ, _+_, _/_, _%_, _^_, _<_};
 ghost use Rattle.lists.specs.Lists.{before};
 ghost use Rattle.linked_lists.specs.Links.{HeldAt, nodes};
 ghost use Rattle.graph_tables.specs.Tables.{VertexRowIn, EdgeRowIn, HalfRowIn, vertexLinks, edgeLinks, incidenceLinks};
@@ -130,26 +130,27 @@ fn on_side(c: u32, w: u32) -> bool
     false
 }
 
-// 1 where word w is on the side c and its edge is in class t by the words, else 0.
+// 1 where word w is on the side c and its edge is in class t by the words, else 0. A class is below 64; so it is asked
+// for modulo 64, which costs nothing, and tested once, before the walk.
 fn in_degree(words: &[u64; 64], edges: &[u32], w: u32, t: u32, c: u32) -> u32
     requires { ⌜ EdgeRowIn (now edges) (w / 2) ⌝ }
-    ensures { λ r. ⌜ r ≡ degreeOne (λ s. bitOf (now (words .entry)) s t) c (now (edges .entry)) w ⌝ }
+    ensures { λ r. ⌜ r ≡ degreeOne (λ s. bitOf (now (words .entry)) s (t % 64)) c (now (edges .entry)) w ⌝ }
 {
     if !on_side(c, w) {
         return 0;
     }
     let s = edge_type(edges, w / 2);
-    if type_rows::is_below(words, s, t) {
-        return 1;
+    if 63 < s {
+        return 0;
     }
-    0
+    ((words[s as usize] >> (t % 64)) % 2) as u32
 }
 
 // n, and one more where word w is on the side c and its edge is in class t by the words.
 fn with_degree(words: &[u64; 64], edges: &[u32], w: u32, t: u32, c: u32, n: u32) -> u32
-    requires { ⌜ EdgeRowIn (now edges) (w / 2) × (n + degreeOne (λ s. bitOf (now words) s t) c (now edges) w < 2 ^
-        32) ⌝ }
-    ensures { λ r. ⌜ r ≡ n + degreeOne (λ s. bitOf (now (words .entry)) s t) c (now (edges .entry)) w ⌝ }
+    requires { ⌜ EdgeRowIn (now edges) (w / 2)
+        × (n + degreeOne (λ s. bitOf (now words) s (t % 64)) c (now edges) w < 2 ^ 32) ⌝ }
+    ensures { λ r. ⌜ r ≡ n + degreeOne (λ s. bitOf (now (words .entry)) s (t % 64)) c (now (edges .entry)) w ⌝ }
 {
     n + in_degree(words, edges, w, t, c)
 }
@@ -157,7 +158,7 @@ fn with_degree(words: &[u64; 64], edges: &[u32], w: u32, t: u32, c: u32, n: u32)
 // The degree along a list from its first word on: a cursor is kept and stepped to the end of the list.
 fn degree_from(words: &[u64; 64], edges: &[u32], first: u32, t: u32, c: u32) -> u32
     requires { ⌜ CanWalkFrom (now edges) first ⌝ }
-    ensures { λ r. ⌜ DegreeFrom (now (words .entry)) (now (edges .entry)) first t c r ⌝ }
+    ensures { λ r. ⌜ DegreeFrom (now (words .entry)) (now (edges .entry)) first (t % 64) c r ⌝ }
 {
     let mut n = 0;
     let mut k = at(edges, first);
@@ -177,6 +178,9 @@ pub fn degree(words: &[u64; 64], vertices: &[u32], edges: &[u32], v: u32, t: u32
     ensures { λ r. ⌜ ((rows : List ℕ) → goodRows rows ≡ true → now (words .entry) ≡ closureWords rows
         → r ≡ degreeAt (λ s. below rows s t) c (now (vertices .entry)) (now (edges .entry)) v) ⌝ }
 {
+    if 63 < t {
+        return 0;
+    }
     let first = first_word(vertices, v);
     degree_from(words, edges, first, t, c)
 }

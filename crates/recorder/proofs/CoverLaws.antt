@@ -35,7 +35,8 @@ use Rattle.copies.proofs.CopyLaws.{copied-more}
 use Rattle.copies.proofs.MadeLaws.{idle, stepped, change-is, Still, still, commit-is, append-none}
 use Rattle.copies.proofs.PlaceLaws.{numbers-same, numbers-commit, numbers-step}
 
-pub answered-as : (w : Parameters) (m : Machine) (c c′ : Command) (d : Called) (mem : Memory) (closed : List ℕ) (types : ℕ) → c ≡ c′ → Answered w (w .changes) m c′ d mem closed types → Answered w (w .changes) m c d mem closed types
+pub answered-as : (w : Parameters) (m : Machine) (c c′ : Command) (d : Called) (mem : Memory) (closed : List ℕ) (types : ℕ) → c ≡ c′ → Answered w (w .changes) m c′ d mem closed types
+    → Answered w (w .changes) m c d mem closed types
 answered-as w m c c′ d mem closed types e a = subst (λ (x : Command). Answered w (w .changes) m x d mem closed types) (sym e) a
 
 -- ---- the copies
@@ -91,7 +92,8 @@ module _ (w : Parameters) (start lent : List ℕ) where
             rw (ne-eqb (d .answer .number) 0 z) (covers-as (ap (λ (y : Graph). sets copies (stretch w * n) (save y)) new) refl refl (ap (λ (l : List Graph). gs ++ l) g) refl e (record {
               start-loads = f .start-loads;
               copied = copied-more w lent copies gs n (f .copied) (s .graph) formed (room t);
-              places = numbers-step (load start) gs numbers used m s n (d .store .current .position .place) (d .store .current .position .used) (f .copied .count) (j .inside) (i .place) q (i .used ∙ ap (λ (k : ℕ). rowsTo 0 k (afterChange s m .line .steps)) (sym (i .place))) (f .places);
+              places = numbers-step (load start) gs numbers used m s n (d .store .current .position .place) (d .store .current .position .used) (f .copied .count) (j .inside) (i .place) q
+                  (i .used ∙ ap (λ (k : ℕ). rowsTo 0 k (afterChange s m .line .steps)) (sym (i .place))) (f .places);
             }))
       ]
 

@@ -70,13 +70,15 @@ can-take w x mem closed types m r call k size count room e short h t =
     let fits = h (takes-kind (callAt call) k t) in
     record {
       place = few-places w x mem closed types m r;
-      saves = can-save (boundsIn w) (state (x .current .head) (mem .vertices) (mem .edges)) (present m) size (holds-present (boundsIn w) x mem m (r .represents)) (within-present (boundsIn w) x mem m (r .represents))
+      saves = can-save (boundsIn w) (state (x .current .head) (mem .vertices) (mem .edges)) (present m) size (holds-present (boundsIn w) x mem m (r .represents))
+          (within-present (boundsIn w) x mem m (r .represents))
           (sized-present (boundsIn w) x mem m (r .represents)) (omega (arith, e));
       fits = fits;
       counted = omega (arith, count-fits size count room (omega (arith, e)) fits);
     }
 
-pub room-for : (w : Parameters) (call : List ℕ) (k size count room : ℕ) → size ≡ stretch w → HasStretch call size count room → takes (roleOf (commandOf (callAt call))) k ≡ true → stretch w * count + stretch w ≤ room
+pub room-for : (w : Parameters) (call : List ℕ) (k size count room : ℕ) → size ≡ stretch w → HasStretch call size count room → takes (roleOf (commandOf (callAt call))) k ≡ true
+    → stretch w * count + stretch w ≤ room
 room-for w call k size count room e h t = subst (λ (j : ℕ). j * count + j ≤ room) e (h (takes-kind (callAt call) k t))
 
 -- ---- call k of the list
@@ -102,6 +104,7 @@ module _ (calls : List ℕ) (k : ℕ) (fits : 5 * k + 5 ≤ length calls) where
       (ap (last w m) (one-more calls k fits) ∙ last-more w m (take k (callsOf calls)) (callAt part)) f
 
 -- before the first call
-pub covers-none : (w : Parameters) (m : Machine) (start lent copies numbers used : List ℕ) (n : ℕ) → Covers w start lent copies numbers used [] n m → Covers w start lent copies numbers used (made w m []) n (last w m [])
+pub covers-none : (w : Parameters) (m : Machine) (start lent copies numbers used : List ℕ) (n : ℕ) → Covers w start lent copies numbers used [] n m
+    → Covers w start lent copies numbers used (made w m []) n (last w m [])
 unfolding made last
 covers-none w m start lent copies numbers used n f = f

@@ -114,7 +114,8 @@ module _ (w : Parameters) (x : Store) (vertices edges journal marks : List ℕ) 
       ∙ reloaded w lent copies gs n (f .copied) start vertices edges (f .start-loads) sized-now (getD numbers p 0) (f .places .in-copies p lands)
       ∙ f .places .graphs p lands in
       let there : Journal (boundsIn w) (atPlace (x .current .position) head p (getD used p 0) .position) (state head vertices′ edges′) journal (placed p (m .line)) =
-      journal-at (boundsIn w) (x .current .position) (atPlace (x .current .position) head p (getD used p 0) .position) (tablesOf x (memory vertices edges journal marks)) (state head vertices′ edges′) journal (m .line) (h .journal) lands refl
+      journal-at (boundsIn w) (x .current .position) (atPlace (x .current .position) head p (getD used p 0) .position) (tablesOf x (memory vertices edges journal marks))
+      (state head vertices′ edges′) journal (m .line) (h .journal) lands refl
       (f .places .rows p lands)
       (record { vertices = s .vertices ∙ ap (λ (k : ℕ). k / 8) (sym v); edges = s .edges ∙ ap (λ (k : ℕ). k / 12) (sym e); fewVertices = s .fewVertices; fewEdges = s .fewEdges })
       (subst (Holds (state head vertices′ edges′)) q held) in
@@ -122,5 +123,6 @@ module _ (w : Parameters) (x : Store) (vertices edges journal marks : List ℕ) 
       let j = subst (λ (k : ℕ). Journal (boundsIn w) (atPlace (x .current .position) head p (getD used p 0) .position) (state head vertices′ edges′) journal (placed k (m .line))) place there in
       let y : Journal (boundsIn w) (current .position) (state (current .head) vertices′ edges′) journal (placed (shifted (way .back) (way .steps) (m .line .place)) (m .line)) =
       subst (λ (c : Current). Journal (boundsIn w) (c .position) (state (c .head) vertices′ edges′) journal (placed (shifted (way .back) (way .steps) (m .line .place)) (m .line))) (sym is-at) j in
-      subst (λ (k : ℕ). Follows (historyRule capacity call) m (boundsIn w) (done (record { current = current; set = x .set; bench = x .bench }) 0 k) (memory vertices′ edges′ journal marks)) (sym (told ∙ steps-are))
+      subst (λ (k : ℕ). Follows (historyRule capacity call) m (boundsIn w) (done (record { current = current; set = x .set; bench = x .bench }) 0 k) (memory vertices′ edges′ journal marks))
+      (sym (told ∙ steps-are))
       (way-done (boundsIn w) x (memory vertices edges journal marks) m h capacity call leads way refl fine (record { current = current; set = x .set; bench = x .bench }) vertices′ edges′ refl refl y)

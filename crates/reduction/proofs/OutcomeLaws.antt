@@ -141,11 +141,16 @@ module _ (start rows calls vertices edges journal answers image list : List ℕ)
     all-numbered = record {
       fits = rw k (rw (length-append, length-drop) (omega (arith, range-length (length calls / 5), answers-many)));
       few = few-calls;
-      numbers = λ i h. rw (k, List·getD-append (range (length calls / 5)) (drop (length (range (length calls / 5))) answers) 0 i (omega (arith, range-length (length calls / 5))), range-at (length calls / 5) i h) h;
+      numbers = λ i h. rw (
+        k,
+        List·getD-append (range (length calls / 5)) (drop (length (range (length calls / 5))) answers) 0 i (omega (arith, range-length (length calls / 5))),
+        range-at (length calls / 5) i h,
+      ) h;
     }
 
     pub all-calls : callsAt calls (take (length calls / 5) kept) ≡ callsOf calls
     all-calls =
         let n = length calls / 5 in
         let m : length (callsOf calls) ≡ n = calls-length n calls (omega arith) (omega arith) in
-        ap (λ (ks : List ℕ). callsAt calls (take n ks)) k ∙ ap (callsAt calls) (range-front n answers) ∙ picks-all (callsOf calls) (callAt []) n (omega arith) ∙ take-all n (callsOf calls) (omega arith)
+        ap (λ (ks : List ℕ). callsAt calls (take n ks)) k ∙ ap (callsAt calls) (range-front n answers) ∙ picks-all (callsOf calls) (callAt []) n (omega arith)
+        ∙ take-all n (callsOf calls) (omega arith)

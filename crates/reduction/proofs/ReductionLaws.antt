@@ -67,7 +67,9 @@ module _ {A : Type 0} (code : List A → ℕ) (c : ℕ) where
           (firstLoose code c 0 (length xs - 1) xs < length xs → code (without (firstLoose code c 0 (length xs - 1) xs) xs) ≡ c →
           Least code c (reducedFrom code c n (without (firstLoose code c 0 (length xs - 1) xs) xs) (r + suc (firstLoose code c 0 (length xs - 1) xs)) .kept)) →
           (t : Bool) → (firstLoose code c 0 (length xs - 1) xs == (length xs - 1)) ≡ t →
-          Least code c ((t ⇒ record { kept = xs; runs = r + (length xs - 1) } else reducedFrom code c n (without (firstLoose code c 0 (length xs - 1) xs) xs) (r + suc (firstLoose code c 0 (length xs - 1) xs))) .kept)
+          Least code c
+          ((t ⇒ record { kept = xs; runs = r + (length xs - 1) } else reducedFrom code c n (without (firstLoose code c 0 (length xs - 1) xs) xs)
+          (r + suc (firstLoose code c 0 (length xs - 1) xs))) .kept)
       go f s true q = record { alike = e; tight = λ j l. f .tight j (omega arith) (let z = eqb-true (firstLoose code c 0 (length xs - 1) xs) (length xs - 1) q in omega (arith, z)) }
       go f s false q =
           let z = eqb-false (firstLoose code c 0 (length xs - 1) xs) (length xs - 1) q in
@@ -132,7 +134,8 @@ module _ {A : Type 0} (code : List A → ℕ) (c : ℕ) where
       go _ f low
     where
       go : (f : ℕ) → firstLoose code c i (length xs - 1 - i) xs ≡ f → i + 1 ≤ f →
-          searching i xs r ≡ ((f == (length xs - 1)) ⇒ record { kept = xs; runs = r + 1 + (length xs - 1 - (i + 1)) } else reducedFrom code c (length xs - 1) (without f xs) (r + 1 + suc (f - (i + 1))))
+          searching i xs r
+          ≡ ((f == (length xs - 1)) ⇒ record { kept = xs; runs = r + 1 + (length xs - 1 - (i + 1)) } else reducedFrom code c (length xs - 1) (without f xs) (r + 1 + suc (f - (i + 1))))
       go f q l =
           let a : r + (length xs - 1 - i) ≡ r + 1 + (length xs - 1 - (i + 1)) = omega arith in
           let b : r + suc (f - i) ≡ r + 1 + suc (f - (i + 1)) = omega arith in
@@ -176,11 +179,16 @@ module _ {A : Type 0} where
         go (finds code c 0 (length xs - 1) xs .high) (left-from n (without i xs) (r + suc i) z) (i == (length xs - 1)) refl
       where
         go : firstLoose code c 0 (length xs - 1) xs ≤ 0 + (length xs - 1) →
-            Subsequence (reducedFrom code c n (without (firstLoose code c 0 (length xs - 1) xs) xs) (r + suc (firstLoose code c 0 (length xs - 1) xs)) .kept) (without (firstLoose code c 0 (length xs - 1) xs) xs)
-            × (finalOf z (reducedFrom code c n (without (firstLoose code c 0 (length xs - 1) xs) xs) (r + suc (firstLoose code c 0 (length xs - 1) xs)) .kept) ≡ finalOf z (without (firstLoose code c 0 (length xs - 1) xs) xs)) →
+            Subsequence (reducedFrom code c n (without (firstLoose code c 0 (length xs - 1) xs) xs) (r + suc (firstLoose code c 0 (length xs - 1) xs)) .kept)
+            (without (firstLoose code c 0 (length xs - 1) xs) xs)
+            × (finalOf z (reducedFrom code c n (without (firstLoose code c 0 (length xs - 1) xs) xs) (r + suc (firstLoose code c 0 (length xs - 1) xs)) .kept)
+            ≡ finalOf z (without (firstLoose code c 0 (length xs - 1) xs) xs)) →
             (t : Bool) → (firstLoose code c 0 (length xs - 1) xs == (length xs - 1)) ≡ t →
-            Subsequence ((t ⇒ record { kept = xs; runs = r + (length xs - 1) } else reducedFrom code c n (without (firstLoose code c 0 (length xs - 1) xs) xs) (r + suc (firstLoose code c 0 (length xs - 1) xs))) .kept) xs
-            × (finalOf z ((t ⇒ record { kept = xs; runs = r + (length xs - 1) } else reducedFrom code c n (without (firstLoose code c 0 (length xs - 1) xs) xs) (r + suc (firstLoose code c 0 (length xs - 1) xs))) .kept) ≡ finalOf z xs)
+            Subsequence ((t ⇒ record { kept = xs; runs = r + (length xs - 1) } else reducedFrom code c n (without (firstLoose code c 0 (length xs - 1) xs) xs)
+            (r + suc (firstLoose code c 0 (length xs - 1) xs))) .kept) xs
+            × (finalOf z
+            ((t ⇒ record { kept = xs; runs = r + (length xs - 1) } else reducedFrom code c n (without (firstLoose code c 0 (length xs - 1) xs) xs)
+            (r + suc (firstLoose code c 0 (length xs - 1) xs))) .kept) ≡ finalOf z xs)
         go h s true q = (sub-all xs, refl)
         go h s false q =
             let i = firstLoose code c 0 (length xs - 1) xs in

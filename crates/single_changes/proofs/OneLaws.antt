@@ -9,7 +9,8 @@ use lib.ListN.{length}
 use borrow.Author.Tests.{eqb-true, eqb-false, ne-eqb}
 use Rattle.lists.specs.Choice.{_==_, _⇒_else_}
 use Rattle.graph.specs.declared.Change.{Change}
-use Rattle.graph.specs.declared.Change.the-variants.{CreateVertex, DeleteVertex, CreateEdge, DeleteEdge, RetypeVertex, RetypeEdge, SetValue, SetReading, SetAlpha, SetOmega, VertexBefore, VertexAfter, EdgeBefore, EdgeAfter, WordBefore, WordAfter}
+use Rattle.graph.specs.declared.Change.the-variants.{CreateVertex, DeleteVertex, CreateEdge, DeleteEdge, RetypeVertex, RetypeEdge, SetValue, SetReading, SetAlpha, SetOmega, VertexBefore}
+use Rattle.graph.specs.declared.Change.the-variants.{VertexAfter, EdgeBefore, EdgeAfter, WordBefore, WordAfter}
 use Rattle.graph.specs.declared.Edit.{Edit}
 use Rattle.graph.specs.declared.Edit.the-variants.{InsertEdge, SetVertex, SetEdge, MoveVertex, MoveEdge, MoveWord}
 use Rattle.graph.specs.declared.Reading.the-variants.{Untested}
@@ -71,7 +72,8 @@ module _ (e : Edit) (c i free : ℕ) (s : State) (t : List ℕ) (code cost : ℕ
       leaves : {k : ℕ} → outcome code cost s′ t′ ≡ kept k s t → (code ≡ k) × (cost ≡ 0) × (s′ ≡ s) × (t′ ≡ t)
       leaves p = (ap (λ (r : Outcome). r .code) p, ap (λ (r : Outcome). r .cost) p, ap (λ (r : Outcome). r .state) p, ap (λ (r : Outcome). r .journal) p)
 
-      go : (u : Bool) → (c == 0) ≡ u → (v : Bool) → idle e ≡ v → (w : Bool) → (free == 0) ≡ w → outcome code cost s′ t′ ≡ (u ⇒ (v ⇒ kept 0 s t else w ⇒ kept 10 s t else written e i s t) else kept c s t) →
+      go : (u : Bool) → (c == 0) ≡ u → (v : Bool) → idle e ≡ v → (w : Bool) → (free == 0) ≡ w
+          → outcome code cost s′ t′ ≡ (u ⇒ (v ⇒ kept 0 s t else w ⇒ kept 10 s t else written e i s t) else kept c s t) →
           Told e c i free s t code cost s′ t′
       go false x v y w z p =
           let l = leaves p in
@@ -202,7 +204,8 @@ module _ {x : Change} {types i free : ℕ} {h : Head} {vertices edges t : List �
       }
 
 -- a deletion
-pub one-deletion : {a types i free : ℕ} {h : Head} {vertices edges t : List ℕ} {r : Made} → r ≡ record { head = h; code = 1; cost = 0 } → One (DeleteVertex a) types i free (state h vertices edges) t (r .code) (r .cost) (state (r .head) vertices edges) t
+pub one-deletion : {a types i free : ℕ} {h : Head} {vertices edges t : List ℕ} {r : Made} → r ≡ record { head = h; code = 1; cost = 0 }
+    → One (DeleteVertex a) types i free (state h vertices edges) t (r .code) (r .cost) (state (r .head) vertices edges) t
 one-deletion {a = a} q = one-refused {x = DeleteVertex a} tt {c = 1} (λ g y. refl) (λ e. omega arith) q
 
 -- an edit that is the planned one can be made

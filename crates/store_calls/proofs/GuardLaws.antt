@@ -160,11 +160,15 @@ module _ (n : ℕ) (m : Machine) where
 
     early : x .kind ≤ 22 → 1 ≤ x .kind → AsNear x
     unfolding commandOf
-    early top = next 1 no (next 2 no (next 3 no (next 4 no (next 5 no (next 6 no (next 7 no (next 8 no (next 9 no (next 10 no (next 11 no (next 12 no (next 13 no (next 14 no (next 15 no (next 16 no (next 17 no (next 18 no (next 19 no (next 20 (λ e. e) (next 21 (λ e. e) (next 22 no (λ h. absurd (omega arith)))))))))))))))))))))))
+    early top = next 1 no (next 2 no (next 3 no (next 4 no (next 5 no (next 6 no (next 7 no (next 8 no (next 9 no (next 10 no (next 11 no (next 12 no
+        (next 13 no (next 14 no (next 15 no (next 16 no (next 17 no (next 18 no (next 19 no (next 20 (λ e. e) (next 21 (λ e. e)
+        (next 22 no (λ h. absurd (omega arith)))))))))))))))))))))))
 
     late : x .kind ≤ 54 → 30 ≤ x .kind → AsNear x
     unfolding commandOf
-    late top = next 30 no (next 31 no (next 32 no (next 33 no (next 34 no (next 35 no (next 36 no (next 37 no (next 38 no (next 39 no (next 40 no (next 41 no (next 42 no (next 43 no (next 44 no (next 45 no (next 46 no (next 47 no (next 48 no (next 49 no (next 50 no (next 51 no (next 52 no (next 53 no (next 54 no (λ h. absurd (omega arith))))))))))))))))))))))))))
+    late top = next 30 no (next 31 no (next 32 no (next 33 no (next 34 no (next 35 no (next 36 no (next 37 no (next 38 no (next 39 no (next 40 no
+        (next 41 no (next 42 no (next 43 no (next 44 no (next 45 no (next 46 no (next 47 no (next 48 no (next 49 no (next 50 no (next 51 no
+        (next 52 no (next 53 no (next 54 no (λ h. absurd (omega arith))))))))))))))))))))))))))
 
     latest : x .kind ≤ 59 → 56 ≤ x .kind → AsNear x
     unfolding commandOf
@@ -192,7 +196,8 @@ unfolding commandOf
 far-code v m x e = go (x .kind == 20) refl (x .kind == 21) refl (x .kind == 57) refl e
   where
     go : (s : Bool) → (x .kind == 20) ≡ s → (t : Bool) → (x .kind == 21) ≡ t → (u : Bool) → (x .kind == 57) ≡ u
-        → (s ⇒ tooFar (v .changes) m (suc (m .line .place)) else t ⇒ tooFar (v .changes) m (placeOf m (x .a)) else u ⇒ tooFar (v .changes) m (placeOf m (holderOf (name (x .a) (x .b)) m)) else false) ≡ true
+        → (s ⇒ tooFar (v .changes) m (suc (m .line .place)) else t ⇒ tooFar (v .changes) m (placeOf m (x .a)) else u ⇒ tooFar (v .changes) m (placeOf m (holderOf (name (x .a) (x .b)) m))
+        else false) ≡ true
         → refusal v m (commandOf x) ≡ 10
     go true a t b u c f = ap (λ (y : Call). refusal v m (commandOf y)) (call-is x 20 (eqb-true (x .kind) 20 a)) ∙ history-beyond v m Redo f
     go false a true b u c f = ap (λ (y : Call). refusal v m (commandOf y)) (call-is x 21 (eqb-true (x .kind) 21 b)) ∙ history-beyond v m (GoTo (x .a)) f
@@ -271,8 +276,10 @@ module _ (w : Parameters) (m : Machine) (x : Store) (mem : Memory) (closed : Lis
           subst (λ (i : ℕ). AllNear (allowing i w) m xs) k (own-calls w m x mem closed types run (length (mem .journal)) refl xs)
       go false a =
           first-near (allowing n w) m xs (omega (arith, long, h .some))
-          (ap (outOfReach n m) (List·getD-map (λ (y : StoreCall). y .call) (take c (storeCallsOf words)) 0 (six 0 0 []) ∙ ap (λ (y : StoreCall). y .call) (first-at c 0 words (six 0 0 []) (omega (arith, h .some)) (h .there)) ∙ ap callAt (sym q)) ∙ f)
-          (λ k i l. ap mayRedo (kind-at c k words (omega (arith, l, long)) (h .there)) ∙ quiet ample (mayRedo (getD words (6 * k + 1) 0)) a (both (getD words (6 * k) 0 == getD words 0 0) (ample || not (mayRedo (getD words (6 * k + 1) 0))) (h .going k i (omega (arith, l, long))) .1))
+          (ap (outOfReach n m) (List·getD-map (λ (y : StoreCall). y .call) (take c (storeCallsOf words)) 0 (six 0 0 [])
+          ∙ ap (λ (y : StoreCall). y .call) (first-at c 0 words (six 0 0 []) (omega (arith, h .some)) (h .there)) ∙ ap callAt (sym q)) ∙ f)
+          (λ k i l. ap mayRedo (kind-at c k words (omega (arith, l, long)) (h .there)) ∙ quiet ample (mayRedo (getD words (6 * k + 1) 0)) a
+          (both (getD words (6 * k) 0 == getD words 0 0) (ample || not (mayRedo (getD words (6 * k + 1) 0))) (h .going k i (omega (arith, l, long))) .1))
 
   module _ (there : Bool) (words slice slice′ : List ℕ) where
     abbrev first : List StoreCall

@@ -69,7 +69,8 @@ module _ (n i : ℕ) (ws l : List ℕ) (long : length ws ≡ n) (fits : i * n + 
 
   other-replaced : (j : ℕ) → j ≢ i → j * n + n ≤ length l → part n j (replaced n i ws l) ≡ part n j l
   other-replaced j d h =
-      ext-getD 0 (part n j (replaced n i ws l)) (part n j l) (size (replaced n i ws l) (omega (arith, length-replaced, h)) ∙ sym (size l h)) (λ k b. word k (omega (arith, b, size (replaced n i ws l) (omega (arith, length-replaced, h)))))
+      ext-getD 0 (part n j (replaced n i ws l)) (part n j l) (size (replaced n i ws l) (omega (arith, length-replaced, h)) ∙ sym (size l h))
+      (λ k b. word k (omega (arith, b, size (replaced n i ws l) (omega (arith, length-replaced, h)))))
     where
       size : (xs : List ℕ) → j * n + n ≤ length xs → length (part n j xs) ≡ n
       size xs g = part-length n j xs g

@@ -148,7 +148,8 @@ module _ (w : Parameters) (z : Sizes) (all : List Store) (mem : Whole) (closed :
               subst (λ (k : ℕ). Running w (storeAt (set all i x′) k)
               (memory (part (z .vertices) k (mem′ .vertices)) (part (z .edges) k (mem′ .edges)) (part (z .journal) k (mem′ .journal)) (getD (mem′ .marks) k [])) closed types (next .machine (suc k))) g
               (moved (sym (getD-set-same all i x′ _ (omega (arith, in-eight, h .many))))
-              (sym (part-same (z .vertices) i v′ (mem .vertices) vl vertices-end)) (sym (part-same (z .edges) i e′ (mem .edges) el edges-end)) (sym (part-same (z .journal) i t′ (mem .journal) tl journal-end))
+              (sym (part-same (z .vertices) i v′ (mem .vertices) vl vertices-end)) (sym (part-same (z .edges) i e′ (mem .edges) el edges-end))
+              (sym (part-same (z .journal) i t′ (mem .journal) tl journal-end))
               (sym (getD-set-same (mem .marks) i p′ [] (omega (arith, in-eight, h .marks-many)))) (sym (done .machine)) a)
           | differ f g ↦
               moved (sym (getD-set-other all i j x′ _ f))

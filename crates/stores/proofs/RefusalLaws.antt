@@ -124,12 +124,14 @@ module _ (l : LentStores) where
     starts-are : startsCode bs stores start ≡ starts
     starts-are =
         let f = h .lends in
-        λ i. startsCode (bounds (sym (f .vertices-are) i / sym (h .count-is) i / 8) (sym (f .edges-are) i / sym (h .count-is) i / 12) (length (sym (f .rows-are) i))) (sym (h .count-is) i) (sym (f .start-is) i)
+        λ i. startsCode (bounds (sym (f .vertices-are) i / sym (h .count-is) i / 8) (sym (f .edges-are) i / sym (h .count-is) i / 12) (length (sym (f .rows-are) i))) (sym (h .count-is) i)
+        (sym (f .start-is) i)
 
     offsets-are : startsOffset bs 0 stores start ≡ startsOffset (boundsIn w) 0 (l .count) (l .lent .start)
     offsets-are =
         let f = h .lends in
-        λ i. startsOffset (bounds (sym (f .vertices-are) i / sym (h .count-is) i / 8) (sym (f .edges-are) i / sym (h .count-is) i / 12) (length (sym (f .rows-are) i))) 0 (sym (h .count-is) i) (sym (f .start-is) i)
+        λ i. startsOffset (bounds (sym (f .vertices-are) i / sym (h .count-is) i / 8) (sym (f .edges-are) i / sym (h .count-is) i / 12) (length (sym (f .rows-are) i))) 0
+        (sym (h .count-is) i) (sym (f .start-is) i)
 
     room-is : _≡_ {A = ℕ} room (ltb (image / stores) (imageLength (vertices / stores / 8) (edges / stores / 12)) ⇒ 106 else 0)
     room-is =
@@ -138,7 +140,8 @@ module _ (l : LentStores) where
 
     pub lengths-refused : (c : ℕ) → c ≡ lengthsIn calls answers vertices edges journal stores → (c ≡ 0 → ⊥) → Refuses c 0
     lengths-refused c e n =
-        let r = stopped (not (length (l .lent .calls) % 6 == 0)) (ltb (length (l .lent .answers)) (2 * (length (l .lent .calls) / 6))) (not (inLimitsIn (l .count) (w .vertices) (w .edges) (w .changes))) c (not (goodRows (l .lent .rows)) ⇒ 104 else startRows starts room) (e ∙ lengths-are) n in
+        let r = stopped (not (length (l .lent .calls) % 6 == 0)) (ltb (length (l .lent .answers)) (2 * (length (l .lent .calls) / 6)))
+        (not (inLimitsIn (l .count) (w .vertices) (w .edges) (w .changes))) c (not (goodRows (l .lent .rows)) ⇒ 104 else startRows starts room) (e ∙ lengths-are) n in
         alone c (r .0 ∙ sym table-is) (r .1)
 
     module _ (e : lengthsIn calls answers vertices edges journal stores ≡ 0) where

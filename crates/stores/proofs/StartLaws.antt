@@ -110,7 +110,8 @@ module _ (ws : List ℕ) (at n : ℕ) (is : n ≡ min (statedLength (drop at ws)
             let j = stores - (k + 1) in
             let w = whole in
             ap (λ (i : ℕ). startsOffset b at i rest) one-more
-            ∙ ap (λ (t : Bool). t ⇒ startsOffset b (at + statedLength rest) j (drop (statedLength rest) rest) else (at + loadOffset b (take (statedLength rest) rest))) (eq-eqb (loadCode b (take (statedLength rest) rest)) 0 loads)
+            ∙ ap (λ (t : Bool). t ⇒ startsOffset b (at + statedLength rest) j (drop (statedLength rest) rest) else (at + loadOffset b (take (statedLength rest) rest)))
+            (eq-eqb (loadCode b (take (statedLength rest) rest)) 0 loads)
             ∙ (λ i. startsOffset b (at + sym w i) j (sym rest-is i))
 
     module _ (bad : loadCode b (take (at + n - at) rest) ≡ 0 → ⊥) (stores k : ℕ) (more : k < stores) where

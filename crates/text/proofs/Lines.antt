@@ -91,7 +91,8 @@ line-from (cut {p = p} {xs = xs} f q) k h = rw (space-run f k xs, pieces-cut 32 
             rw (space-good k p e i) (ih (k + 1) (omega arith) ∙ ap (λ (j : ℕ). (j == 5) && all goodNumber (pieces 32 xs)) m)
         room false r =
             let i : 4 ≤ k = ltb-false k 4 r in
-            rw (space-full k p i, bad-line xs k) (sym (ap (λ (t : Bool). t && all goodNumber (pieces 32 xs)) (ne-eqb (k + suc (length (pieces 32 xs))) 5 (λ z. omega (arith, some (pieces-nonempty 32 q))))))
+            rw (space-full k p i, bad-line xs k)
+            (sym (ap (λ (t : Bool). t && all goodNumber (pieces 32 xs)) (ne-eqb (k + suc (length (pieces 32 xs))) 5 (λ z. omega (arith, some (pieces-nonempty 32 q))))))
 
 pub line-law : (l : List ℕ) → lineGood (scan lineIn freshLine l) ≡ goodLine l
 unfolding goodLine

@@ -48,11 +48,13 @@ from-value [] v p q = rw (lt-ltb v (2 ^ 32) q)
 from-value (x ∷ xs) v p q = go (λ w h k. from-value xs w h k) (digit x) refl
   where
     go : ((u : ℕ) → 1 ≤ u → u < 2 ^ 32 → scan digitIn (Value u) xs ≡ ((all digit xs && ltb (valueOf u xs) (2 ^ 32)) ⇒ Value (valueOf u xs) else Bad)) →
-        (t : Bool) → digit x ≡ t → scan digitIn (digitIn (Value v) x) xs ≡ (((digit x && all digit xs) && ltb (valueOf (10 * v + (x - 48)) xs) (2 ^ 32)) ⇒ Value (valueOf (10 * v + (x - 48)) xs) else Bad)
+        (t : Bool) → digit x ≡ t → scan digitIn (digitIn (Value v) x) xs
+        ≡ (((digit x && all digit xs) && ltb (valueOf (10 * v + (x - 48)) xs) (2 ^ 32)) ⇒ Value (valueOf (10 * v + (x - 48)) xs) else Bad)
     go ih false e = rw e (bad-stays xs)
     go ih true e = simp (e, ne-eqb v 0 (λ z. omega arith)) (more (ltb (10 * v + (x - 48)) (2 ^ 32)) refl)
       where
-        more : (t : Bool) → ltb (10 * v + (x - 48)) (2 ^ 32) ≡ t → scan digitIn (t ⇒ Value (10 * v + (x - 48)) else Bad) xs ≡ ((all digit xs && ltb (valueOf (10 * v + (x - 48)) xs) (2 ^ 32)) ⇒ Value (valueOf (10 * v + (x - 48)) xs) else Bad)
+        more : (t : Bool) → ltb (10 * v + (x - 48)) (2 ^ 32) ≡ t → scan digitIn (t ⇒ Value (10 * v + (x - 48)) else Bad) xs
+            ≡ ((all digit xs && ltb (valueOf (10 * v + (x - 48)) xs) (2 ^ 32)) ⇒ Value (valueOf (10 * v + (x - 48)) xs) else Bad)
         more true f = ih (10 * v + (x - 48)) (omega arith) (ltb-true _ _ f)
         more false f =
             let g : 2 ^ 32 ≤ 10 * v + (x - 48) = ltb-false _ _ f in
@@ -78,7 +80,8 @@ not-last false l b = refl
 first-zero : (xs : List ℕ) → scan digitIn (Value 0) xs ≡ ((all digit xs && (length xs == 0) && ltb (valueOf 0 xs) (2 ^ 32)) ⇒ Value (valueOf 0 xs) else Bad)
 unfolding valueOf
 first-zero [] = refl
-first-zero (y ∷ ys) = ap (λ (n : Number). scan digitIn n ys) (zero-digit y) ∙ bad-stays ys ∙ sym (ap (λ (t : Bool). t ⇒ Value (valueOf 0 (y ∷ ys)) else Bad) (not-last (all digit (y ∷ ys)) (length ys) _))
+first-zero (y ∷ ys) =
+    ap (λ (n : Number). scan digitIn n ys) (zero-digit y) ∙ bad-stays ys ∙ sym (ap (λ (t : Bool). t ⇒ Value (valueOf 0 (y ∷ ys)) else Bad) (not-last (all digit (y ∷ ys)) (length ys) _))
 
 pub number-law : (p : List ℕ) → scan digitIn Empty p ≡ numberOf p
 unfolding goodNumber valueOf digitIn addDigit

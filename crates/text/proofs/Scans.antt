@@ -161,5 +161,12 @@ pub words-count : {xs : List ℕ} → Good xs → length (wordsIn (pieces 10 xs)
 unfolding pieces wordsIn lineCount
 words-count none = refl
 words-count (line {p = p} {xs = xs} f e g) =
-    rw (pieces-cut 10 f xs, words-cons p (pieces-nonempty 10 (parts 10 xs)), count-cons p (pieces-nonempty 10 (parts 10 xs)), length-append (map (valueOf 0) (pieces 32 p)) (wordsIn (pieces 10 xs)), length-map (pieces 32 p) (valueOf 0))
+    rw (
+      pieces-cut 10 f xs,
+      words-cons p (pieces-nonempty 10 (parts 10 xs)),
+      count-cons p (pieces-nonempty 10 (parts 10 xs)),
+      length-append (map (valueOf 0) (pieces 32 p))
+          (wordsIn (pieces 10 xs)),
+      length-map (pieces 32 p) (valueOf 0),
+    )
     (omega (arith, five p e .0, words-count g))

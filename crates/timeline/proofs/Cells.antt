@@ -19,7 +19,8 @@ module _ {M : Type 1} (𝓤 : URA M) (H : Heap 𝓤) (A : Atoms 𝓤) (W : Given
 
   pub lies-in : (vs : List Val) → ent 𝓤 (Cell vs) (sem 𝓤 H A (mem T.the-row .lies h b 0))
   unfolding partOf
-  lies-in vs = qed W (‵ (cellAt fullShare (T.the-row .mir) vs b 0) ∷ ‵ (T.the-row .own h vs) ∷ []) ∵ fjoin ! $ fpack ! (List Val) (λ us. fsep (cellAt fullShare (T.the-row .mir) us b 0) (T.the-row .own h us)) vs $ done !
+  lies-in vs = qed W (‵ (cellAt fullShare (T.the-row .mir) vs b 0) ∷ ‵ (T.the-row .own h vs) ∷ []) ∵ fjoin ! $
+      fpack ! (List Val) (λ us. fsep (cellAt fullShare (T.the-row .mir) us b 0) (T.the-row .own h us)) vs $ done !
 
   pub lies-out : ent 𝓤 (sem 𝓤 H A (mem T.the-row .lies h b 0)) (ex 𝓤 Cell)
   unfolding partOf

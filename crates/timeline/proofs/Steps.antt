@@ -182,7 +182,8 @@ journal-placed b j j′ s s′ t l k h y z = record {
 }
 
 -- the record that a lending function hands back, at what its contract says of it
-pub at-record : (b : Bounds) (x y : Current) (vertices edges t : List ℕ) (l : Timeline) → x ≡ y → Journal b (y .position) (state (y .head) vertices edges) t l → Journal b (x .position) (state (x .head) vertices edges) t l
+pub at-record : (b : Bounds) (x y : Current) (vertices edges t : List ℕ) (l : Timeline) → x ≡ y → Journal b (y .position) (state (y .head) vertices edges) t l
+    → Journal b (x .position) (state (x .head) vertices edges) t l
 at-record b x y vertices edges t l e = subst (λ (z : Current). Journal b (z .position) (state (z .head) vertices edges) t l) (sym e)
 
 pub placed-by : (b : Bounds) (j : Position) (s : State) (t : List ℕ) (l : Timeline) (p q : ℕ) → p ≡ q → Journal b j s t (placed p l) → Journal b j s t (placed q l)

@@ -30,8 +30,8 @@ pub struct Position {
 
 // What every change updates: ends and counts of the graph, and the position.
 pub struct Current {
-    pub head: Head,
     pub position: Position,
+    pub head: Head,
 }
 
 // The rows up to which the present step leads, and how many steps come after it.

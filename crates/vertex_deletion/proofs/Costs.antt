@@ -21,7 +21,12 @@ module _ (b : Bounds) (s : State) (z : Sized b s) (g : Graph) (h : Holds s g) (a
 
   pub count-short : (n : ℕ) → n ≡ distinctEdgesAt (s .vertices) (s .edges) a → n + 1 < 2 ^ 32
   unfolding distinctEdgesAt
-  count-short n q = omega (arith, q, sum-few (countedAt (s .edges)) (counted-le (s .edges)) incidenceLinks (s .edges) (endsAt (s .vertices) a) valid-i (can-count .list) (can-count .held), can-count .small)
+  count-short n q = omega (
+    arith,
+    q,
+    sum-few (countedAt (s .edges)) (counted-le (s .edges)) incidenceLinks (s .edges) (endsAt (s .vertices) a) valid-i (can-count .list) (can-count .held),
+    can-count .small,
+  )
 
 pub counted : (s : State) (g : Graph) → Holds s g → (a n : ℕ) → VertexThere g a → n ≡ distinctEdgesAt (s .vertices) (s .edges) a → n + 1 ≡ cost (DeleteVertex a) g
 counted s g h a n i q = omega (arith, q, edges-counted s g h a i)

@@ -112,7 +112,8 @@ module _ (b : Bounds) (s : State) (g : Graph) (h : Holds s g) where
 module _ (s : State) (a w c i : ℕ) (t : List ℕ) (s′ : State) (t′ : List ℕ) (q : w ≡ vfirst (s .vertices) a) where
   pub next-edge : w ≢ 0 → Written (planRemoveEdge (s .edges) (w / 2)) (costing c) i s t s′ t′ → Written (nextEdit s a) (costing c) i s t s′ t′
   next-edge n = subst (λ (e : Edit). Written e (costing c) i s t s′ t′)
-      (ap (λ (v : ℕ). planRemoveEdge (s .edges) (v / 2)) q ∙ ap (λ (p : Bool). p ⇒ planRemoveVertex (s .vertices) a else planRemoveEdge (s .edges) (vfirst (s .vertices) a / 2)) (sym (ne-eqb _ 0 (λ z. n (q ∙ z)))))
+      (ap (λ (v : ℕ). planRemoveEdge (s .edges) (v / 2)) q ∙ ap (λ (p : Bool). p ⇒ planRemoveVertex (s .vertices) a else planRemoveEdge (s .edges) (vfirst (s .vertices) a / 2))
+      (sym (ne-eqb _ 0 (λ z. n (q ∙ z)))))
 
   pub next-vertex : w ≡ 0 → Written (planRemoveVertex (s .vertices) a) (costing c) i s t s′ t′ → Written (nextEdit s a) (costing c) i s t s′ t′
   next-vertex z = subst (λ (e : Edit). Written e (costing c) i s t s′ t′)

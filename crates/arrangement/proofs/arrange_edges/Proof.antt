@@ -13,12 +13,15 @@ returns : tie.Need-returns
 returns c =
     let a = c .before .before .before .before .before .before .before .args in
     refused-is (c .refused .result) (a .list .now) (c .before .before .code-of .result) (c .refused .ensures)
-    ∙ edges-refused (a .words .now) (a .wanted .now) (a .list .now) (c .before .before .code-of .result) (c .before .before .code-of .ensures ∙ ap codeOf (c .before .before .before .check-saved .ensures)) (c .before .if1 .taken)
+    ∙ edges-refused (a .words .now) (a .wanted .now) (a .list .now) (c .before .before .code-of .result)
+    (c .before .before .code-of .ensures ∙ ap codeOf (c .before .before .before .check-saved .ensures)) (c .before .if1 .taken)
 
 returns-2 : tie.Need-returns-2
 returns-2 c =
     let a = c .before .before .before .before .before .before .before .before .before .before .before .before .before .before .args in
-    let z = sym (c .before .before .before .before .before .before .before .before .before .code-of .ensures ∙ ap codeOf (c .before .before .before .before .before .before .before .before .before .before .check-saved .ensures)) ∙ c .before .before .before .before .before .before .before .before .if1 .left in
+    let z = sym (c .before .before .before .before .before .before .before .before .before .code-of .ensures
+    ∙ ap codeOf (c .before .before .before .before .before .before .before .before .before .before .check-saved .ensures))
+    ∙ c .before .before .before .before .before .before .before .before .if1 .left in
     let count = c .before .before .before .before .before .before .get .ensures in
     let part = c .before .before .before .before .before .before .before .part .ensures .0 in
     c .before .before .before .order-numbers .ensures
@@ -28,14 +31,5 @@ returns-2 c =
 pub arrange-edges-spec : {M : Type 1} → statement M
 arrange-edges-spec =
     tie.close
-    (tie.spec
-    (λ c κs. search needs)
-    (λ c κs. search needs)
-    (λ c κs. search needs)
-    returns
-    (λ c κs. search needs)
-    (λ c κs. search needs)
-    (λ c. search needs)
-    (λ c κs. search needs)
-    (λ c. search needs)
-    returns-2)
+    (tie.spec (λ c κs. search needs) (λ c κs. search needs) (λ c κs. search needs) returns (λ c κs. search needs) (λ c κs. search needs) (λ c. search needs)
+    (λ c κs. search needs) (λ c. search needs) returns-2)

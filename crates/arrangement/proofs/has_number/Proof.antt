@@ -45,14 +45,6 @@ returns-2 c =
 pub has-number-spec : {M : Type 1} → statement M
 has-number-spec =
     tie.close
-    (tie.spec
-    Inv-loop
-    μ-loop
-    loop-holds
-    (λ c κs. search needs)
-    returns
+    (tie.spec Inv-loop μ-loop loop-holds (λ c κs. search needs) returns
     (λ c. omega (arith, c .before .before .before .loop .inv .1, c .before .before .before .before .before .pre))
-    (λ c. omega arith)
-    (λ c. omega arith)
-    loop-again
-    returns-2)
+    (λ c. omega arith) (λ c. omega arith) loop-again returns-2)

@@ -29,7 +29,9 @@ loop-again c =
       omega arith,
       omega (arith, l .inv .1, c .before .before .before .before .before .before .before .before .before .before .pre),
       omega (arith, p .kept, l .inv .2),
-      marks-turn (a .size) (a .part .now) (a .count) (l .i) (l .at) (c .before .before .before .before .before .before .loop-test .taken) (l .items) (p .last .0) (c .before .before .before .before .wide .result) (c .before .before .before .before .wide .ensures .0 ∙ c .before .before .before .before .before .get .ensures) (p .ensures) ∙ l .inv .3,
+      marks-turn (a .size) (a .part .now) (a .count) (l .i) (l .at) (c .before .before .before .before .before .before .loop-test .taken) (l .items) (p .last .0)
+          (c .before .before .before .before .wide .result) (c .before .before .before .before .wide .ensures .0 ∙ c .before .before .before .before .before .get .ensures) (p .ensures)
+          ∙ l .inv .3,
     )
 
 returns : tie.Need-returns Inv-loop μ-loop
@@ -42,16 +44,6 @@ returns c =
 pub mark-numbers-spec : {M : Type 1} → statement M
 mark-numbers-spec =
     tie.close
-    (tie.spec
-    Inv-loop
-    μ-loop
-    loop-holds
-    (λ c κs. search needs)
-    (λ c κs. search needs)
-    (λ c κs. search needs)
+    (tie.spec Inv-loop μ-loop loop-holds (λ c κs. search needs) (λ c κs. search needs) (λ c κs. search needs)
     (λ c. omega (arith, c .before .before .before .before .before .before .before .loop .inv .1, c .before .before .before .before .before .before .before .before .before .before .pre))
-    (λ c. omega arith)
-    (λ c. omega arith)
-    loop-again
-    (λ c. search needs)
-    returns)
+    (λ c. omega arith) (λ c. omega arith) loop-again (λ c. search needs) returns)

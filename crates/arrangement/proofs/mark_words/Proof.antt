@@ -30,13 +30,26 @@ loop-again c =
     let t = c .before .before .before .before .before .before .before .before .before .before .before .before .loop-test .taken in
     let o = c .before .before .before .before .before .before .before .mark-end in
     let b = c .before .before .mark-end2 in
-    let n : 2 * c .before .before .before .before .before .before .before .before .before .before .wide .result ≡ 2 * _ = ap (λ (x : ℕ). 2 * x) (c .before .before .before .before .before .before .before .before .before .before .wide .ensures .0 ∙ c .before .before .before .before .before .before .before .before .before .before .before .get .ensures) in (
+    let n : 2 * c .before .before .before .before .before .before .before .before .before .before .wide .result ≡ 2 * _ =
+    ap (λ (x : ℕ). 2 * x) (c .before .before .before .before .before .before .before .before .before .before .wide .ensures .0
+    ∙ c .before .before .before .before .before .before .before .before .before .before .before .get .ensures) in (
       omega arith,
       omega (arith, l .inv .1),
       omega (arith, l .inv .2, o .ensures .1, b .ensures .1),
       omega (arith, o .kept, b .kept, l .inv .3),
-      omega (arith, l .inv .4, ends-count (a .vertex) (a .part .now) (a .count) (l .i) (l .at) t (2 * c .before .before .before .before .before .before .before .before .before .before .wide .result) (c .before .before .before .before .before .before .before .before .before .get2 .result) (c .before .before .before .before .get3 .result) (o .result) (b .result) n (c .before .before .before .before .before .before .before .before .before .get2 .ensures) (c .before .before .before .before .get3 .ensures) (o .ensures .0) (b .ensures .0)),
-      ends-turn (a .vertex) (a .part .now) (a .count) (l .i) (l .at) t (l .items) (o .last .1 .1 .1 .0) (b .last .1 .1 .1 .0) (2 * c .before .before .before .before .before .before .before .before .before .before .wide .result) (c .before .before .before .before .before .before .before .before .before .get2 .result) (c .before .before .before .before .get3 .result) n (c .before .before .before .before .before .before .before .before .before .get2 .ensures) (c .before .before .before .before .get3 .ensures) (o .ensures .2) (b .ensures .2) ∙ l .inv .5,
+      omega (
+        arith,
+        l .inv .4,
+        ends-count (a .vertex) (a .part .now) (a .count) (l .i) (l .at) t
+            (2 * c .before .before .before .before .before .before .before .before .before .before .wide .result)
+            (c .before .before .before .before .before .before .before .before .before .get2 .result) (c .before .before .before .before .get3 .result) (o .result) (b .result) n
+            (c .before .before .before .before .before .before .before .before .before .get2 .ensures) (c .before .before .before .before .get3 .ensures) (o .ensures .0) (b .ensures .0),
+      ),
+      ends-turn (a .vertex) (a .part .now) (a .count) (l .i) (l .at) t (l .items) (o .last .1 .1 .1 .0) (b .last .1 .1 .1 .0)
+          (2 * c .before .before .before .before .before .before .before .before .before .before .wide .result)
+          (c .before .before .before .before .before .before .before .before .before .get2 .result) (c .before .before .before .before .get3 .result) n
+          (c .before .before .before .before .before .before .before .before .before .get2 .ensures) (c .before .before .before .before .get3 .ensures) (o .ensures .2) (b .ensures .2)
+          ∙ l .inv .5,
     )
 
 returns : tie.Need-returns Inv-loop μ-loop
@@ -53,25 +66,17 @@ returns c =
 pub mark-words-spec : {M : Type 1} → statement M
 mark-words-spec =
     tie.close
-    (tie.spec
-    Inv-loop
-    μ-loop
-    loop-holds
-    (λ c κs. search needs)
-    (λ c κs. search needs)
-    (λ c. omega (arith, c .wide .ensures .1))
-    (λ c. omega (arith, c .before .before .before .loop .inv .1))
-    (λ c κs. search needs)
-    (λ c κs. search needs)
-    (λ c. omega (arith, c .before .before .before .before .before .before .before .before .loop .inv .1))
-    (λ c κs. search needs)
-    (λ c. omega (arith, c .before .before .before .before .before .before .wide .ensures .1))
-    (λ c κs. search needs)
+    (tie.spec Inv-loop μ-loop loop-holds (λ c κs. search needs) (λ c κs. search needs)
+    (λ c. omega (arith, c .wide .ensures .1)) (λ c. omega (arith, c .before .before .before .loop .inv .1))
+    (λ c κs. search needs) (λ c κs. search needs)
+    (λ c. omega (arith, c .before .before .before .before .before .before .before .before .loop .inv .1)) (λ c κs. search needs)
+    (λ c. omega (arith, c .before .before .before .before .before .before .wide .ensures .1)) (λ c κs. search needs)
     (λ c. omega (arith, c .before .before .before .before .before .before .before .mark-end .ensures .1, c .before .before .mark-end2 .ensures .1))
-    (λ c. omega (arith, c .before .before .before .before .before .before .before .mark-end .ensures .1, c .before .before .mark-end2 .ensures .1, c .before .before .before .before .before .before .before .before .before .before .before .before .before .loop .inv .2))
+    (λ c. omega (
+      arith,
+      c .before .before .before .before .before .before .before .mark-end .ensures .1,
+      c .before .before .mark-end2 .ensures .1,
+      c .before .before .before .before .before .before .before .before .before .before .before .before .before .loop .inv .2,
+    ))
     (λ c. omega (arith, c .before .before .before .before .before .before .before .before .before .before .before .before .before .loop .inv .1))
-    (λ c. omega arith)
-    (λ c. omega arith)
-    loop-again
-    (λ c. search needs)
-    returns)
+    (λ c. omega arith) (λ c. omega arith) loop-again (λ c. search needs) returns)

@@ -8,15 +8,11 @@ use Rattle.arrangement.proofs.order_numbers.Tie as tie
 returns : tie.Need-returns
 returns c =
     let a = c .before .before .before .before .before .before .before .before .before .before .before .before .before .before .before .before .args in
-    c .before .before .before .before .settle .ensures ∙ (λ i. settled (a .kind) (a .wanted .now) (c .before .before .before .before .before .before .before .wide .ensures .0 i) (c .before .before .before .before .before .before .before .before .before .before .mark-numbers .ensures i) (a .list .now))
+    c .before .before .before .before .settle .ensures
+    ∙ (λ i. settled (a .kind) (a .wanted .now) (c .before .before .before .before .before .before .before .wide .ensures .0 i)
+    (c .before .before .before .before .before .before .before .before .before .before .mark-numbers .ensures i) (a .list .now))
 
 pub order-numbers-spec : {M : Type 1} → statement M
 order-numbers-spec =
     tie.close
-    (tie.spec
-    (λ c κs. search needs)
-    (λ c κs. search needs)
-    (λ c κs. search needs)
-    (λ c. search needs)
-    (λ c. search needs)
-    returns)
+    (tie.spec (λ c κs. search needs) (λ c κs. search needs) (λ c κs. search needs) (λ c. search needs) (λ c. search needs) returns)

@@ -22,7 +22,8 @@ returns : tie.Need-returns Inv-loop μ-loop
 returns c =
     let a = c .before .before .before .before .before .before .before .before .before .args in
     let l = c .before .before .before .before .before .before .loop in
-    taken-stop (a .wanted .now) (l .items) (l .i) (c .before .before .before .wide .result) (c .before .before .before .before .before .loop-test .taken) (c .before .before .before .wide .ensures .0 ∙ c .before .before .before .before .get .ensures) (c .before .look .result) (c .before .look .ensures) (c .if1 .taken) ∙ l .inv .2
+    taken-stop (a .wanted .now) (l .items) (l .i) (c .before .before .before .wide .result) (c .before .before .before .before .before .loop-test .taken)
+    (c .before .before .before .wide .ensures .0 ∙ c .before .before .before .before .get .ensures) (c .before .look .result) (c .before .look .ensures) (c .if1 .taken) ∙ l .inv .2
 
 loop-again : tie.Need-loop-again Inv-loop μ-loop
 loop-again c =
@@ -31,7 +32,11 @@ loop-again c =
     let p = c .before .before .put in (
       omega arith,
       omega (arith, p .kept, l .inv .1),
-      taken-turn (a .wanted .now) (l .items) (l .i) (c .before .before .before .before .before .before .before .wide .result) (c .before .before .before .before .before .before .before .before .before .loop-test .taken) (c .before .before .before .before .before .before .before .wide .ensures .0 ∙ c .before .before .before .before .before .before .before .before .get .ensures) (c .before .before .before .before .before .look .result) (p .last .0) (c .before .before .before .before .before .look .ensures) (c .before .before .before .before .if1 .left) (p .ensures) ∙ l .inv .2,
+      taken-turn (a .wanted .now) (l .items) (l .i) (c .before .before .before .before .before .before .before .wide .result)
+          (c .before .before .before .before .before .before .before .before .before .loop-test .taken)
+          (c .before .before .before .before .before .before .before .wide .ensures .0 ∙ c .before .before .before .before .before .before .before .before .get .ensures)
+          (c .before .before .before .before .before .look .result) (p .last .0) (c .before .before .before .before .before .look .ensures) (c .before .before .before .before .if1 .left)
+          (p .ensures) ∙ l .inv .2,
     )
 
 returns-2 : tie.Need-returns-2 Inv-loop μ-loop
@@ -44,18 +49,5 @@ returns-2 c =
 pub take-off-spec : {M : Type 1} → statement M
 take-off-spec =
     tie.close
-    (tie.spec
-    Inv-loop
-    μ-loop
-    loop-holds
-    (λ c κs. search needs)
-    (λ c κs. search needs)
-    (λ c κs. search needs)
-    (λ c. search needs)
-    returns
-    (λ c κs. search needs)
-    (λ c. search needs)
-    (λ c. omega arith)
-    loop-again
-    (λ c. search needs)
-    returns-2)
+    (tie.spec Inv-loop μ-loop loop-holds (λ c κs. search needs) (λ c κs. search needs) (λ c κs. search needs) (λ c. search needs) returns (λ c κs. search needs)
+    (λ c. search needs) (λ c. omega arith) loop-again (λ c. search needs) returns-2)

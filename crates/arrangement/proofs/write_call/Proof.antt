@@ -12,20 +12,12 @@ returns c = five-stores (c .args .list .now) (c .args .at) (c .args .kind) (c .a
 pub write-call-spec : {M : Type 1} → statement M
 write-call-spec =
     tie.close
-    (tie.spec
-    (λ c. search needs)
-    (λ c. search needs)
-    (λ c. search needs)
-    (λ c. search needs)
+    (tie.spec (λ c. search needs) (λ c. search needs) (λ c. search needs) (λ c. search needs)
     (λ c. simp length-set (omega (arith, c .pre)))
-    (λ c. search needs)
-    (λ c. search needs)
+    (λ c. search needs) (λ c. search needs)
     (λ c. simp length-set (omega (arith, c .pre)))
-    (λ c. search needs)
-    (λ c. search needs)
+    (λ c. search needs) (λ c. search needs)
     (λ c. simp length-set (omega (arith, c .pre)))
-    (λ c. search needs)
-    (λ c. search needs)
+    (λ c. search needs) (λ c. search needs)
     (λ c. simp length-set (omega (arith, c .pre)))
-    (λ c. search needs)
-    returns)
+    (λ c. search needs) returns)

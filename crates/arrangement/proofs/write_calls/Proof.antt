@@ -31,7 +31,8 @@ loop-again c =
       omega arith,
       omega (arith, l .inv .0, l .inv .1),
       omega (arith, p .kept, l .inv .2),
-      calls-turn (a .kind) (a .wanted .now) (l .list) (p .last .0) (l .before) (l .i) (l .at) (c .before .before .before .before .get2 .result) (c .before .before .before .before .before .loop-test .taken) (c .before .before .before .before .get2 .ensures) (p .ensures) ∙ l .inv .3,
+      calls-turn (a .kind) (a .wanted .now) (l .list) (p .last .0) (l .before) (l .i) (l .at) (c .before .before .before .before .get2 .result)
+          (c .before .before .before .before .before .loop-test .taken) (c .before .before .before .before .get2 .ensures) (p .ensures) ∙ l .inv .3,
     )
 
 returns : tie.Need-returns Inv-loop μ-loop
@@ -44,16 +45,21 @@ returns c =
 pub write-calls-spec : {M : Type 1} → statement M
 write-calls-spec =
     tie.close
-    (tie.spec
-    Inv-loop
-    μ-loop
-    (λ c κs. search needs)
-    loop-holds
-    (λ c κs. search needs)
-    (λ c κs. omega (arith, c .before .before .before .before .before .before .before .pre, c .before .before .before .loop .inv .0, c .before .before .before .loop .inv .1, c .before .before .before .loop .inv .2, c .before .before .loop-test .taken))
-    (λ c. omega (arith, c .before .before .before .before .before .before .before .before .before .before .pre, c .before .before .before .before .before .before .loop .inv .0, c .before .before .before .before .before .before .loop .inv .1, c .before .before .before .before .before .before .loop .inv .2, c .before .before .before .before .before .loop-test .taken))
-    (λ c. search needs)
-    (λ c. omega arith)
-    loop-again
-    (λ c. search needs)
-    returns)
+    (tie.spec Inv-loop μ-loop (λ c κs. search needs) loop-holds (λ c κs. search needs)
+    (λ c κs. omega (
+      arith,
+      c .before .before .before .before .before .before .before .pre,
+      c .before .before .before .loop .inv .0,
+      c .before .before .before .loop .inv .1,
+      c .before .before .before .loop .inv .2,
+      c .before .before .loop-test .taken,
+    ))
+    (λ c. omega (
+      arith,
+      c .before .before .before .before .before .before .before .before .before .before .pre,
+      c .before .before .before .before .before .before .loop .inv .0,
+      c .before .before .before .before .before .before .loop .inv .1,
+      c .before .before .before .before .before .before .loop .inv .2,
+      c .before .before .before .before .before .loop-test .taken,
+    ))
+    (λ c. search needs) (λ c. omega arith) loop-again (λ c. search needs) returns)

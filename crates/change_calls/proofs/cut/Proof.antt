@@ -15,7 +15,4 @@ returns-2 c = λ ms h f. c .cut-marks .ensures .1 ms h
 pub cut-spec : {M : Type 1} → statement M
 cut-spec =
     tie.close
-    (tie.spec
-    returns
-    (λ c κs. search needs)
-    returns-2)
+    (tie.spec returns (λ c κs. search needs) returns-2)

@@ -20,7 +20,10 @@ returns c =
     let s′ = state (k .result .head) (k .last .1 .0) (k .last .1 .1 .0) in
     let t′ = k .last .1 .1 .1 .0 in
     let z = c .before .if1 .taken in
-    λ types. altered-by (DeleteVertex (s .args .vertex)) types (s .args .free) (s .args .store) (given s) _ (c .stay .ensures) (change-kept (DeleteVertex (s .args .vertex)) types (s .args .free) (s .args .store) (given s) _ _ s′ t′ (deletion-attempts types (s .args .store .current .position) (tablesOf (s .args .store) (given s)) (s .args .journal .now) _ _ s′ t′ (s .args .vertex) (s .args .free) (k .ensures)) z)
+    λ types. altered-by (DeleteVertex (s .args .vertex)) types (s .args .free) (s .args .store) (given s) _ (c .stay .ensures)
+    (change-kept (DeleteVertex (s .args .vertex)) types (s .args .free) (s .args .store) (given s) _ _ s′ t′
+    (deletion-attempts types (s .args .store .current .position) (tablesOf (s .args .store) (given s)) (s .args .journal .now) _ _ s′ t′ (s .args .vertex) (s .args .free) (k .ensures))
+    z)
 
 put-bench-requires : tie.Need-put-bench-requires
 put-bench-requires c κs =
@@ -29,7 +32,9 @@ put-bench-requires c κs =
     let p = start .pre .0 in
     let s′ = state (d .result .head) (d .last .1 .0) (d .last .1 .1 .0) in
     let t′ = d .last .1 .1 .1 .0 in
-    sign-fits (DeleteVertex (start .args .vertex)) (p .0 .types) (start .args .free) (start .args .store) (given start) _ _ s′ t′ (deletion-attempts (p .0 .types) (start .args .store .current .position) (tablesOf (start .args .store) (given start)) (start .args .journal .now) _ _ s′ t′ (start .args .vertex) (start .args .free) (d .ensures)) (p .0) (p .1) refl (p .2) (c .before .if1 .left)
+    sign-fits (DeleteVertex (start .args .vertex)) (p .0 .types) (start .args .free) (start .args .store) (given start) _ _ s′ t′
+    (deletion-attempts (p .0 .types) (start .args .store .current .position) (tablesOf (start .args .store) (given start)) (start .args .journal .now) _ _ s′ t′ (start .args .vertex)
+    (start .args .free) (d .ensures)) (p .0) (p .1) refl (p .2) (c .before .if1 .left)
 
 stepped-requires : tie.Need-stepped-requires
 stepped-requires c κs =
@@ -38,7 +43,9 @@ stepped-requires c κs =
     let p = s .pre .0 in
     let s′ = state (k .result .head) (k .last .1 .0) (k .last .1 .1 .0) in
     let t′ = k .last .1 .1 .1 .0 in
-    step-fits (DeleteVertex (s .args .vertex)) (p .0 .types) (s .args .free) (s .args .store) (given s) _ _ s′ t′ (deletion-attempts (p .0 .types) (s .args .store .current .position) (tablesOf (s .args .store) (given s)) (s .args .journal .now) _ _ s′ t′ (s .args .vertex) (s .args .free) (k .ensures)) (p .0) (p .1) refl (p .2) (c .before .before .before .before .if1 .left)
+    step-fits (DeleteVertex (s .args .vertex)) (p .0 .types) (s .args .free) (s .args .store) (given s) _ _ s′ t′
+    (deletion-attempts (p .0 .types) (s .args .store .current .position) (tablesOf (s .args .store) (given s)) (s .args .journal .now) _ _ s′ t′ (s .args .vertex) (s .args .free)
+    (k .ensures)) (p .0) (p .1) refl (p .2) (c .before .before .before .before .if1 .left)
 
 returns-2 : tie.Need-returns-2
 returns-2 c =
@@ -46,22 +53,15 @@ returns-2 c =
     let k = c .before .before .before .before .before .before .before .before .before .before .before .before .before .before .delete in
     let s′ = state (k .result .head) (k .last .1 .0) (k .last .1 .1 .0) in
     let t′ = k .last .1 .1 .1 .0 in
-    λ types. change-made (DeleteVertex (s .args .vertex)) types (s .args .free) (s .args .store) (given s) _ _ s′ t′ (deletion-attempts types (s .args .store .current .position) (tablesOf (s .args .store) (given s)) (s .args .journal .now) _ _ s′ t′ (s .args .vertex) (s .args .free) (k .ensures)) (c .before .before .before .before .before .before .if1 .left) _ (c .before .stepped .ensures) refl (c .cut .ensures) _ (c .before .before .before .before .put-bench .ensures)
+    λ types. change-made (DeleteVertex (s .args .vertex)) types (s .args .free) (s .args .store) (given s) _ _ s′ t′
+    (deletion-attempts types (s .args .store .current .position) (tablesOf (s .args .store) (given s)) (s .args .journal .now) _ _ s′ t′ (s .args .vertex) (s .args .free) (k .ensures))
+    (c .before .before .before .before .before .before .if1 .left) _ (c .before .stepped .ensures) refl (c .cut .ensures) _ (c .before .before .before .before .put-bench .ensures)
 
 pub delete-vertex-spec : {M : Type 1} → statement M
 delete-vertex-spec =
     tie.close
-    (tie.spec
-    (λ c κs. search needs)
-    (λ c κs. search needs)
-    (λ c. search needs)
-    (λ c. search needs)
-    (λ c. search needs)
-    returns
-    put-bench-requires
+    (tie.spec (λ c κs. search needs) (λ c κs. search needs) (λ c. search needs) (λ c. search needs) (λ c. search needs) returns put-bench-requires
     stepped-requires
-    (λ c κs. c .before .before .before .before .before .before .before .before .before .before .before .before .before .before .before .before .before .before .before .before .before .before .pre .0 .2 .marks .room)
-    (λ c. search needs)
-    (λ c. search needs)
-    (λ c. search needs)
-    returns-2)
+    (λ c κs. c .before .before .before .before .before .before .before .before .before .before .before .before .before .before .before .before .before .before .before .before .before .before
+    .pre .0 .2 .marks .room)
+    (λ c. search needs) (λ c. search needs) (λ c. search needs) returns-2)

@@ -31,8 +31,10 @@ returns c =
     let k = c .before .before .before .before .before .before .before .before .before .make in
     let s′ = state (k .result .head) (k .last .1 .0) (k .last .1 .1 .0) in
     let t′ = k .last .1 .1 .1 .0 in
-    let r = single-attempts (s .args .types) (s .args .store .current .position) (tablesOf (s .args .store) (given s)) (s .args .journal .now) _ _ s′ t′ (s .args .free) (s .pre .1 .4) (s .args .change) (s .pre .0) (held s) (k .ensures) in
-    altered-by (s .args .change) (s .args .types) (s .args .free) (s .args .store) (given s) _ (c .stay .ensures) (change-kept (s .args .change) (s .args .types) (s .args .free) (s .args .store) (given s) _ _ s′ t′ r (c .before .if1 .taken))
+    let r = single-attempts (s .args .types) (s .args .store .current .position) (tablesOf (s .args .store) (given s)) (s .args .journal .now) _ _ s′ t′ (s .args .free) (s .pre .1 .4)
+    (s .args .change) (s .pre .0) (held s) (k .ensures) in
+    altered-by (s .args .change) (s .args .types) (s .args .free) (s .args .store) (given s) _ (c .stay .ensures)
+    (change-kept (s .args .change) (s .args .types) (s .args .free) (s .args .store) (given s) _ _ s′ t′ r (c .before .if1 .taken))
 
 put-bench-requires : tie.Need-put-bench-requires
 put-bench-requires c κs =
@@ -41,7 +43,8 @@ put-bench-requires c κs =
     let p = s .pre .1 in
     let s′ = state (k .result .head) (k .last .1 .0) (k .last .1 .1 .0) in
     let t′ = k .last .1 .1 .1 .0 in
-    let r = single-attempts (s .args .types) (s .args .store .current .position) (tablesOf (s .args .store) (given s)) (s .args .journal .now) _ _ s′ t′ (s .args .free) (s .pre .1 .4) (s .args .change) (s .pre .0) (held s) (k .ensures) in
+    let r = single-attempts (s .args .types) (s .args .store .current .position) (tablesOf (s .args .store) (given s)) (s .args .journal .now) _ _ s′ t′ (s .args .free) (s .pre .1 .4)
+    (s .args .change) (s .pre .0) (held s) (k .ensures) in
     sign-fits (s .args .change) (s .args .types) (s .args .free) (s .args .store) (given s) _ _ s′ t′ r (p .0) (p .1) (p .2) (p .3) (c .before .if1 .left)
 
 stepped-requires : tie.Need-stepped-requires
@@ -51,7 +54,8 @@ stepped-requires c κs =
     let p = s .pre .1 in
     let s′ = state (k .result .head) (k .last .1 .0) (k .last .1 .1 .0) in
     let t′ = k .last .1 .1 .1 .0 in
-    let r = single-attempts (s .args .types) (s .args .store .current .position) (tablesOf (s .args .store) (given s)) (s .args .journal .now) _ _ s′ t′ (s .args .free) (s .pre .1 .4) (s .args .change) (s .pre .0) (held s) (k .ensures) in
+    let r = single-attempts (s .args .types) (s .args .store .current .position) (tablesOf (s .args .store) (given s)) (s .args .journal .now) _ _ s′ t′ (s .args .free) (s .pre .1 .4)
+    (s .args .change) (s .pre .0) (held s) (k .ensures) in
     step-fits (s .args .change) (s .args .types) (s .args .free) (s .args .store) (given s) _ _ s′ t′ r (p .0) (p .1) (p .2) (p .3) (c .before .before .before .before .if1 .left)
 
 returns-2 : tie.Need-returns-2
@@ -60,23 +64,15 @@ returns-2 c =
     let k = c .before .before .before .before .before .before .before .before .before .before .before .before .before .before .make in
     let s′ = state (k .result .head) (k .last .1 .0) (k .last .1 .1 .0) in
     let t′ = k .last .1 .1 .1 .0 in
-    let r = single-attempts (s .args .types) (s .args .store .current .position) (tablesOf (s .args .store) (given s)) (s .args .journal .now) _ _ s′ t′ (s .args .free) (s .pre .1 .4) (s .args .change) (s .pre .0) (held s) (k .ensures) in
-    change-made (s .args .change) (s .args .types) (s .args .free) (s .args .store) (given s) _ _ s′ t′ r (c .before .before .before .before .before .before .if1 .left) _ (c .before .stepped .ensures) refl (c .cut .ensures) _ (c .before .before .before .before .put-bench .ensures)
+    let r = single-attempts (s .args .types) (s .args .store .current .position) (tablesOf (s .args .store) (given s)) (s .args .journal .now) _ _ s′ t′ (s .args .free) (s .pre .1 .4)
+    (s .args .change) (s .pre .0) (held s) (k .ensures) in
+    change-made (s .args .change) (s .args .types) (s .args .free) (s .args .store) (given s) _ _ s′ t′ r (c .before .before .before .before .before .before .if1 .left) _
+    (c .before .stepped .ensures) refl (c .cut .ensures) _ (c .before .before .before .before .put-bench .ensures)
 
 pub single-spec : {M : Type 1} → statement M
 single-spec =
     tie.close
-    (tie.spec
-    make-requires
-    (λ c κs. search needs)
-    (λ c. search needs)
-    (λ c. search needs)
-    (λ c. search needs)
-    returns
-    put-bench-requires
-    stepped-requires
-    (λ c κs. c .before .before .before .before .before .before .before .before .before .before .before .before .before .before .before .before .before .before .before .before .before .before .pre .1 .3 .marks .room)
-    (λ c. search needs)
-    (λ c. search needs)
-    (λ c. search needs)
-    returns-2)
+    (tie.spec make-requires (λ c κs. search needs) (λ c. search needs) (λ c. search needs) (λ c. search needs) returns put-bench-requires stepped-requires
+    (λ c κs. c .before .before .before .before .before .before .before .before .before .before .before .before .before .before .before .before .before .before .before .before .before .before
+    .pre .1 .3 .marks .room)
+    (λ c. search needs) (λ c. search needs) (λ c. search needs) returns-2)

@@ -13,22 +13,17 @@ returns c =
 returns-2 : tie.Need-returns-2
 returns-2 c =
     let a = c .before .before .before .before .before .before .args in
-    with-meaning (first-passes _ _ (c .before .before .before .before .number-code .ensures) (c .before .before .before .if1 .left) (rw (sym (c .before .before .find-vertex .ensures) ∙ c .enum-told2 .given .1))) (λ g h. create-vertex-means _ g h (a .types) (a .n) (a .t))
+    with-meaning
+    (first-passes _ _ (c .before .before .before .before .number-code .ensures) (c .before .before .before .if1 .left)
+    (rw (sym (c .before .before .find-vertex .ensures) ∙ c .enum-told2 .given .1))) (λ g h. create-vertex-means _ g h (a .types) (a .n) (a .t))
 
 returns-3 : tie.Need-returns-3
 returns-3 c =
     let a = c .before .before .before .before .before .before .before .args in
-    with-meaning (first-passes _ _ (c .before .before .before .before .before .number-code .ensures) (c .before .before .before .before .if1 .left) (rw (sym (c .before .before .before .find-vertex .ensures) ∙ c .before .enum-told .given .1) (c .type-code .ensures))) (λ g h. create-vertex-means _ g h (a .types) (a .n) (a .t))
+    with-meaning (first-passes _ _ (c .before .before .before .before .before .number-code .ensures) (c .before .before .before .before .if1 .left)
+    (rw (sym (c .before .before .before .find-vertex .ensures) ∙ c .before .enum-told .given .1) (c .type-code .ensures))) (λ g h. create-vertex-means _ g h (a .types) (a .n) (a .t))
 
 pub create-vertex-spec : {M : Type 1} → statement M
 create-vertex-spec =
     tie.close
-    (tie.spec
-    (λ c κs. search needs)
-    returns
-    (λ c κs. search needs)
-    (λ c. search needs)
-    (λ c. search needs)
-    returns-2
-    (λ c κs. search needs)
-    returns-3)
+    (tie.spec (λ c κs. search needs) returns (λ c κs. search needs) (λ c. search needs) (λ c. search needs) returns-2 (λ c κs. search needs) returns-3)

@@ -17,8 +17,11 @@ returns-2 c =
     let m = c .before .before .before .before .before .match-bit in
     let x = c .before .before .before .reading-at in
     let y = c .before .before .reading-at2 in
-    let u = c .before .agree in
-    (both-on (a .tolerance) (edgeAt (a .a .now) (a .i)) (edgeAt (a .b .now) (a .j)) _ (m .ensures .0) _ _ _ (u .ensures) (x .ensures) (y .ensures) (c .before .before .before .before .if1 .left) (c .if2 .taken), omega arith)
+    let u = c .before .agree in (
+      both-on (a .tolerance) (edgeAt (a .a .now) (a .i)) (edgeAt (a .b .now) (a .j)) _ (m .ensures .0) _ _ _ (u .ensures) (x .ensures) (y .ensures)
+          (c .before .before .before .before .if1 .left) (c .if2 .taken),
+      omega arith,
+    )
 
 returns-3 : tie.Need-returns-3
 returns-3 c =
@@ -32,11 +35,4 @@ returns-3 c =
 pub agree-bit-spec : {M : Type 1} → statement M
 agree-bit-spec =
     tie.close
-    (tie.spec
-    (λ c κs. search needs)
-    returns
-    (λ c κs. search needs)
-    (λ c κs. search needs)
-    (λ c κs. search needs)
-    returns-2
-    returns-3)
+    (tie.spec (λ c κs. search needs) returns (λ c κs. search needs) (λ c κs. search needs) (λ c κs. search needs) returns-2 returns-3)

@@ -9,7 +9,8 @@ use Rattle.comparison.proofs.compare.Statement.{statement}
 use Rattle.comparison.proofs.compare.Tie as tie
 
 -- past the two tests both images load
-loads : (c : tie.Else2) → (loadCode savedBounds (c .before .before .before .before .before .before .args .first .now) ≡ 0) × (loadCode savedBounds (c .before .before .before .before .before .before .args .second .now) ≡ 0)
+loads : (c : tie.Else2) → (loadCode savedBounds (c .before .before .before .before .before .before .args .first .now) ≡ 0)
+    × (loadCode savedBounds (c .before .before .before .before .before .before .args .second .now) ≡ 0)
 loads c = (sym (c .before .before .before .saved-code .ensures) ∙ c .before .before .if1 .left, sym (c .before .saved-code2 .ensures) ∙ c .if2 .left)
 
 returns : tie.Need-returns
@@ -56,23 +57,11 @@ returns-3 c =
     let a = d .before .before .before .before .before .before .before .before .before .before .before .args in
     let h = loads (d .before .before .before .before .before) in
     let r = d .walked .ensures in
-    counted-all (a .first .now) (a .second .now) (a .tolerance) (h .0) (h .1) _ _ (d .before .before .before .before .get .ensures) (d .before .before .before .get2 .ensures) _ _ (d .before .before .part .ensures .0) (d .before .part2 .ensures .0) _ _ (r .0) (r .1)
+    counted-all (a .first .now) (a .second .now) (a .tolerance) (h .0) (h .1) _ _ (d .before .before .before .before .get .ensures) (d .before .before .before .get2 .ensures) _ _
+    (d .before .before .part .ensures .0) (d .before .part2 .ensures .0) _ _ (r .0) (r .1)
 
 pub compare-spec : {M : Type 1} → statement M
 compare-spec =
     tie.close
-    (tie.spec
-    (λ c κs. search needs)
-    (λ c κs. search needs)
-    returns
-    (λ c κs. search needs)
-    (λ c κs. search needs)
-    returns-2
-    (λ c κs. search needs)
-    (λ c κs. search needs)
-    (λ c κs. search needs)
-    (λ c κs. search needs)
-    walked-requires
-    sub-t9
-    sub-t12
-    returns-3)
+    (tie.spec (λ c κs. search needs) (λ c κs. search needs) returns (λ c κs. search needs) (λ c κs. search needs) returns-2 (λ c κs. search needs)
+    (λ c κs. search needs) (λ c κs. search needs) (λ c κs. search needs) walked-requires sub-t9 sub-t12 returns-3)

@@ -36,8 +36,18 @@ loop-again c =
       omega arith,
       omega (arith, m .ensures .1),
       omega (arith, g .ensures .1),
-      omega (arith, count-go (a .count) (l .i) (l .at) (a .a .now) (omega arith) matches (a .places .now) (a .b .now) (n .result) (p .result) (m .result) (n .ensures .0) (p .ensures .0) (m .ensures .0), l .inv .4),
-      omega (arith, count-go (a .count) (l .i) (l .at) (a .a .now) (omega arith) (alike (a .tolerance)) (a .places .now) (a .b .now) (n .result) (p .result) (g .result) (n .ensures .0) (p .ensures .0) (g .ensures .0), l .inv .5),
+      omega (
+        arith,
+        count-go (a .count) (l .i) (l .at) (a .a .now) (omega arith) matches (a .places .now) (a .b .now) (n .result) (p .result) (m .result) (n .ensures .0) (p .ensures .0)
+            (m .ensures .0),
+        l .inv .4,
+      ),
+      omega (
+        arith,
+        count-go (a .count) (l .i) (l .at) (a .a .now) (omega arith) (alike (a .tolerance)) (a .places .now) (a .b .now) (n .result) (p .result) (g .result) (n .ensures .0)
+            (p .ensures .0) (g .ensures .0),
+        l .inv .5,
+      ),
     )
 
 returns : tie.Need-returns Inv-loop μ-loop
@@ -52,19 +62,9 @@ returns c =
 pub counts-spec : {M : Type 1} → statement M
 counts-spec =
     tie.close
-    (tie.spec
-    Inv-loop
-    μ-loop
-    loop-holds
-    (λ c κs. search needs)
-    (λ c κs. search needs)
+    (tie.spec Inv-loop μ-loop loop-holds (λ c κs. search needs) (λ c κs. search needs)
     (λ c. omega (arith, c .word2 .ensures .1))
     (λ c κs. (omega arith, omega (arith, c .word2 .ensures .1)))
     (λ c. omega (arith, c .match-bit .ensures .1))
     (λ c κs. (omega arith, omega (arith, c .before .word2 .ensures .1)))
-    (λ c. omega (arith, c .agree-bit .ensures .1))
-    (λ c. omega arith)
-    (λ c. omega arith)
-    (λ c. omega arith)
-    loop-again
-    returns)
+    (λ c. omega (arith, c .agree-bit .ensures .1)) (λ c. omega arith) (λ c. omega arith) (λ c. omega arith) loop-again returns)

@@ -9,7 +9,8 @@ use Rattle.copies.proofs.copies_after.Statement.{statement}
 use Rattle.copies.proofs.copies_after.Tie as tie
 
 take-copy-requires : tie.Need-take-copy-requires
-take-copy-requires c κs = let s = c .before .before .before .before .before .before .before .before in λ n. s .pre .1 (rw (c .before .before .before .enum-told .given .1, ne-eqb (s .args .number) 0 n))
+take-copy-requires c κs = let s =
+    c .before .before .before .before .before .before .before .before in λ n. s .pre .1 (rw (c .before .before .before .enum-told .given .1, ne-eqb (s .args .number) 0 n))
 
 returns : tie.Need-returns
 returns c = rw (c .before .before .before .before .before .before .enum-told .given .1) (c .before .before .take-copy .ensures)
@@ -28,14 +29,5 @@ returns-3 c =
 pub copies-after-spec : {M : Type 1} → statement M
 copies-after-spec =
     tie.close
-    (tie.spec
-    (λ c. search needs)
-    take-copy-requires
-    (λ c. search needs)
-    (λ c. search needs)
-    (λ c. search needs)
-    (λ c. search needs)
-    (λ c. search needs)
-    returns
-    returns-2
-    returns-3)
+    (tie.spec (λ c. search needs) take-copy-requires (λ c. search needs) (λ c. search needs) (λ c. search needs) (λ c. search needs) (λ c. search needs) returns
+    returns-2 returns-3)

@@ -29,4 +29,6 @@ returns-5 : tie.Need-returns-5
 returns-5 c = let s = c .before .before in no-leads (s .args .store) (s .args .marks .now) _ (s .args .call) (c .match .keys5) (s .pre .0)
 
 pub leads-to-spec : {M : Type 1} → statement M
-leads-to-spec = tie.close (tie.spec (λ c. search needs) (λ c κs. search needs) (λ c. search needs) on-one-requires (λ c. search needs) to-mark-requires (λ c. search needs) to-name-requires returns returns-2 returns-3 returns-4 returns-5)
+leads-to-spec =
+    tie.close (tie.spec (λ c. search needs) (λ c κs. search needs) (λ c. search needs) on-one-requires (λ c. search needs) to-mark-requires (λ c. search needs) to-name-requires returns
+    returns-2 returns-3 returns-4 returns-5)

@@ -54,28 +54,11 @@ load-requires-2 c κs =
 returns-2 : tie.Need-returns-2
 returns-2 c =
     let a = c .before .before .before .before .before .before .before .before .before .before .before .before .before .before .args in
-    rw (copy-words (a .start .now) (a .copies .now) (a .size) (a .k) (c .before .before .before .before .before .before .before .before .before .if1 .left)) (c .before .before .before .before .load2 .ensures)
+    rw (copy-words (a .start .now) (a .copies .now) (a .size) (a .k) (c .before .before .before .before .before .before .before .before .before .if1 .left))
+    (c .before .before .before .before .load2 .ensures)
 
 pub reload-spec : {M : Type 1} → statement M
 reload-spec =
     tie.close
-    (tie.spec
-    load-requires
-    (λ c. search needs)
-    (λ c. search needs)
-    returns
-    (λ c. search needs)
-    mul-at
-    add-total
-    mul-total
-    shared-slice-read-total
-    cast-total
-    add-load
-    mul-load
-    (λ c. search needs)
-    (λ c. search needs)
-    part-load-end
-    load-requires-2
-    (λ c. search needs)
-    (λ c. search needs)
-    returns-2)
+    (tie.spec load-requires (λ c. search needs) (λ c. search needs) returns (λ c. search needs) mul-at add-total mul-total shared-slice-read-total cast-total
+    add-load mul-load (λ c. search needs) (λ c. search needs) part-load-end load-requires-2 (λ c. search needs) (λ c. search needs) returns-2)

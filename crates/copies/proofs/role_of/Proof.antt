@@ -28,11 +28,7 @@ returns-2 c =
 pub role-of-spec : {M : Type 1} → statement M
 role-of-spec =
     tie.close
-    (tie.spec
-    (λ c. omega (arith, c .before .before .pre))
-    (λ c κs. search needs)
-    returns
-    (λ c. omega (arith, c .before .before .before .before .before .pre))
-    (λ c. omega (arith, c .before .before .before .before .before .before .pre))
-    (λ c κs. search needs)
-    returns-2)
+    (tie.spec (λ c. omega (arith, c .before .before .pre))
+    (λ c κs. search needs) returns
+    (λ c. omega (arith, c .before .before .before .before .before .pre)) (λ c. omega (arith, c .before .before .before .before .before .before .pre))
+    (λ c κs. search needs) returns-2)

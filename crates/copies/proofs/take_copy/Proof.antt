@@ -25,20 +25,11 @@ add-result : tie.Need-add-result
 add-result c = let t = c .before .before .before .before .before .before .before .before .before .pre (c .before .before .before .before .before .if1 .left) in omega (arith, t .counted)
 
 returns-2 : tie.Need-returns-2
-returns-2 c = rw (ne-eqb (c .before .before .before .before .before .before .before .before .before .args .number) 0 (c .before .before .before .before .before .if1 .left)) (refl, refl, refl, λ g h. c .before .before .before .keep .ensures g h)
+returns-2 c = rw (ne-eqb (c .before .before .before .before .before .before .before .before .before .args .number) 0 (c .before .before .before .before .before .if1 .left))
+    (refl, refl, refl, λ g h. c .before .before .before .keep .ensures g h)
 
 pub take-copy-spec : {M : Type 1} → statement M
 take-copy-spec =
     tie.close
-    (tie.spec
-    returns
-    keep-requires
-    (λ c. search needs)
-    add-numbers
-    (λ c. search needs)
-    element-write-numbers
-    (λ c. search needs)
-    element-write-used
-    add-result
-    (λ c. search needs)
-    returns-2)
+    (tie.spec returns keep-requires (λ c. search needs) add-numbers (λ c. search needs) element-write-numbers (λ c. search needs) element-write-used add-result
+    (λ c. search needs) returns-2)

@@ -71,7 +71,8 @@ module _ {M : Type 1} (𝓤 : URA M) (H : Heap 𝓤) (A : Atoms 𝓤) (mem : Mem
   abbrev Present : Contract 𝓤
   Present = tripleOf 𝓤 H A present.signature (present.spec 𝓤 H A mem run)
 
-module _ {M : Type 1} (𝓤 : URA M) (H : Heap 𝓤) (A : Atoms 𝓤) (W : Given 𝓤 H A) (mem : Memory → SProp 𝓤) (run : Routine → Fun 𝓤) (κ : Lft) (q : Share) (s : RefT (List ℕ)) (n : ℕ) (fits : n < 2 ^ 32) (ok : HalfRowIn (now s) n) where
+module _ {M : Type 1} (𝓤 : URA M) (H : Heap 𝓤) (A : Atoms 𝓤) (W : Given 𝓤 H A) (mem : Memory → SProp 𝓤) (run : Routine → Fun 𝓤) (κ : Lft) (q : Share) (s : RefT (List ℕ)) (n : ℕ)
+    (fits : n < 2 ^ 32) (ok : HalfRowIn (now s) n) where
   -- the machine value that s has
   abbrev v : Val
   v = sliceVal (s .ptr) (length (s .now))
@@ -100,7 +101,9 @@ module _ {M : Type 1} (𝓤 : URA M) (H : Heap 𝓤) (A : Atoms 𝓤) (W : Given
   goes-at =
       qed W ((‵ (flft κ q) ⊛ ‵ ftrue) ∷ ‵ (owns (ShrSlice (named 0) κ u32 ∷ u32 ∷ []) (s, (n, tt)) vals) ∷ []) ∵
       move ! (1 ∷ []) $ fsplit ! $ use1 W (‵ Own ⊛ ‵ Own) (shr-slice-copy 𝓤 H A W (named 0) κ u32 .twice s (v ∷ [])) $ split ! $
-      move ! (0 ∷ 2 ∷ []) $ fjoin ! $ move ! (2 ∷ 0 ∷ []) $ use2 W (raw (At 𝓤 H A mem run .pre to-at)) (qed W ((‵ (flft κ q) ⊛ ‵ ftrue) ∷ ‵ (owns (ShrSlice (named 0) κ u32 ∷ u32 ∷ []) (s, (n, tt)) vals) ∷ []) ∵ join ! $ frame ! $ done !) $ frame ! $ done !
+      move ! (0 ∷ 2 ∷ []) $ fjoin ! $ move ! (2 ∷ 0 ∷ []) $
+      use2 W (raw (At 𝓤 H A mem run .pre to-at)) (qed W ((‵ (flft κ q) ⊛ ‵ ftrue) ∷ ‵ (owns (ShrSlice (named 0) κ u32 ∷ u32 ∷ []) (s, (n, tt)) vals) ∷ []) ∵ join ! $ frame ! $ done !) $
+      frame ! $ done !
 
   at-said : (r : Cursor) → ent 𝓤 (ensured 𝓤 H A at.ended (at.clauses 𝓤 H A mem run) (κ, tt) (s, (n, tt)) tt r) (fact 𝓤 ((r .edges ≡ s) × (r .word ≡ n)))
   at-said r = told 𝓤 H A at.ended (at.clauses 𝓤 H A mem run) (κ, tt) (s, (n, tt)) tt r ((r .edges ≡ s) × (r .word ≡ n)) (λ ws. id⊢ 𝓤 _)
@@ -113,10 +116,12 @@ module _ {M : Type 1} (𝓤 : URA M) (H : Heap 𝓤) (A : Atoms 𝓤) (W : Given
   abbrev to-stepped : Cursor → Val → Stepped 𝓤 H A mem run .Ghost
   to-stepped r u = (((κ, tt), (q, tt), tt, (r, tt), (u ∷ [], tt)), tt)
 
-  goes-stepped : (r : Cursor) (u : Val) → HalfRowIn (now (r .edges)) (r .word) → ent 𝓤 (⋆ 𝓤 H A (‵ (Row (κ, tt) .own r (u ∷ [])) ∷ (‵ (flft κ q) ⊛ ‵ ftrue) ∷ [])) (Stepped 𝓤 H A mem run .pre (to-stepped r u))
+  goes-stepped : (r : Cursor) (u : Val) → HalfRowIn (now (r .edges)) (r .word) → ent 𝓤 (⋆ 𝓤 H A (‵ (Row (κ, tt) .own r (u ∷ [])) ∷ (‵ (flft κ q) ⊛ ‵ ftrue) ∷ []))
+      (Stepped 𝓤 H A mem run .pre (to-stepped r u))
   goes-stepped r u g = qed W (‵ (Row (κ, tt) .own r (u ∷ [])) ∷ (‵ (flft κ q) ⊛ ‵ ftrue) ∷ []) ∵ says ! g $ move ! (1 ∷ []) $ frame ! $ nothing ! $ move ! (1 ∷ 0 ∷ []) $ fjoin ! $ done !
 
-  stepped-said : (r t : Cursor) → ent 𝓤 (ensured 𝓤 H A stepped.ended (stepped.clauses 𝓤 H A mem run) (κ, tt) (r, tt) tt t) (fact 𝓤 ((t .edges ≡ r .edges) × (t .word ≡ wnext (now (r .edges)) (r .word))))
+  stepped-said : (r t : Cursor) → ent 𝓤 (ensured 𝓤 H A stepped.ended (stepped.clauses 𝓤 H A mem run) (κ, tt) (r, tt) tt t)
+      (fact 𝓤 ((t .edges ≡ r .edges) × (t .word ≡ wnext (now (r .edges)) (r .word))))
   stepped-said r t = told 𝓤 H A stepped.ended (stepped.clauses 𝓤 H A mem run) (κ, tt) (r, tt) tt t ((t .edges ≡ r .edges) × (t .word ≡ wnext (now (r .edges)) (r .word))) (λ ws. id⊢ 𝓤 _)
 
   -- the call of `present`
@@ -135,7 +140,8 @@ module _ {M : Type 1} (𝓤 : URA M) (H : Heap 𝓤) (A : Atoms 𝓤) (W : Given
       suffices ! _ (ends-at 𝓤 H A following.ended stayed (following.clauses 𝓤 H A mem run) W (((κ, tt), (q, tt), tt, (s, (n, tt)), vals), tt) u t (tt, (tt, tt)) (tt, (tt, tt))) $ says ! e $
       move ! (1 ∷ []) $ frame ! $ nothing ! $ owned ! u32 (Is u32) (uint-makes 𝓤 H A W w32) n _ (refl, fits) $ fjoin ! $ move ! (2 ∷ 0 ∷ []) $ fjoin ! $ frame ! $ done !
 
-  module _ (C : Calls 𝓤 H) (Λ : Loops 𝓤 H) (fm : FmC 𝓤 H (W .laws) C) (known-at : Triple 𝓤 (C #cursor·at) (At 𝓤 H A mem run)) (known-stepped : Triple 𝓤 (C #cursor·stepped) (Stepped 𝓤 H A mem run)) (known-present : Triple 𝓤 (C #cursor·present) (Present 𝓤 H A mem run)) where
+  module _ (C : Calls 𝓤 H) (Λ : Loops 𝓤 H) (fm : FmC 𝓤 H (W .laws) C) (known-at : Triple 𝓤 (C #cursor·at) (At 𝓤 H A mem run))
+      (known-stepped : Triple 𝓤 (C #cursor·stepped) (Stepped 𝓤 H A mem run)) (known-present : Triple 𝓤 (C #cursor·present) (Present 𝓤 H A mem run)) where
     walk : Is (ShrSlice (named 0) κ u32) s (v ∷ []) → ent 𝓤 (onEntry 𝓤 H A following.signature (κ, tt) (q, tt) (s, (n, tt)) vals) (WpFn 𝓤 H C Λ code.function (v ∷ vint w32 n ∷ []) Post)
     walk p =
         qed W (raw (onEntry 𝓤 H A following.signature (κ, tt) (q, tt) (s, (n, tt)) vals) ∷ []) ∵ enter ! C Λ code.function (v ∷ vint w32 n ∷ []) _ $
@@ -144,20 +150,26 @@ module _ {M : Type 1} (𝓤 : URA M) (H : Heap 𝓤) (A : Atoms 𝓤) (W : Given
         move ! (10 ∷ []) $ use1 W (raw (At 𝓤 H A mem run .pre to-at) ⊛ ‵ Own) goes-at $ split ! $
         -- [the callee's pre; what s owns; room for _4; …; _3; …; _2; …; _1; …; _0; …]
         calls-at ! fm (At 𝓤 H A mem run) known-at to-at (and-then ! (load ! (from ! (stop !)) (look ! 8 refl)) (and-then ! (load ! (from ! (stop !)) (look ! 6 refl)) (no-more !))) (λ u.
-        use1 W (later (some (λ (r : Cursor). ((‵ (flft κ q) ⊛ ‵ ftrue) ⊛ ‵ (Row (κ, tt) .own r (u ∷ []))) ⊛ raw (ensured 𝓤 H A at.ended (at.clauses 𝓤 H A mem run) (κ, tt) (s, (n, tt)) tt r)))) (id⊢ 𝓤 _) $ await ! tt $ pick ! (λ r.
+        use1 W (later
+        (some (λ (r : Cursor). ((‵ (flft κ q) ⊛ ‵ ftrue) ⊛ ‵ (Row (κ, tt) .own r (u ∷ []))) ⊛ raw (ensured 𝓤 H A at.ended (at.clauses 𝓤 H A mem run) (κ, tt) (s, (n, tt)) tt r))))
+        (id⊢ 𝓤 _) $ await ! tt $ pick ! (λ r.
         split ! $ move ! (1 ∷ []) $ use1 W (raw (fact 𝓤 ((r .edges ≡ s) × (r .word ≡ n)))) (at-said r) $ heard ! ((r .edges ≡ s) × (r .word ≡ n)) (λ e. split ! $ move ! (1 ∷ []) $
         -- [what the struct owns; the token; what s owns; room for _4; …; _3; …; _2; …; _1; …; _0; …]
         peeks ! (Row (κ, tt)) (Is (Row (κ, tt))) (shows 𝓤 H A (Row (κ, tt))) r (u ∷ []) (λ is.
         land ! (from ! (stop !)) (init ! 3 refl (LL.lawful (T.the-type αᵉ) (T′.the-laws αᵉ) 𝓤 H A W .typed r _ is .0)) $
         use2 W (raw (Stepped 𝓤 H A mem run .pre (to-stepped r u))) (goes-stepped r u (kept r (e .0) (e .1))) $
         calls-at ! fm (Stepped 𝓤 H A mem run) known-stepped (to-stepped r u) (and-then ! (load ! (from ! (stop !)) (look ! 2 refl)) (no-more !)) (λ u₁.
-        use1 W (later (some (λ (r₁ : Cursor). ((‵ (flft κ q) ⊛ ‵ ftrue) ⊛ ‵ (Row (κ, tt) .own r₁ (u₁ ∷ []))) ⊛ raw (ensured 𝓤 H A stepped.ended (stepped.clauses 𝓤 H A mem run) (κ, tt) (r, tt) tt r₁)))) (id⊢ 𝓤 _) $ await ! tt $ pick ! (λ r₁.
-        split ! $ move ! (1 ∷ []) $ use1 W (raw (fact 𝓤 ((r₁ .edges ≡ r .edges) × (r₁ .word ≡ wnext (now (r .edges)) (r .word))))) (stepped-said r r₁) $ heard ! ((r₁ .edges ≡ r .edges) × (r₁ .word ≡ wnext (now (r .edges)) (r .word))) (λ e₁. split ! $ move ! (1 ∷ []) $
+        use1 W (later
+        (some (λ (r₁ : Cursor). ((‵ (flft κ q) ⊛ ‵ ftrue) ⊛ ‵ (Row (κ, tt) .own r₁ (u₁ ∷ []))) ⊛ raw
+        (ensured 𝓤 H A stepped.ended (stepped.clauses 𝓤 H A mem run) (κ, tt) (r, tt) tt r₁)))) (id⊢ 𝓤 _) $ await ! tt $ pick ! (λ r₁.
+        split ! $ move ! (1 ∷ []) $ use1 W (raw (fact 𝓤 ((r₁ .edges ≡ r .edges) × (r₁ .word ≡ wnext (now (r .edges)) (r .word))))) (stepped-said r r₁) $
+        heard ! ((r₁ .edges ≡ r .edges) × (r₁ .word ≡ wnext (now (r .edges)) (r .word))) (λ e₁. split ! $ move ! (1 ∷ []) $
         peeks ! (Row (κ, tt)) (Is (Row (κ, tt))) (shows 𝓤 H A (Row (κ, tt))) r₁ (u₁ ∷ []) (λ is₁.
         land ! (from ! (stop !)) (init ! 5 refl (LL.lawful (T.the-type αᵉ) (T′.the-laws αᵉ) 𝓤 H A W .typed r₁ _ is₁ .0)) $
         use2 W (raw (Present 𝓤 H A mem run .pre (to-present r₁ u₁))) (goes-present r₁ u₁) $
         calls-at ! fm (Present 𝓤 H A mem run) known-present (to-present r₁ u₁) (and-then ! (load ! (from ! (stop !)) (look ! 4 refl)) (no-more !)) (λ u′.
-        use1 W (later (some (λ (t : ℕ). ((‵ (flft κ q) ⊛ ‵ ftrue) ⊛ ‵ (u32 .own t (u′ ∷ []))) ⊛ raw (ensured 𝓤 H A present.ended (present.clauses 𝓤 H A mem run) (κ, tt) (r₁, tt) tt t)))) (id⊢ 𝓤 _) $ await ! tt $ pick ! (λ t.
+        use1 W (later (some (λ (t : ℕ). ((‵ (flft κ q) ⊛ ‵ ftrue) ⊛ ‵ (u32 .own t (u′ ∷ []))) ⊛ raw (ensured 𝓤 H A present.ended (present.clauses 𝓤 H A mem run) (κ, tt) (r₁, tt) tt t))))
+        (id⊢ 𝓤 _) $ await ! tt $ pick ! (λ t.
         split ! $ move ! (1 ∷ []) $ use1 W (raw (fact 𝓤 (t ≡ r₁ .word))) (present-said r₁ t) $ heard ! (t ≡ r₁ .word) (λ e′. split ! $ move ! (1 ∷ []) $
         -- [the result; the token; what s owns; _4; …; _3; …; _2; …; _1; …; room for _0; …]
         peeks ! u32 (Is u32) (shows 𝓤 H A u32) t (u′ ∷ []) (λ is′.
@@ -167,15 +179,20 @@ module _ {M : Type 1} (𝓤 : URA M) (H : Heap 𝓤) (A : Atoms 𝓤) (W : Given
         by ! (exits t u′ (e′ ∙ (e₁ .1 ∙ (ap (λ (x : RefT (List ℕ)). wnext (now x) (r .word)) (e .0) ∙ ap (wnext (now s)) (e .1))))))))))))))))))))))
 
 module _ {M : Type 1} (𝓤 : URA M) (H : Heap 𝓤) (A : Atoms 𝓤) (W : Given 𝓤 H A) (mem : Memory → SProp 𝓤) (run : Routine → Fun 𝓤) where
-  following-walks : (C : Calls 𝓤 H) (Λ : Loops 𝓤 H) → FmC 𝓤 H (W .laws) C → Triple 𝓤 (C #cursor·at) (At 𝓤 H A mem run) → Triple 𝓤 (C #cursor·stepped) (Stepped 𝓤 H A mem run) → Triple 𝓤 (C #cursor·present) (Present 𝓤 H A mem run)
+  following-walks : (C : Calls 𝓤 H) (Λ : Loops 𝓤 H) → FmC 𝓤 H (W .laws) C → Triple 𝓤 (C #cursor·at) (At 𝓤 H A mem run) → Triple 𝓤 (C #cursor·stepped) (Stepped 𝓤 H A mem run)
+      → Triple 𝓤 (C #cursor·present) (Present 𝓤 H A mem run)
       → Walks 𝓤 H A following.ended stayed (WpFn 𝓤 H C Λ code.function) (following.clauses 𝓤 H A mem run)
-  following-walks C Λ fm known-at known-stepped known-present = walked 𝓤 H A following.ended stayed (following.clauses 𝓤 H A mem run) (WpFn 𝓤 H C Λ code.function) (λ κs. (slice-vals, (uint-vals w32, tt))) (λ κs. (shr-slice-tells (named 0) (κs .0) u32, (uint-tells w32, tt)))
-      (λ κs qs bounds a g are. needs 𝓤 (HalfRowIn (now (a .0)) (a .1 .0)) _ (λ ok. walk 𝓤 H A W mem run (κs .0) (qs .0) (a .0) (a .1 .0) (are .1 .0 .1) ok C Λ fm known-at known-stepped known-present (are .0)))
+  following-walks C Λ fm known-at known-stepped known-present = walked 𝓤 H A following.ended stayed (following.clauses 𝓤 H A mem run) (WpFn 𝓤 H C Λ code.function)
+      (λ κs. (slice-vals, (uint-vals w32, tt))) (λ κs. (shr-slice-tells (named 0) (κs .0) u32, (uint-tells w32, tt)))
+      (λ κs qs bounds a g are. needs 𝓤 (HalfRowIn (now (a .0)) (a .1 .0)) _
+      (λ ok. walk 𝓤 H A W mem run (κs .0) (qs .0) (a .0) (a .1 .0) (are .1 .0 .1) ok C Λ fm known-at known-stepped known-present (are .0)))
 
 following-meets : {M : Type 1} (𝓤 : URA M) (H : Heap 𝓤) (A : Atoms 𝓤) (W : Given 𝓤 H A) (mem : Memory → SProp 𝓤) (run : Routine → Fun 𝓤) (𝓣 : Tables 𝓤 H)
     → Triple 𝓤 (𝓣 .C #cursor·at) (At 𝓤 H A mem run) → Triple 𝓤 (𝓣 .C #cursor·stepped) (Stepped 𝓤 H A mem run) → Triple 𝓤 (𝓣 .C #cursor·present) (Present 𝓤 H A mem run)
     → Meets 𝓤 H A following.signature (WpFn 𝓤 H (𝓣 .C) (𝓣 .Λ) code.function) (following.spec 𝓤 H A mem run)
-following-meets 𝓤 H A W mem run 𝓣 known-at known-stepped known-present = walk-meets 𝓤 H A following.ended stayed W (goes-none-slice 𝓤 H A W 1 (0 ∷ []) tt (plain (λ _. u32)) yes, (goes-none 𝓤 H A W 1 (λ _. u32) yes (λ κs x f. refl), tt)) (following.clauses 𝓤 H A mem run) (WpFn 𝓤 H (𝓣 .C) (𝓣 .Λ) code.function) (WpFn-mono 𝓤 H (W .laws) 𝓣 code.function)
+following-meets 𝓤 H A W mem run 𝓣 known-at known-stepped known-present =
+    walk-meets 𝓤 H A following.ended stayed W (goes-none-slice 𝓤 H A W 1 (0 ∷ []) tt (plain (λ _. u32)) yes, (goes-none 𝓤 H A W 1 (λ _. u32) yes (λ κs x f. refl), tt))
+    (following.clauses 𝓤 H A mem run) (WpFn 𝓤 H (𝓣 .C) (𝓣 .Λ) code.function) (WpFn-mono 𝓤 H (W .laws) 𝓣 code.function)
     (following-walks 𝓤 H A W mem run (𝓣 .C) (𝓣 .Λ) (fmOf 𝓤 H (W .laws) 𝓣) known-at known-stepped known-present)
 
 pub following-spec : {M : Type 1} → stated.statement M

@@ -50,7 +50,8 @@ module _ {M : Type 1} (𝓤 : URA M) (H : Heap 𝓤) (A : Atoms 𝓤) (W : Given
   exits : d .word < 2 ^ 32 → ent 𝓤 (onEntry 𝓤 H A present.signature (κ, tt) (q, tt) (d, tt) (mach ∷ [], tt)) (Post (vint w32 (d .word)))
   exits g =
       qed W ((‵ (flft κ q) ⊛ ‵ ftrue) ∷ ‵ (owns (Row (κ, tt) ∷ []) (d, tt) (mach ∷ [], tt)) ∷ []) ∵
-      suffices ! _ (ends-at 𝓤 H A present.ended stayed (present.clauses 𝓤 H A mem run) W (((κ, tt), (q, tt), tt, (d, tt), (mach ∷ [], tt)), tt) (vint w32 (d .word)) (d .word) (tt, tt) (tt, tt)) $ says ! refl $
+      suffices ! _ (ends-at 𝓤 H A present.ended stayed (present.clauses 𝓤 H A mem run) W (((κ, tt), (q, tt), tt, (d, tt), (mach ∷ [], tt)), tt) (vint w32 (d .word)) (d .word) (tt, tt)
+      (tt, tt)) $ says ! refl $
       frame ! $ frame ! $ owned ! u32 (Is u32) (uint-makes 𝓤 H A W w32) (d .word) _ (refl, g) $ done !
 
   module _ (C : Calls 𝓤 H) (Λ : Loops 𝓤 H) where
@@ -64,12 +65,14 @@ module _ {M : Type 1} (𝓤 : URA M) (H : Heap 𝓤) (A : Atoms 𝓤) (W : Given
 
 module _ {M : Type 1} (𝓤 : URA M) (H : Heap 𝓤) (A : Atoms 𝓤) (W : Given 𝓤 H A) (mem : Memory → SProp 𝓤) (run : Routine → Fun 𝓤) where
   present-walks : (C : Calls 𝓤 H) (Λ : Loops 𝓤 H) → Walks 𝓤 H A present.ended stayed (WpFn 𝓤 H C Λ code.function) (present.clauses 𝓤 H A mem run)
-  present-walks C Λ = walked 𝓤 H A present.ended stayed (present.clauses 𝓤 H A mem run) (WpFn 𝓤 H C Λ code.function) (λ κs. (LL.vals (Shape κs) (laws κs), tt)) (λ κs. (LL.tells (Shape κs) (laws κs), tt))
+  present-walks C Λ =
+      walked 𝓤 H A present.ended stayed (present.clauses 𝓤 H A mem run) (WpFn 𝓤 H C Λ code.function) (λ κs. (LL.vals (Shape κs) (laws κs), tt)) (λ κs. (LL.tells (Shape κs) (laws κs), tt))
       (λ κs qs bounds a g are. via 𝓤 _ (fst∗ 𝓤 _ (emp 𝓤)) (walk 𝓤 H A W mem run (κs .0) (qs .0) (a .0) C Λ (are .0)))
 
 present-meets : {M : Type 1} (𝓤 : URA M) (H : Heap 𝓤) (A : Atoms 𝓤) → Given 𝓤 H A → (mem : Memory → SProp 𝓤) (run : Routine → Fun 𝓤) (𝓣 : Tables 𝓤 H)
     → Meets 𝓤 H A present.signature (WpFn 𝓤 H (𝓣 .C) (𝓣 .Λ) code.function) (present.spec 𝓤 H A mem run)
-present-meets 𝓤 H A W mem run 𝓣 = walk-meets 𝓤 H A present.ended stayed W (goes-none 𝓤 H A W 1 Row yes (λ κs x f. refl), tt) (present.clauses 𝓤 H A mem run) (WpFn 𝓤 H (𝓣 .C) (𝓣 .Λ) code.function) (WpFn-mono 𝓤 H (W .laws) 𝓣 code.function) (present-walks 𝓤 H A W mem run (𝓣 .C) (𝓣 .Λ))
+present-meets 𝓤 H A W mem run 𝓣 = walk-meets 𝓤 H A present.ended stayed W (goes-none 𝓤 H A W 1 Row yes (λ κs x f. refl), tt) (present.clauses 𝓤 H A mem run)
+    (WpFn 𝓤 H (𝓣 .C) (𝓣 .Λ) code.function) (WpFn-mono 𝓤 H (W .laws) 𝓣 code.function) (present-walks 𝓤 H A W mem run (𝓣 .C) (𝓣 .Λ))
 
 pub present-spec : {M : Type 1} → stated.statement M
 unfolding code.routine tablesOf

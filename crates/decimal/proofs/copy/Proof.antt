@@ -26,7 +26,8 @@ loop-again c =
     let x = getD (a .word .now) (l .i) 0 in (
       omega arith,
       length-set (l .out) (a .at + l .i) x ∙ l .inv .1,
-      stored-left (drop (l .i + 1) (a .word .now)) (drop (l .i) (a .word .now)) (stored-byte (l .out) _ (a .at + l .i) x (a .at + (l .i + 1)) refl (omega arith)) (sym (one-drop (a .word .now) (l .i) (omega arith))) ∙ l .inv .2,
+      stored-left (drop (l .i + 1) (a .word .now)) (drop (l .i) (a .word .now)) (stored-byte (l .out) _ (a .at + l .i) x (a .at + (l .i + 1)) refl (omega arith))
+          (sym (one-drop (a .word .now) (l .i) (omega arith))) ∙ l .inv .2,
     )
 
 returns : tie.Need-returns Inv-loop μ-loop
@@ -40,16 +41,5 @@ returns c =
 pub copy-spec : {M : Type 1} → statement M
 copy-spec =
     tie.close
-    (tie.spec
-    Inv-loop
-    μ-loop
-    loop-holds
-    (λ c. search needs)
-    (λ c. search needs)
-    (λ c. search needs)
-    (λ c. search needs)
-    (λ c. search needs)
-    loop-again
-    (λ c. search needs)
-    (λ c. search needs)
-    returns)
+    (tie.spec Inv-loop μ-loop loop-holds (λ c. search needs) (λ c. search needs) (λ c. search needs) (λ c. search needs) (λ c. search needs) loop-again
+    (λ c. search needs) (λ c. search needs) returns)

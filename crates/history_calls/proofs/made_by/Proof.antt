@@ -24,7 +24,8 @@ made-between-requires c κs =
     let p = c .before .before .before .before .before .before .pre in
     let h = p .2 .2 in
     let m = p .2 .1 in
-    let k = made-behind (p .2 .0) (a .store) (memory (p .0) (p .1) (a .journal .now) (a .marks .now)) m h 0 (a .a) (a .b) (a .bench) _ (c .before .before .before .made-code .ensures) (c .before .before .if1 .left) in
+    let k = made-behind (p .2 .0) (a .store) (memory (p .0) (p .1) (a .journal .now) (a .marks .now)) m h 0 (a .a) (a .b) (a .bench) _ (c .before .before .before .made-code .ensures)
+    (c .before .before .if1 .left) in
     (m .line .start, m .line .steps, _, _, behind-by-place _ _ _ _ _ _ (c .before .place-of .ensures) (k .0), behind-by-place _ _ _ _ _ _ (c .place-of2 .ensures) (k .1))
 
 returns-2 : tie.Need-returns-2
@@ -46,12 +47,7 @@ returns-2 c =
 pub made-by-spec : {M : Type 1} → statement M
 made-by-spec =
     tie.close
-    (tie.spec
-    (λ c κs. search needs)
-    (λ c κs. search needs)
-    returns
+    (tie.spec (λ c κs. search needs) (λ c κs. search needs) returns
     (λ c κs. c .before .before .before .before .pre .2 .2 .marks .room)
     (λ c κs. c .before .before .before .before .before .pre .2 .2 .marks .room)
-    made-between-requires
-    (λ c κs. search needs)
-    returns-2)
+    made-between-requires (λ c κs. search needs) returns-2)

@@ -102,40 +102,14 @@ returns-9 c =
 pub perform-spec : {M : Type 1} → statement M
 perform-spec =
     tie.close
-    (tie.spec
-    (λ c. search needs)
+    (tie.spec (λ c. search needs)
     (λ c κs. c .before .before .before .before .before .before .before .before .pre .2 .marks .room)
-    (λ c. search needs)
-    (λ c κs. search needs)
-    (λ c. search needs)
-    (λ c κs. search needs)
-    (λ c. search needs)
+    (λ c. search needs) (λ c κs. search needs) (λ c. search needs) (λ c κs. search needs) (λ c. search needs)
     (λ c κs. c .before .before .before .before .before .before .before .before .pre .2 .marks .room)
-    (λ c. search needs)
-    (λ c κs. search needs)
-    (λ c. search needs)
-    (λ c κs. search needs)
-    (λ c. search needs)
+    (λ c. search needs) (λ c κs. search needs) (λ c. search needs) (λ c κs. search needs) (λ c. search needs)
     (λ c κs. c .before .before .before .before .before .before .before .before .pre .2 .marks .room)
-    (λ c. search needs)
-    (λ c κs. search needs)
-    (λ c. search needs)
-    made-by-requires
-    go-requires
-    (λ c. search needs)
-    returns
-    returns-2
-    returns-3
-    (λ c. search needs)
-    returns-4
-    returns-5
-    returns-6
-    (λ c. search needs)
-    returns-7
-    returns-8
-    (λ c. search needs)
-    returns-9
-    (λ c. search needs)
-    (λ c. search needs)
-    (λ c. search needs)
-    (λ c. let e = c .before .before .before .before .go .ensures in (e .0, e .1 (c .before .before .before .before .before .before .before .before .before .before .before .before .before .args .free))))
+    (λ c. search needs) (λ c κs. search needs) (λ c. search needs) made-by-requires go-requires (λ c. search needs) returns returns-2 returns-3
+    (λ c. search needs) returns-4 returns-5 returns-6 (λ c. search needs) returns-7 returns-8 (λ c. search needs) returns-9 (λ c. search needs)
+    (λ c. search needs) (λ c. search needs)
+    (λ c. let e = c .before .before .before .before .go .ensures in
+    (e .0, e .1 (c .before .before .before .before .before .before .before .before .before .before .before .before .before .args .free))))

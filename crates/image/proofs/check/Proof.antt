@@ -25,7 +25,12 @@ returns-2 c =
     let n = c .before .counts in
     let k = sym (n .ensures) ∙ not-true (n .result) (c .if2 .taken) in
     bad-counts (a .words .now) (sym (s .ensures) ∙ not-false (s .result) (c .before .before .before .before .before .before .if1 .left)) (checked (a .vertices) (a .edges) (a .types))
-    (rw (c .before .before .before .before .before .get .ensures, c .before .before .before .before .get2 .ensures, c .before .before .before .smaller .ensures .0, c .before .before .smaller2 .ensures .0) at k)
+    (rw (
+      c .before .before .before .before .before .get .ensures,
+      c .before .before .before .before .get2 .ensures,
+      c .before .before .before .smaller .ensures .0,
+      c .before .before .smaller2 .ensures .0,
+    ) at k)
 
 returns-3 : tie.Need-returns-3
 returns-3 c =
@@ -38,7 +43,8 @@ returns-3 c =
     let n = c .before .before .counts in
     let h = sym (s .ensures) ∙ not-false (s .result) (c .before .before .before .before .before .before .before .if1 .left) in
     let k = sym (n .ensures) ∙ not-false (n .result) (c .before .if2 .left) in
-    none-sound (a .words .now) h (λ i. omega (arith, c .before .before .before .before .before .before .before .before .before .shared-slice-known .given i)) (vc .result) (ec .result) (a .types) (x .result) (y .result) (vc .ensures .1) (ec .ensures .1)
+    none-sound (a .words .now) h (λ i. omega (arith, c .before .before .before .before .before .before .before .before .before .shared-slice-known .given i)) (vc .result) (ec .result)
+    (a .types) (x .result) (y .result) (vc .ensures .1) (ec .ensures .1)
     (x .ensures) (y .ensures) k (c .if3 .taken)
     ∙ ap₂ (λ (m e : ℕ). verdict (bounds m e (a .types)) (a .words .now)) (vc .ensures .0) (ec .ensures .0)
 
@@ -83,26 +89,14 @@ returns-4 c =
     let u = c .before .before .before .before .part in
     let v = c .before .before .before .part2 in
     let w = c .before .before .part3 in
-    verdict-by (a .words .now) h (λ i. omega (arith, c .before .before .before .before .before .before .before .before .before .before .before .before .before .before .shared-slice-known .given i)) (vc .result) (ec .result) (a .types) (z .result) (x .result) (y .result)
+    verdict-by (a .words .now) h
+    (λ i. omega (arith, c .before .before .before .before .before .before .before .before .before .before .before .before .before .before .shared-slice-known .given i)) (vc .result)
+    (ec .result) (a .types) (z .result) (x .result) (y .result)
     (z .ensures .0) (x .ensures) (y .ensures) k (u .result .now) (v .result .now) (w .result .now) (u .ensures .0) (v .ensures .0) (w .ensures .0) (c .all .result) (c .all .ensures)
     ∙ ap₂ (λ (m e : ℕ). verdict (bounds m e (a .types)) (a .words .now)) (vc .ensures .0) (ec .ensures .0)
 
 pub check-spec : {M : Type 1} → statement M
 check-spec =
     tie.close
-    (tie.spec
-    (λ c κs. search needs)
-    returns
-    (λ c κs. search needs)
-    (λ c κs. search needs)
-    (λ c κs. search needs)
-    (λ c κs. search needs)
-    (λ c κs. search needs)
-    returns-2
-    returns-3
-    (λ c κs. search needs)
-    (λ c κs. search needs)
-    (λ c κs. search needs)
-    (λ c κs. search needs)
-    all-requires
-    returns-4)
+    (tie.spec (λ c κs. search needs) returns (λ c κs. search needs) (λ c κs. search needs) (λ c κs. search needs) (λ c κs. search needs) (λ c κs. search needs)
+    returns-2 returns-3 (λ c κs. search needs) (λ c κs. search needs) (λ c κs. search needs) (λ c κs. search needs) all-requires returns-4)

@@ -52,11 +52,4 @@ returns c =
 pub load-spec : {M : Type 1} → statement M
 load-spec =
     tie.close
-    (tie.spec
-    (λ c κs. search needs)
-    vertices-requires
-    edges-requires
-    lists-requires
-    (λ c. search needs)
-    (λ c. search needs)
-    returns)
+    (tie.spec (λ c κs. search needs) vertices-requires edges-requires lists-requires (λ c. search needs) (λ c. search needs) returns)

@@ -57,16 +57,10 @@ returns c =
     let o = c .before .before .before .before .before .before .before .before .edge-offset in
     let h = c .before .before .before .before .before .before .before .before .before .before .before .before .header in
     let s = c .before .before .before .before .before .before .before .before .before .before .before .before .before .before .before .before .before in
-    saved-by (held s) (s .args .out .now) (asked s) (h .last .0) (e .last .1 .1 .0) (v .last .1 .1 .1 .0) (o .result) (i .result) (v .result) (o .ensures) (i .ensures) (h .ensures) (e .ensures) (v .ensures)
+    saved-by (held s) (s .args .out .now) (asked s) (h .last .0) (e .last .1 .1 .0) (v .last .1 .1 .1 .0) (o .result) (i .result) (v .result) (o .ensures) (i .ensures) (h .ensures)
+    (e .ensures) (v .ensures)
 
 pub save-spec : {M : Type 1} → statement M
 save-spec =
     tie.close
-    (tie.spec
-    header-requires
-    (λ c κs. search needs)
-    edges-requires
-    (λ c κs. search needs)
-    vertices-requires
-    (λ c. search needs)
-    returns)
+    (tie.spec header-requires (λ c κs. search needs) edges-requires (λ c κs. search needs) vertices-requires (λ c. search needs) returns)

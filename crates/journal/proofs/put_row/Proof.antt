@@ -16,24 +16,12 @@ returns : tie.Need-returns
 returns c =
     let a = c .before .before .before .before .before .before .before .before .before .before .args in
     let w = c .before .before .before .before .before .before .before .before .wide in
-    let e = c .before .before .put-five2 .ensures ∙ ap (storeFrom (12 * w .result + 1 + 1 + 1 + 1 + 1) (a .e ∷ a .f ∷ a .g ∷ a .h ∷ a .j ∷ [])) (c .before .before .before .before .before .before .put-five .ensures) in
+    let e = c .before .before .put-five2 .ensures ∙ ap (storeFrom (12 * w .result + 1 + 1 + 1 + 1 + 1) (a .e ∷ a .f ∷ a .g ∷ a .h ∷ a .j ∷ []))
+    (c .before .before .before .before .before .before .put-five .ensures) in
     words-written (a .journal .now) _ (a .row) (w .result) (a .cost) (a .k ∷ a .a ∷ a .b ∷ a .c ∷ a .d ∷ a .e ∷ a .f ∷ a .g ∷ a .h ∷ a .j ∷ []) e (w .ensures)
 
 pub put-row-spec : {M : Type 1} → statement M
 put-row-spec =
     tie.close
-    (tie.spec
-    (λ c κs. search needs)
-    (λ c. search needs)
-    (λ c κs. search needs)
-    (λ c. search needs)
-    (λ c. search needs)
-    (λ c. search needs)
-    (λ c. search needs)
-    (λ c. search needs)
-    (λ c κs. search needs)
-    (λ c. search needs)
-    (λ c. search needs)
-    (λ c. search needs)
-    same-length
-    returns)
+    (tie.spec (λ c κs. search needs) (λ c. search needs) (λ c κs. search needs) (λ c. search needs) (λ c. search needs) (λ c. search needs) (λ c. search needs)
+    (λ c. search needs) (λ c κs. search needs) (λ c. search needs) (λ c. search needs) (λ c. search needs) same-length returns)

@@ -26,23 +26,11 @@ slice-write-table-3 c = simp length-set (omega (arith, c .before .place2 .ensure
 returns : tie.Need-returns
 returns c =
     let s = c .before .before .before .before .before in
-    append-steps (s .args .layout) (s .args .table .now) (s .args .ends) (s .args .x) (s .pre) (c .before .before .before .either .ensures) (c .before .before .place .ensures .0) (c .before .place2 .ensures .0) (c .either2 .ensures)
+    append-steps (s .args .layout) (s .args .table .now) (s .args .ends) (s .args .x) (s .pre) (c .before .before .before .either .ensures) (c .before .before .place .ensures .0)
+    (c .before .place2 .ensures .0) (c .either2 .ensures)
 
 pub append-spec : {M : Type 1} → statement M
 append-spec =
     tie.close
-    (tie.spec
-    (λ c κs. search needs)
-    place-requires
-    place-requires-2
-    (λ c κs. search needs)
-    (λ c. search needs)
-    (λ c. search needs)
-    (λ c. search needs)
-    (λ c. search needs)
-    slice-write-table-2
-    (λ c. search needs)
-    (λ c. search needs)
-    slice-write-table-3
-    (λ c. search needs)
-    returns)
+    (tie.spec (λ c κs. search needs) place-requires place-requires-2 (λ c κs. search needs) (λ c. search needs) (λ c. search needs) (λ c. search needs)
+    (λ c. search needs) slice-write-table-2 (λ c. search needs) (λ c. search needs) slice-write-table-3 (λ c. search needs) returns)

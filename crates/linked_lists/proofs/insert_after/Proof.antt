@@ -43,20 +43,11 @@ returns c =
     let a = d .before .before in
     let n = a .before in
     let s = n .before .before .before in
-    put-steps (s .args .layout) (s .args .table .now) (s .args .ends) (s .args .x) (s .pre .node) (a .place .ensures .2) _ (a .place .ensures .0) (n .next .ensures) (d .put-next .ensures) (b .put-prev .ensures)
+    put-steps (s .args .layout) (s .args .table .now) (s .args .ends) (s .args .x) (s .pre .node) (a .place .ensures .2) _ (a .place .ensures .0) (n .next .ensures) (d .put-next .ensures)
+    (b .put-prev .ensures)
 
 pub insert-after-spec : {M : Type 1} → statement M
 insert-after-spec =
     tie.close
-    (tie.spec
-    (λ c κs. search needs)
-    place-requires
-    (λ c κs. search needs)
-    (λ c. search needs)
-    slice-write-table
-    (λ c. search needs)
-    (λ c. search needs)
-    slice-write-table-2
-    put-prev-requires
-    same-length
-    returns)
+    (tie.spec (λ c κs. search needs) place-requires (λ c κs. search needs) (λ c. search needs) slice-write-table (λ c. search needs) (λ c. search needs)
+    slice-write-table-2 put-prev-requires same-length returns)

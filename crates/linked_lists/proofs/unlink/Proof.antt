@@ -27,18 +27,11 @@ returns c =
     let j = c .before .before in
     let a = j .before .before .before .before in
     let s = a .before .before in
-    unlink-steps _ _ _ _ (word-prev (s .args .layout) (s .args .table .now) (s .args .ends) (s .args .x) (s .pre .node) (a .place .ensures .2) (a .place .ensures .0)) (word-next (s .args .layout) (s .args .table .now) (s .args .ends) (s .args .x) (s .pre .node) (a .place .ensures .2) (a .place .ensures .0)) (j .join .ensures)
+    unlink-steps _ _ _ _ (word-prev (s .args .layout) (s .args .table .now) (s .args .ends) (s .args .x) (s .pre .node) (a .place .ensures .2) (a .place .ensures .0))
+    (word-next (s .args .layout) (s .args .table .now) (s .args .ends) (s .args .x) (s .pre .node) (a .place .ensures .2) (a .place .ensures .0)) (j .join .ensures)
 
 pub unlink-spec : {M : Type 1} → statement M
 unlink-spec =
     tie.close
-    (tie.spec
-    place-requires
-    (λ c. search needs)
-    (λ c. search needs)
-    (λ c. search needs)
-    (λ c. search needs)
-    (λ c. search needs)
-    join-requires
-    (λ c. search needs)
-    returns)
+    (tie.spec place-requires (λ c. search needs) (λ c. search needs) (λ c. search needs) (λ c. search needs) (λ c. search needs) join-requires
+    (λ c. search needs) returns)

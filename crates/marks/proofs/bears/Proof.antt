@@ -21,7 +21,8 @@ returns-2 c = rw (ne-eqb _ _ (c .before .before .if1 .left), sym (c .before .sta
 returns-3 : tie.Need-returns-3
 returns-3 c =
     let a = c .before .before .before .before .before .before .args in
-    bears-no-name (a .set) (a .words .now) (a .but) (a .b) (a .c) (a .a) (c .before .before .before .before .if1 .left) (sym (c .before .before .before .stands .ensures) ∙ not-false _ (c .before .before .if2 .left)) (sym (c .before .is-name .ensures) ∙ not-true _ (c .if3 .taken))
+    bears-no-name (a .set) (a .words .now) (a .but) (a .b) (a .c) (a .a) (c .before .before .before .before .if1 .left)
+    (sym (c .before .before .before .stands .ensures) ∙ not-false _ (c .before .before .if2 .left)) (sym (c .before .is-name .ensures) ∙ not-true _ (c .if3 .taken))
 
 name-at-requires : tie.Need-name-at-requires
 name-at-requires c κs =
@@ -39,7 +40,9 @@ returns-4 : tie.Need-returns-4
 returns-4 c =
     let a = c .before .before .before .before .before .before .before .before .before .args in
     sym (ap (λ (t : Bool). t && (getD (a .words .now) (c .before .before .name-at .result + 1) 0 == a .c)) (ne-eqb _ _ (c .if4 .taken)))
-    ∙ bears-by (a .set) (a .words .now) (a .but) (a .b) (a .c) (a .a) (c .before .before .before .before .before .before .before .if1 .left) (sym (c .before .before .before .before .before .before .stands .ensures) ∙ not-false _ (c .before .before .before .before .before .if2 .left)) (sym (c .before .before .before .before .is-name .ensures) ∙ not-false _ (c .before .before .before .if3 .left)) _ (c .before .before .name-at .ensures)
+    ∙ bears-by (a .set) (a .words .now) (a .but) (a .b) (a .c) (a .a) (c .before .before .before .before .before .before .before .if1 .left)
+    (sym (c .before .before .before .before .before .before .stands .ensures) ∙ not-false _ (c .before .before .before .before .before .if2 .left))
+    (sym (c .before .before .before .before .is-name .ensures) ∙ not-false _ (c .before .before .before .if3 .left)) _ (c .before .before .name-at .ensures)
 
 shared-slice-read-result : tie.Need-shared-slice-read-result
 shared-slice-read-result c =
@@ -51,22 +54,12 @@ returns-5 : tie.Need-returns-5
 returns-5 c =
     let a = c .before .before .before .before .before .before .before .before .before .before .args in
     sym (ap (λ (t : Bool). t && (getD (a .words .now) (c .before .before .before .name-at .result + 1) 0 == a .c)) (eq-eqb _ _ (c .before .if4 .left)))
-    ∙ bears-by (a .set) (a .words .now) (a .but) (a .b) (a .c) (a .a) (c .before .before .before .before .before .before .before .before .if1 .left) (sym (c .before .before .before .before .before .before .before .stands .ensures) ∙ not-false _ (c .before .before .before .before .before .before .if2 .left)) (sym (c .before .before .before .before .before .is-name .ensures) ∙ not-false _ (c .before .before .before .before .if3 .left)) _ (c .before .before .before .name-at .ensures)
+    ∙ bears-by (a .set) (a .words .now) (a .but) (a .b) (a .c) (a .a) (c .before .before .before .before .before .before .before .before .if1 .left)
+    (sym (c .before .before .before .before .before .before .before .stands .ensures) ∙ not-false _ (c .before .before .before .before .before .before .if2 .left))
+    (sym (c .before .before .before .before .before .is-name .ensures) ∙ not-false _ (c .before .before .before .before .if3 .left)) _ (c .before .before .before .name-at .ensures)
 
 pub bears-spec : {M : Type 1} → statement M
 bears-spec =
     tie.close
-    (tie.spec
-    returns
-    (λ c κs. search needs)
-    returns-2
-    (λ c κs. search needs)
-    returns-3
-    name-at-requires
-    (λ c. search needs)
-    shared-slice-read-if4
-    returns-4
-    (λ c. search needs)
-    (λ c. search needs)
-    shared-slice-read-result
-    returns-5)
+    (tie.spec returns (λ c κs. search needs) returns-2 (λ c κs. search needs) returns-3 name-at-requires (λ c. search needs) shared-slice-read-if4 returns-4
+    (λ c. search needs) (λ c. search needs) shared-slice-read-result returns-5)

@@ -1,24 +1,40 @@
 -- `marks::cut_mark` meets its contract.
-use Prim.Native.Nat.{ℕ, _≤_, _<_}
-use mathlib.Core.Path.{subst}
-use borrow.Author.Tests.{eq-eqb, ne-eqb, lt-ltb, le-ltb}
+use mathlib.Core.Path.{_≡_, refl}
+use mathlib.Core.Bool.{true}
+use native.Mathlib.Omega.{arith}
+use borrow.Author.Tests.{lt-ltb, le-ltb}
 use borrow.Author.Needs.{needs}
+use lib.Dec.{ltb}
+use Rattle.marks.specs.Marked.{placeIn}
+use Rattle.marks.proofs.MarkLaws.{in-marks, in-range, without-is}
 use Rattle.marks.proofs.cut_mark.Statement.{statement}
 use Rattle.marks.proofs.cut_mark.Tie as tie
 
+read : tie.Need-shared-slice-read-if1
+read c =
+    let s = c .before in
+    omega (arith, s .pre .0, in-range (s .args .set) (s .args .a) (s .pre .1))
+
 returns : tie.Need-returns
-returns c = rw (ne-eqb _ 1 (c .if1 .taken))
+returns c =
+    let s = c .before .before in
+    let w = in-range (s .args .set) (s .args .a) (s .pre .1) in
+    rw (in-marks (s .args .a) (w .0) (w .1), le-ltb _ _ (c .if1 .taken))
+
+shl : tie.Need-shl-result
+shl c =
+    let s = c .before .before in
+    omega (arith, in-range (s .args .set) (s .args .a) (s .pre .1))
 
 returns-2 : tie.Need-returns-2
 returns-2 c =
-    let q = subst (λ (q : ℕ). q ≤ c .before .before .before .before .args .p) (c .before .place-of .ensures) (c .if2 .taken) in
-    rw (eq-eqb _ 1 (c .before .before .if1 .left), le-ltb _ _ q)
-
-returns-3 : tie.Need-returns-3
-returns-3 c =
-    let q = subst (λ (q : ℕ). c .before .before .before .before .before .args .p < q) (c .before .before .place-of .ensures) (c .before .if2 .left) in
-    rw (eq-eqb _ 1 (c .before .before .before .if1 .left), lt-ltb _ _ q) (c .drop-mark .ensures .0)
+    let s = c .before .before in
+    let w = in-range (s .args .set) (s .args .a) (s .pre .1) in
+    let v : ltb (s .args .p) (placeIn (s .args .places .now) (s .args .a)) ≡ true =
+    rw (in-marks (s .args .a) (w .0) (w .1)) (lt-ltb _ _ (c .if1 .left)) in
+    rw v (without-is (s .args .set) (s .args .a) _ (s .pre .1) refl)
 
 pub cut-mark-spec : {M : Type 1} → statement M
 cut-mark-spec =
-    tie.close (tie.spec returns (λ c κs. search needs) returns-2 (λ c κs. search needs) returns-3)
+    tie.close
+    (tie.spec (λ c. omega (arith, in-range (c .args .set) (c .args .a) (c .pre .1))) (λ c. search needs) (λ c. search needs) read returns (λ c. search needs) shl returns-2)

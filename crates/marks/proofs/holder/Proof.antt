@@ -32,9 +32,6 @@ returns c =
     let l = c .before .before .before .loop in
     seek-here (65 - l .a) (l .a) _ (sym (c .before .bears .ensures) ∙ c .if1 .taken) (omega (arith, c .before .before .loop-test .taken)) ∙ l .inv .2
 
-add-a : tie.Need-add-a Inv-loop μ-loop
-add-a c = omega (arith, c .before .before .loop-test .taken)
-
 loop-less : tie.Need-loop-less Inv-loop μ-loop
 loop-less c = omega (arith, c .before .before .loop-test .taken)
 
@@ -57,13 +54,5 @@ returns-2 c = let l = c .before .loop in sym (seek-end (65 - l .a) (l .a) _ (ome
 pub holder-spec : {M : Type 1} → statement M
 holder-spec =
     tie.close
-    (tie.spec
-    Inv-loop
-    μ-loop
-    loop-holds
-    (λ c κs. search needs)
-    returns
-    add-a
-    loop-less
-    loop-again
+    (tie.spec Inv-loop μ-loop loop-holds (λ c κs. search needs) returns (λ c. omega (arith, c .before .before .loop-test .taken)) loop-less loop-again
     returns-2)

@@ -31,14 +31,5 @@ returns-2 c = rw (sym (c .before .before .is-mark .ensures) ∙ not-false _ (c .
 pub name-mark-spec : {M : Type 1} → statement M
 name-mark-spec =
     tie.close
-    (tie.spec
-    (λ c κs. search needs)
-    returns
-    name-at-requires
-    (λ c. search needs)
-    slice-write-words
-    (λ c. search needs)
-    (λ c. search needs)
-    slice-write-words-2
-    (λ c. search needs)
-    returns-2)
+    (tie.spec (λ c κs. search needs) returns name-at-requires (λ c. search needs) slice-write-words (λ c. search needs) (λ c. search needs) slice-write-words-2
+    (λ c. search needs) returns-2)

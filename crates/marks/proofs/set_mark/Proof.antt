@@ -34,11 +34,13 @@ slice-write-places c =
     omega (arith, w .0, w .1, c .before .before .before .pre)
 
 name-mark-requires : tie.Need-name-mark-requires
-name-mark-requires c κs = length-set (c .before .before .before .before .args .places .now) (c .before .before .before .before .args .a - 1) (c .before .before .before .before .args .p) ∙ c .before .before .before .before .pre
+name-mark-requires c κs = length-set (c .before .before .before .before .args .places .now) (c .before .before .before .before .args .a - 1) (c .before .before .before .before .args .p)
+    ∙ c .before .before .before .before .pre
 
 shl-result : tie.Need-shl-result
 shl-result c =
-    let w = within-range 1 64 (c .before .before .before .before .before .before .before .args .a) (sym (c .before .before .before .before .before .is-mark .ensures) ∙ not-false _ (c .before .before .before .before .if1 .left)) in
+    let w = within-range 1 64 (c .before .before .before .before .before .before .before .args .a)
+    (sym (c .before .before .before .before .before .is-mark .ensures) ∙ not-false _ (c .before .before .before .before .if1 .left)) in
     omega (arith, w .0, w .1)
 
 same-length : tie.Need-same-length
@@ -57,22 +59,13 @@ returns-2 c =
         e ∙ sym (ap (λ (t : Bool). t ⇒ markPut (a .a) (a .p) (a .places .now) else a .places .now) yes),
         λ ms y n h.
             subst (Marked (marked (a .a) (at (a .p)) ms) _) (sym e)
-            (named-marked _ _ _ (a .a) noName (w .0) (mark-put ms (a .set) (a .places .now) h (a .a) (w .0) (w .1) (a .p) _ (sym (in-set ms (a .set) (a .places .now) h (a .a) (w .0) (w .1)) ∙ n) refl)),
+            (named-marked _ _ _ (a .a) noName (w .0)
+            (mark-put ms (a .set) (a .places .now) h (a .a) (w .0) (w .1) (a .p) _ (sym (in-set ms (a .set) (a .places .now) h (a .a) (w .0) (w .1)) ∙ n) refl)),
       ),
     )
 
 pub set-mark-spec : {M : Type 1} → statement M
 set-mark-spec =
     tie.close
-    (tie.spec
-    (λ c κs. search needs)
-    returns
-    sub-k
-    (λ c. search needs)
-    (λ c. search needs)
-    slice-write-places
-    name-mark-requires
-    (λ c. search needs)
-    shl-result
-    same-length
-    returns-2)
+    (tie.spec (λ c κs. search needs) returns sub-k (λ c. search needs) (λ c. search needs) slice-write-places name-mark-requires (λ c. search needs) shl-result
+    same-length returns-2)

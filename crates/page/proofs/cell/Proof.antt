@@ -10,10 +10,12 @@ use Rattle.page.proofs.cell.Statement.{statement}
 use Rattle.page.proofs.cell.Tie as tie
 
 slice-write-out : tie.Need-slice-write-out
-slice-write-out c = let a = c .before .before .before .before .before in let d = c .before .before .column in omega (arith, a .pre, d .ensures .place, d .kept .0, column-length (a .args .width) (a .args .n))
+slice-write-out c = let a = c .before .before .before .before .before in let d =
+    c .before .before .column in omega (arith, a .pre, d .ensures .place, d .kept .0, column-length (a .args .width) (a .args .n))
 
 add-result : tie.Need-add-result
-add-result c = let a = c .before .before .before .before .before in let d = c .before .before .column in omega (arith, a .pre, d .ensures .place, column-length (a .args .width) (a .args .n), a .good .0 .0)
+add-result c = let a = c .before .before .before .before .before in let d =
+    c .before .before .column in omega (arith, a .pre, d .ensures .place, column-length (a .args .width) (a .args .n), a .good .0 .0)
 
 returns : tie.Need-returns
 unfolding cell

@@ -93,19 +93,5 @@ returns c =
 pub row-spec : {M : Type 1} → statement M
 row-spec =
     tie.close
-    (tie.spec
-    (λ c. search needs)
-    (λ c κs. search needs)
-    (λ c. search needs)
-    cell-requires-2
-    (λ c. search needs)
-    cell-requires-3
-    (λ c. search needs)
-    cell-requires-4
-    (λ c. search needs)
-    (λ c. search needs)
-    reading-requires
-    slice-write-out
-    add-result
-    same-length
-    returns)
+    (tie.spec (λ c. search needs) (λ c κs. search needs) (λ c. search needs) cell-requires-2 (λ c. search needs) cell-requires-3 (λ c. search needs)
+    cell-requires-4 (λ c. search needs) (λ c. search needs) reading-requires slice-write-out add-result same-length returns)

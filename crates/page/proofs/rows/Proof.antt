@@ -15,7 +15,8 @@ use Rattle.page.proofs.rows.Statement.{statement}
 use Rattle.page.proofs.rows.Tie as tie
 
 abbrev Inv-loop : tie.InvT-loop
-Inv-loop words count out₀ i₀ from₀ at₀ out i from at = (i ≤ count) × (from ≡ 6 * i) × (at ≡ 25 * i) × (length out ≡ length out₀) × (sets out at (rowsFrom (count - i) (drop from words)) ≡ sets out₀ 0 (rowsFrom count words))
+Inv-loop words count out₀ i₀ from₀ at₀ out i from at =
+    (i ≤ count) × (from ≡ 6 * i) × (at ≡ 25 * i) × (length out ≡ length out₀) × (sets out at (rowsFrom (count - i) (drop from words)) ≡ sets out₀ 0 (rowsFrom count words))
 
 abbrev μ-loop : tie.MeasureT-loop
 μ-loop words count out₀ i₀ from₀ at₀ out i from at = count - i
@@ -60,18 +61,5 @@ returns c =
 pub rows-spec : {M : Type 1} → statement M
 rows-spec =
     tie.close
-    (tie.spec
-    Inv-loop
-    μ-loop
-    loop-holds
-    (λ c. search needs)
-    (λ c. search needs)
-    (λ c. search needs)
-    (λ c. search needs)
-    row-requires
-    (λ c. search needs)
-    (λ c. search needs)
-    (λ c. search needs)
-    loop-again
-    (λ c. search needs)
-    returns)
+    (tie.spec Inv-loop μ-loop loop-holds (λ c. search needs) (λ c. search needs) (λ c. search needs) (λ c. search needs) row-requires (λ c. search needs)
+    (λ c. search needs) (λ c. search needs) loop-again (λ c. search needs) returns)

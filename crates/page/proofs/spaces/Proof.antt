@@ -37,7 +37,8 @@ loop-again c =
     let a = c .before .before .args in (
       omega arith,
       length-set (l .out) (a .at + l .i) 32 ∙ l .inv .1,
-      stored-left (replicate (a .count - (l .i + 1)) 32) (replicate (a .count - l .i) 32) (stored-byte (l .out) _ (a .at + l .i) 32 (a .at + (l .i + 1)) refl (omega arith)) (spaces-turn (a .count) (l .i) (omega arith)) ∙ l .inv .2,
+      stored-left (replicate (a .count - (l .i + 1)) 32) (replicate (a .count - l .i) 32) (stored-byte (l .out) _ (a .at + l .i) 32 (a .at + (l .i + 1)) refl (omega arith))
+          (spaces-turn (a .count) (l .i) (omega arith)) ∙ l .inv .2,
     )
 
 returns : tie.Need-returns Inv-loop μ-loop
@@ -51,15 +52,5 @@ returns c =
 pub spaces-spec : {M : Type 1} → statement M
 spaces-spec =
     tie.close
-    (tie.spec
-    Inv-loop
-    μ-loop
-    loop-holds
-    (λ c. search needs)
-    (λ c. search needs)
-    (λ c. search needs)
-    (λ c. search needs)
-    loop-again
-    (λ c. search needs)
-    (λ c. search needs)
-    returns)
+    (tie.spec Inv-loop μ-loop loop-holds (λ c. search needs) (λ c. search needs) (λ c. search needs) (λ c. search needs) loop-again (λ c. search needs)
+    (λ c. search needs) returns)

@@ -76,14 +76,4 @@ returns c =
 pub one-way-spec : {M : Type 1} → statement M
 one-way-spec =
     tie.close
-    (tie.spec
-    Inv-loop
-    μ-loop
-    first-word-requires
-    loop-holds
-    reading-to-requires
-    (λ c κs. search needs)
-    following-requires
-    loop-less
-    loop-again
-    returns)
+    (tie.spec Inv-loop μ-loop first-word-requires loop-holds reading-to-requires (λ c κs. search needs) following-requires loop-less loop-again returns)

@@ -43,14 +43,5 @@ returns-2 c =
 pub print-image-spec : {M : Type 1} → statement M
 print-image-spec =
     tie.close
-    (tie.spec
-    (λ c κs. search needs)
-    (λ c. search needs)
-    array-share-prefix-words
-    slice-aggregate-print-words
-    print-words-requires
-    (λ c. search needs)
-    (λ c. search needs)
-    (λ c κs. search needs)
-    returns
-    returns-2)
+    (tie.spec (λ c κs. search needs) (λ c. search needs) array-share-prefix-words slice-aggregate-print-words print-words-requires (λ c. search needs)
+    (λ c. search needs) (λ c κs. search needs) returns returns-2)

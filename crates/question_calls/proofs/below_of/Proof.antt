@@ -15,12 +15,8 @@ returns-3 c = λ g rows e i.
 pub below-of-spec : {M : Type 1} → statement M
 below-of-spec =
     tie.close
-    (tie.spec
-    (λ c κs. search needs)
+    (tie.spec (λ c κs. search needs)
     (λ c. λ g rows e i. rw (le-leb _ _ (c .before .if1 .taken)) (c .refused .ensures))
     (λ c κs. search needs)
     (λ c. λ g rows e i. rw (lt-leb _ _ (c .before .before .if1 .left), le-leb _ _ (c .before .if2 .taken)) (c .refused2 .ensures))
-    (λ c κs. search needs)
-    (λ c κs. search needs)
-    (λ c κs. search needs)
-    returns-3)
+    (λ c κs. search needs) (λ c κs. search needs) (λ c κs. search needs) returns-3)

@@ -9,11 +9,7 @@ use Rattle.question_calls.proofs.edge_word.Tie as tie
 pub edge-word-spec : {M : Type 1} → statement M
 edge-word-spec =
     tie.close
-    (tie.spec
-    (λ c κs. search needs)
-    (λ c. search needs)
-    (λ c. search needs)
-    (λ c κs. search needs)
+    (tie.spec (λ c κs. search needs) (λ c. search needs) (λ c. search needs) (λ c κs. search needs)
     (λ c. rw (sym (c .before .before .before .find-edge .ensures) ∙ c .before .enum-told .given .1) (c .refused .ensures))
     (λ c. omega (arith, edge-end _ _ _ (c .before .before .before .find-edge .result) (c .before .before .before .find-edge .ensures) (c .before .f .given .1)))
     (λ c. omega (arith, edge-end _ _ _ (c .before .before .before .find-edge .result) (c .before .before .before .find-edge .ensures) (c .before .f .given .1)))

@@ -33,63 +33,80 @@ begin-requires c κs =
 
 record-all-requires : tie.Need-record-all-requires
 record-all-requires c κs =
-    let s = c .before .before .before .before .before .before .before .before .before .before .before .before .before .before .before .before .before .before .before .before .before .before .before .before .before .before in
+    let s = c .before .before .before .before .before .before .before .before .before .before .before .before .before .before .before .before .before .before .before .before .before .before
+    .before .before .before .before in
     let a = s .args in
     let begin = c .before .before .before .before .before .before .before .before .before .before .before .before .before .begin in
     let closure = c .before .before .before .before .before .before .before .before .before .before .before .before .before .before .before .before .closure in
-    let closed = closure .ensures ∙ closure-good (a .rows .now) (past (a .start .now) (a .rows .now) (a .calls .now) (a .vertices .now) (a .edges .now) (a .journal .now) (a .answers .now) (a .image .now) (s .pre .0) .rows-good) in
-    let x = begun (a .start .now) (a .rows .now) (a .calls .now) (a .vertices .now) (a .edges .now) (a .journal .now) (a .answers .now) (a .image .now) (s .pre .0) (closure .result) _ closed refl (begin .result) _ _ _ (begin .kept .1 .0) (begin .kept .1 .1 .0) refl (begin .ensures) in
-    let f = covers-starts (parametersOf (given s)) (a .start .now) (a .copies .now) _ _ (past (a .start .now) (a .rows .now) (a .calls .now) (a .vertices .now) (a .edges .now) (a .journal .now) (a .answers .now) (a .image .now) (s .pre .0) .start-loads) refl refl in
-    ((parametersOf (given s), _, x, f, s .pre .1 .0), (past (a .start .now) (a .rows .now) (a .calls .now) (a .vertices .now) (a .edges .now) (a .journal .now) (a .answers .now) (a .image .now) (s .pre .0) .answers-room, s .pre .1 .1))
+    let closed = closure .ensures
+    ∙ closure-good (a .rows .now) (past (a .start .now) (a .rows .now) (a .calls .now) (a .vertices .now) (a .edges .now) (a .journal .now) (a .answers .now) (a .image .now)
+    (s .pre .0) .rows-good) in
+    let x = begun (a .start .now) (a .rows .now) (a .calls .now) (a .vertices .now) (a .edges .now) (a .journal .now) (a .answers .now) (a .image .now) (s .pre .0)
+    (closure .result) _ closed refl (begin .result) _ _ _ (begin .kept .1 .0) (begin .kept .1 .1 .0) refl (begin .ensures) in
+    let f = covers-starts (parametersOf (given s)) (a .start .now) (a .copies .now) _ _
+    (past (a .start .now) (a .rows .now) (a .calls .now) (a .vertices .now) (a .edges .now) (a .journal .now) (a .answers .now) (a .image .now) (s .pre .0) .start-loads) refl refl in (
+      (parametersOf (given s), _, x, f, s .pre .1 .0),
+      (past (a .start .now) (a .rows .now) (a .calls .now) (a .vertices .now) (a .edges .now) (a .journal .now) (a .answers .now) (a .image .now) (s .pre .0) .answers-room, s .pre .1 .1),
+    )
 
 save-requires : tie.Need-save-requires
 save-requires c κs =
-    let s = c .before .before .before .before .before .before .before .before .before .before .before .before .before .before .before .before .before .before .before .before .before .before .before .before .before .before .before .before .before .before .before .before .before .before .before .before .before .before .before .before .before .before in
+    let s = c .before .before .before .before .before .before .before .before .before .before .before .before .before .before .before .before .before .before .before .before .before .before
+    .before .before .before .before .before .before .before .before .before .before .before .before .before .before .before .before .before .before .before .before in
     let a = s .args in
-    let begin = c .before .before .before .before .before .before .before .before .before .before .before .before .before .before .before .before .before .before .before .before .before .before .before .before .before .before .before .before .before .begin in
-    let closure = c .before .before .before .before .before .before .before .before .before .before .before .before .before .before .before .before .before .before .before .before .before .before .before .before .before .before .before .before .before .before .before .before .closure in
-    let closed = closure .ensures ∙ closure-good (a .rows .now) (past (a .start .now) (a .rows .now) (a .calls .now) (a .vertices .now) (a .edges .now) (a .journal .now) (a .answers .now) (a .image .now) (s .pre .0) .rows-good) in
-    let x = begun (a .start .now) (a .rows .now) (a .calls .now) (a .vertices .now) (a .edges .now) (a .journal .now) (a .answers .now) (a .image .now) (s .pre .0) (closure .result) _ closed refl (begin .result) _ _ _ (begin .kept .1 .0) (begin .kept .1 .1 .0) refl (begin .ensures) in
-    let f = covers-starts (parametersOf (given s)) (a .start .now) (a .copies .now) _ _ (past (a .start .now) (a .rows .now) (a .calls .now) (a .vertices .now) (a .edges .now) (a .journal .now) (a .answers .now) (a .image .now) (s .pre .0) .start-loads) refl refl in
+    let begin = c .before .before .before .before .before .before .before .before .before .before .before .before .before .before .before .before .before .before .before .before .before
+    .before .before .before .before .before .before .before .before .begin in
+    let closure = c .before .before .before .before .before .before .before .before .before .before .before .before .before .before .before .before .before .before .before .before .before
+    .before .before .before .before .before .before .before .before .before .before .before .closure in
+    let closed = closure .ensures
+    ∙ closure-good (a .rows .now) (past (a .start .now) (a .rows .now) (a .calls .now) (a .vertices .now) (a .edges .now) (a .journal .now) (a .answers .now) (a .image .now)
+    (s .pre .0) .rows-good) in
+    let x = begun (a .start .now) (a .rows .now) (a .calls .now) (a .vertices .now) (a .edges .now) (a .journal .now) (a .answers .now) (a .image .now) (s .pre .0)
+    (closure .result) _ closed refl (begin .result) _ _ _ (begin .kept .1 .0) (begin .kept .1 .1 .0) refl (begin .ensures) in
+    let f = covers-starts (parametersOf (given s)) (a .start .now) (a .copies .now) _ _
+    (past (a .start .now) (a .rows .now) (a .calls .now) (a .vertices .now) (a .edges .now) (a .journal .now) (a .answers .now) (a .image .now) (s .pre .0) .start-loads) refl refl in
     let all = c .before .before .before .before .before .before .before .before .before .before .before .before .before .before .before .record-all in
-    can-save-present _ _ (all .result) _ (closure .result) _ (all .ensures _ _ x f (s .pre .1 .0) .0 .after) _ (past (a .start .now) (a .rows .now) (a .calls .now) (a .vertices .now) (a .edges .now) (a .journal .now) (a .answers .now) (a .image .now) (s .pre .0) .end-room)
+    can-save-present _ _ (all .result) _ (closure .result) _ (all .ensures _ _ x f (s .pre .1 .0) .0 .after) _
+    (past (a .start .now) (a .rows .now) (a .calls .now) (a .vertices .now) (a .edges .now) (a .journal .now) (a .answers .now) (a .image .now) (s .pre .0) .end-room)
 
 same-length : tie.Need-same-length
-same-length c = c .before .before .before .before .before .before .before .before .before .before .before .before .before .before .before .before .before .before .record-all .kept .1 .1 .0 ∙ c .before .before .before .before .before .before .before .before .before .before .before .before .before .before .before .before .before .before .before .before .before .before .before .before .before .before .before .before .before .before .before .before .begin .kept .1 .0
+same-length c = c .before .before .before .before .before .before .before .before .before .before .before .before .before .before .before .before .before .before .record-all .kept .1 .1 .0
+    ∙ c .before .before .before .before .before .before .before .before .before .before .before .before .before .before .before .before .before .before .before .before .before .before
+    .before .before .before .before .before .before .before .before .before .before .begin .kept .1 .0
 
 same-length-2 : tie.Need-same-length-2
-same-length-2 c = c .before .before .before .before .before .before .before .before .before .before .before .before .before .before .before .before .before .before .record-all .kept .1 .1 .1 .0 ∙ c .before .before .before .before .before .before .before .before .before .before .before .before .before .before .before .before .before .before .before .before .before .before .before .before .before .before .before .before .before .before .before .before .begin .kept .1 .1 .0
+same-length-2 c =
+    c .before .before .before .before .before .before .before .before .before .before .before .before .before .before .before .before .before .before .record-all .kept .1 .1 .1 .0
+    ∙ c .before .before .before .before .before .before .before .before .before .before .before .before .before .before .before .before .before .before .before .before .before .before
+    .before .before .before .before .before .before .before .before .before .before .begin .kept .1 .1 .0
 
 returns : tie.Need-returns
 returns c =
-    let s = c .before .before .before .before .before .before .before .before .before .before .before .before .before .before .before .before .before .before .before .before .before .before .before .before .before .before .before .before .before .before .before .before .before .before .before .before .before .before .before .before .before .before .before .before .before in
+    let s = c .before .before .before .before .before .before .before .before .before .before .before .before .before .before .before .before .before .before .before .before .before .before
+    .before .before .before .before .before .before .before .before .before .before .before .before .before .before .before .before .before .before .before .before .before .before
+    .before in
     let a = s .args in
-    let begin = c .before .before .before .before .before .before .before .before .before .before .before .before .before .before .before .before .before .before .before .before .before .before .before .before .before .before .before .before .before .before .before .before .begin in
-    let closure = c .before .before .before .before .before .before .before .before .before .before .before .before .before .before .before .before .before .before .before .before .before .before .before .before .before .before .before .before .before .before .before .before .before .before .before .closure in
-    let closed = closure .ensures ∙ closure-good (a .rows .now) (past (a .start .now) (a .rows .now) (a .calls .now) (a .vertices .now) (a .edges .now) (a .journal .now) (a .answers .now) (a .image .now) (s .pre .0) .rows-good) in
-    let x = begun (a .start .now) (a .rows .now) (a .calls .now) (a .vertices .now) (a .edges .now) (a .journal .now) (a .answers .now) (a .image .now) (s .pre .0) (closure .result) _ closed refl (begin .result) _ _ _ (begin .kept .1 .0) (begin .kept .1 .1 .0) refl (begin .ensures) in
-    let f = covers-starts (parametersOf (given s)) (a .start .now) (a .copies .now) _ _ (past (a .start .now) (a .rows .now) (a .calls .now) (a .vertices .now) (a .edges .now) (a .journal .now) (a .answers .now) (a .image .now) (s .pre .0) .start-loads) refl refl in
+    let begin = c .before .before .before .before .before .before .before .before .before .before .before .before .before .before .before .before .before .before .before .before .before
+    .before .before .before .before .before .before .before .before .before .before .before .begin in
+    let closure = c .before .before .before .before .before .before .before .before .before .before .before .before .before .before .before .before .before .before .before .before .before
+    .before .before .before .before .before .before .before .before .before .before .before .before .before .before .closure in
+    let closed = closure .ensures
+    ∙ closure-good (a .rows .now) (past (a .start .now) (a .rows .now) (a .calls .now) (a .vertices .now) (a .edges .now) (a .journal .now) (a .answers .now) (a .image .now)
+    (s .pre .0) .rows-good) in
+    let x = begun (a .start .now) (a .rows .now) (a .calls .now) (a .vertices .now) (a .edges .now) (a .journal .now) (a .answers .now) (a .image .now) (s .pre .0)
+    (closure .result) _ closed refl (begin .result) _ _ _ (begin .kept .1 .0) (begin .kept .1 .1 .0) refl (begin .ensures) in
+    let f = covers-starts (parametersOf (given s)) (a .start .now) (a .copies .now) _ _
+    (past (a .start .now) (a .rows .now) (a .calls .now) (a .vertices .now) (a .edges .now) (a .journal .now) (a .answers .now) (a .image .now) (s .pre .0) .start-loads) refl refl in
     let all = c .before .before .before .before .before .before .before .before .before .before .before .before .before .before .before .before .before .before .record-all in
     let save = c .before .before .save in
     let g = all .ensures _ _ x f (s .pre .1 .0) in (
-      ends (a .start .now) (a .rows .now) (a .calls .now) (a .vertices .now) (a .edges .now) (a .journal .now) (a .answers .now) (a .image .now) (s .pre .0) (closure .result) _ closed refl (all .result) _ _ _ (save .result) (g .0) (save .ensures),
+      ends (a .start .now) (a .rows .now) (a .calls .now) (a .vertices .now) (a .edges .now) (a .journal .now) (a .answers .now) (a .image .now) (s .pre .0) (closure .result) _ closed refl
+          (all .result) _ _ _ (save .result) (g .0) (save .ensures),
       g .1 ∙ ap (λ (k : ℕ). recorded k (madeIn (given s)) (a .copies .now)) (sym (s .pre .1 .0)),
     )
 
 pub accepted-spec : {M : Type 1} → statement M
 accepted-spec =
     tie.close
-    (tie.spec
-    (λ c κs. search needs)
-    cast-types
-    begin-requires
-    (λ c. search needs)
-    record-all-requires
-    save-requires
-    same-length
-    same-length-2
-    (λ c. search needs)
-    (λ c. search needs)
-    (λ c. search needs)
-    (λ c. search needs)
-    returns)
+    (tie.spec (λ c κs. search needs) cast-types begin-requires (λ c. search needs) record-all-requires save-requires same-length same-length-2
+    (λ c. search needs) (λ c. search needs) (λ c. search needs) (λ c. search needs) returns)

@@ -27,7 +27,10 @@ returns c =
     let s = c .before .before .before .before .before .before .before .before .before .before .before .before .before .before .before .before .before .before .before in
     let k = moves (commandOf (callAt (s .args .call .now))) _ (sym (s .pre .0 .1) ∙ c .before .before .before .before .before .before .before .before .before .before .role .given .1) in
     λ w m lent gs n r f e.
-    answered-as w m _ _ _ _ _ _ (k .0) (recall-answers w m _ _ _ _ r (w .changes) _ (never-far w m _ _ _ _ r _ refl (historyCall (c .before .before .before .before .before .before .before .before .before .before .role .given .0 .0))) _ _ refl (c .before .before .before .before .go-by-copy .ensures w m lent gs n (r .represents) f e (w .changes)))
+    answered-as w m _ _ _ _ _ _ (k .0)
+    (recall-answers w m _ _ _ _ r (w .changes) _
+    (never-far w m _ _ _ _ r _ refl (historyCall (c .before .before .before .before .before .before .before .before .before .before .role .given .0 .0))) _ _ refl
+    (c .before .before .before .before .go-by-copy .ensures w m lent gs n (r .represents) f e (w .changes)))
 
 returns-2 : tie.Need-returns-2
 returns-2 c = λ w m lent gs n r f e. at-capacity _ _ (capacity-is w m _ _ _ _ r _ refl) (c .before .before .before .before .before .before .before .before .one .ensures w m r)
@@ -35,17 +38,5 @@ returns-2 c = λ w m lent gs n r f e. at-capacity _ _ (capacity-is w m _ _ _ _ r
 pub performed-spec : {M : Type 1} → statement M
 performed-spec =
     tie.close
-    (tie.spec
-    (λ c. search needs)
-    go-by-copy-requires
-    one-requires
-    (λ c. search needs)
-    (λ c. search needs)
-    (λ c. search needs)
-    (λ c. search needs)
-    returns
-    (λ c. search needs)
-    (λ c. search needs)
-    (λ c. search needs)
-    (λ c. search needs)
-    returns-2)
+    (tie.spec (λ c. search needs) go-by-copy-requires one-requires (λ c. search needs) (λ c. search needs) (λ c. search needs) (λ c. search needs) returns
+    (λ c. search needs) (λ c. search needs) (λ c. search needs) (λ c. search needs) returns-2)

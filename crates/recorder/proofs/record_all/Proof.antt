@@ -23,7 +23,8 @@ use Rattle.recorder.proofs.record_all.Tie as tie
 
 abbrev Inv-loop : tie.InvT-loop
 Inv-loop start vertices₀ edges₀ journal₀ marks₀ closed types calls answers₀ copies₀ size numbers₀ used₀ n y₀ count₀ k₀ vertices edges journal marks answers copies numbers used y count k =
-    (k ≤ n) × (length vertices ≡ length vertices₀) × (length edges ≡ length edges₀) × (length journal ≡ length journal₀) × (length marks ≡ length marks₀) × (length answers ≡ length answers₀) × (length copies ≡ length copies₀)
+    (k ≤ n) × (length vertices ≡ length vertices₀) × (length edges ≡ length edges₀) × (length journal ≡ length journal₀) × (length marks ≡ length marks₀) × (length answers ≡ length answers₀)
+    × (length copies ≡ length copies₀)
     × ((w : Parameters) → (m : Machine) → Running w y₀ (memory vertices₀ edges₀ journal₀ marks₀) closed types m → Covers w start copies₀ copies₀ numbers₀ used₀ [] 0 m → size ≡ stretch w
     → AfterCalls w (w .changes) m (take k (callsOf calls)) y (memory vertices edges journal marks) closed types answers₀ answers
     × Covers w start copies₀ copies numbers used (made w m (take k (callsOf calls))) count (last w m (take k (callsOf calls))))
@@ -32,7 +33,16 @@ abbrev μ-loop : tie.MeasureT-loop
 μ-loop start vertices₀ edges₀ journal₀ marks₀ closed types calls answers₀ copies₀ size numbers₀ used₀ n y₀ count₀ k₀ vertices edges journal marks answers copies numbers used y count k = n - k
 
 loop-holds : tie.Need-loop-holds Inv-loop μ-loop
-loop-holds c = (omega arith, refl, refl, refl, refl, refl, refl, λ w m h f e. (after-calls-none w (w .changes) m _ _ _ _ _ (c .before .before .before .before .before .before .before .before .args .answers .now) h, covers-none w m _ _ _ _ _ _ f))
+loop-holds c = (
+  omega arith,
+  refl,
+  refl,
+  refl,
+  refl,
+  refl,
+  refl,
+  λ w m h f e. (after-calls-none w (w .changes) m _ _ _ _ _ (c .before .before .before .before .before .before .before .before .args .answers .now) h, covers-none w m _ _ _ _ _ _ f),
+)
 
 record-call-requires : tie.Need-record-call-requires Inv-loop μ-loop
 record-call-requires c κs =
@@ -43,49 +53,55 @@ record-call-requires c κs =
     let t : l .k < length (a .calls .now) / 5 = c .before .before .before .before .before .before .before .before .loop-test .taken in
     let g = l .inv .7 (p .0) (p .1) (p .2) (p .3) (p .4) in
     let fits : 5 * l .k + 5 ≤ length (a .calls .now) = omega (arith, t) in (
-      (part-five (a .calls .now) (l .k) fits, stretch-left (a .calls .now) (l .k) fits (p .0) (p .1) (l .count) (a .size) (length (l .copies)) (g .1 .copied .count) (omega (arith, s .pre .1 .1, l .inv .6))),
+      (
+        part-five (a .calls .now) (l .k) fits,
+        stretch-left (a .calls .now) (l .k) fits (p .0) (p .1) (l .count) (a .size) (length (l .copies)) (g .1 .copied .count)
+            (omega (arith, s .pre .1 .1, l .inv .6)),
+      ),
       (p .0, _, _, _, g .0 .after, g .1, p .4),
     )
 
-before : (c : tie.After-record-call-arg4 Inv-loop μ-loop) → (5 * c .before .before .before .before .before .loop .k + 5 ≤ length (c .before .before .before .before .before .before .before .before .before .before .before .before .before .before .args .calls .now)) × (length (c .before .before .before .before .before .before .before .before .before .before .before .before .before .before .args .calls .now) * 4 < 9223372036854775808)
-before c = (omega (arith, c .before .before .before .before .loop-test .taken), c .before .before .before .before .before .before .before .before .before .before .before .before .before .before .good .1 .1 .1 .1 .1 .1 .1 .1 .0 .1)
+before : (c : tie.After-record-call-arg4 Inv-loop μ-loop)
+    → (5 * c .before .before .before .before .before .loop .k + 5 ≤ length
+    (c .before .before .before .before .before .before .before .before .before .before .before .before .before .before .args .calls .now))
+    × (length (c .before .before .before .before .before .before .before .before .before .before .before .before .before .before .args .calls .now) * 4 < 9223372036854775808)
+before c = (
+  omega (arith, c .before .before .before .before .loop-test .taken),
+  c .before .before .before .before .before .before .before .before .before .before .before .before .before .before .good .1 .1 .1 .1 .1 .1 .1 .1 .0 .1,
+)
 
-short : (c : tie.After-y Inv-loop μ-loop) → length (c .before .before .before .before .before .before .before .before .before .before .before .before .before .before .before .before .before .before .before .before .before .before .before .before .before .before .before .before .before .before .args .calls .now) * 4 < 9223372036854775808
-short c = c .before .before .before .before .before .before .before .before .before .before .before .before .before .before .before .before .before .before .before .before .before .before .before .before .before .before .before .before .before .before .good .1 .1 .1 .1 .1 .1 .1 .1 .0 .1
+short : (c : tie.After-y Inv-loop μ-loop)
+    → length
+    (c .before .before .before .before .before .before .before .before .before .before .before .before .before .before .before .before .before .before .before .before .before .before .before
+    .before .before .before .before .before .before .before .args .calls .now) * 4 < 9223372036854775808
+short c = c .before .before .before .before .before .before .before .before .before .before .before .before .before .before .before .before .before .before .before .before .before .before
+    .before .before .before .before .before .before .before .before .good .1 .1 .1 .1 .1 .1 .1 .1 .0 .1
 
-tested : (c : tie.After-y Inv-loop μ-loop) → c .before .before .before .before .before .before .before .before .before .before .before .before .before .before .before .before .before .before .before .before .before .loop .k < length (c .before .before .before .before .before .before .before .before .before .before .before .before .before .before .before .before .before .before .before .before .before .before .before .before .before .before .before .before .before .before .args .calls .now) / 5
+tested : (c : tie.After-y Inv-loop μ-loop)
+    → c .before .before .before .before .before .before .before .before .before .before .before .before .before .before .before .before .before .before .before .before .before .loop .k <
+    length (c .before .before .before .before .before .before .before .before .before .before .before .before .before .before .before .before .before .before .before .before .before .before
+    .before .before .before .before .before .before .before .before .args .calls .now) / 5
 tested c = c .before .before .before .before .before .before .before .before .before .before .before .before .before .before .before .before .before .before .before .before .loop-test .taken
 
-mul-answers : tie.Need-mul-answers Inv-loop μ-loop
-mul-answers c = omega (arith, short c, tested c, c .before .before .before .before .before .before .before .before .before .before .before .before .before .before .before .before .before .before .before .before .before .before .before .before .before .before .before .before .before .before .pre .1 .0)
-
-mul-answers-2 : tie.Need-mul-answers-2 Inv-loop μ-loop
-mul-answers-2 c = omega (arith, short c, tested c, c .before .before .before .before .before .before .before .before .before .before .before .before .before .before .before .before .before .before .before .before .before .before .before .before .before .before .before .before .before .before .pre .1 .0, c .before .before .before .before .before .before .before .before .before .before .before .before .before .before .before .before .before .before .before .before .before .loop .inv .5)
-
-slice-write-answers : tie.Need-slice-write-answers Inv-loop μ-loop
-slice-write-answers c = omega (arith, short c, tested c, c .before .before .before .before .before .before .before .before .before .before .before .before .before .before .before .before .before .before .before .before .before .before .before .before .before .before .before .before .before .before .pre .1 .0, c .before .before .before .before .before .before .before .before .before .before .before .before .before .before .before .before .before .before .before .before .before .loop .inv .5)
-
-mul-answers-3 : tie.Need-mul-answers-3 Inv-loop μ-loop
-mul-answers-3 c = omega (arith, short c, tested c, c .before .before .before .before .before .before .before .before .before .before .before .before .before .before .before .before .before .before .before .before .before .before .before .before .before .before .before .before .before .before .pre .1 .0, c .before .before .before .before .before .before .before .before .before .before .before .before .before .before .before .before .before .before .before .before .before .loop .inv .5)
-
-add-answers : tie.Need-add-answers Inv-loop μ-loop
-add-answers c = omega (arith, short c, tested c, c .before .before .before .before .before .before .before .before .before .before .before .before .before .before .before .before .before .before .before .before .before .before .before .before .before .before .before .before .before .before .pre .1 .0, c .before .before .before .before .before .before .before .before .before .before .before .before .before .before .before .before .before .before .before .before .before .loop .inv .5)
-
-mul-answers-4 : tie.Need-mul-answers-4 Inv-loop μ-loop
-mul-answers-4 c = omega (arith, short c, tested c, c .before .before .before .before .before .before .before .before .before .before .before .before .before .before .before .before .before .before .before .before .before .before .before .before .before .before .before .before .before .before .pre .1 .0, c .before .before .before .before .before .before .before .before .before .before .before .before .before .before .before .before .before .before .before .before .before .loop .inv .5)
-
-slice-write-answers-2 : tie.Need-slice-write-answers-2 Inv-loop μ-loop
-slice-write-answers-2 c = simp length-set (omega (arith, short c, tested c, c .before .before .before .before .before .before .before .before .before .before .before .before .before .before .before .before .before .before .before .before .before .before .before .before .before .before .before .before .before .before .pre .1 .0, c .before .before .before .before .before .before .before .before .before .before .before .before .before .before .before .before .before .before .before .before .before .loop .inv .5))
-
-add-k : tie.Need-add-k Inv-loop μ-loop
-add-k c = omega (arith, short c, tested c)
+room : (c : tie.After-y Inv-loop μ-loop)
+    → 2 * (length
+    (c .before .before .before .before .before .before .before .before .before .before .before .before .before .before .before .before .before .before .before .before .before .before .before
+    .before .before .before .before .before .before .before .args .calls .now) / 5) ≤ length
+    (c .before .before .before .before .before .before .before .before .before .before .before .before .before .before .before .before .before .before .before .before .before .loop .answers)
+room c = omega (
+  arith,
+  c .before .before .before .before .before .before .before .before .before .before .before .before .before .before .before .before .before .before .before .before .before .before
+      .before .before .before .before .before .before .before .before .pre .1 .0,
+  c .before .before .before .before .before .before .before .before .before .before .before .before .before .before .before .before .before .before .before .before .before .loop .inv .5,
+)
 
 loop-less : tie.Need-loop-less Inv-loop μ-loop
 loop-less c = omega (arith, short c, tested c)
 
 loop-again : tie.Need-loop-again Inv-loop μ-loop
 loop-again c =
-    let s = c .before .before .before .before .before .before .before .before .before .before .before .before .before .before .before .before .before .before .before .before .before .before .before .before .before .before .before .before .before .before in
+    let s = c .before .before .before .before .before .before .before .before .before .before .before .before .before .before .before .before .before .before .before .before .before .before
+    .before .before .before .before .before .before .before .before in
     let a = s .args in
     let l = c .before .before .before .before .before .before .before .before .before .before .before .before .before .before .before .before .before .before .before .before .before .loop in
     let r = c .before .before .before .before .before .before .before .before .before .before .before .record-call in
@@ -114,34 +130,21 @@ returns c =
     let many = calls-length (length calls / 5) calls (omega arith) (omega arith) in
     let all : take (l .k) (callsOf calls) ≡ callsOf calls = take-all (l .k) (callsOf calls) (omega arith) in
     λ w m h f e.
-    let g = l .inv .7 w m h f e in
-    (after-calls-all w (w .changes) m _ _ _ _ _ _ (callsOf calls) (l .k) (omega (arith, many)) (g .0), g .1 .copied .kept ∙ ap (λ (xs : List Call). recorded (stretch w) (made w m xs) (a .copies .now)) all)
+    let g = l .inv .7 w m h f e in (
+      after-calls-all w (w .changes) m _ _ _ _ _ _ (callsOf calls) (l .k) (omega (arith, many)) (g .0),
+      g .1 .copied .kept
+          ∙ ap (λ (xs : List Call). recorded (stretch w) (made w m xs) (a .copies .now)) all,
+    )
 
 pub record-all-spec : {M : Type 1} → statement M
 record-all-spec =
     tie.close
-    (tie.spec
-    Inv-loop
-    μ-loop
-    loop-holds
-    (λ c. omega (arith, before c))
-    (λ c. omega (arith, before c))
-    (λ c. omega (arith, before c))
-    (λ c. omega (arith, before c))
-    (λ c. omega (arith, before c))
-    (λ c. omega (arith, before c))
-    (λ c. omega (arith, before c))
-    record-call-requires
-    mul-answers
-    mul-answers-2
-    slice-write-answers
-    mul-answers-3
-    add-answers
-    mul-answers-4
-    slice-write-answers-2
-    add-k
-    loop-less
-    loop-again
+    (tie.spec Inv-loop μ-loop loop-holds
+    (λ c. omega (arith, before c)) (λ c. omega (arith, before c)) (λ c. omega (arith, before c)) (λ c. omega (arith, before c)) (λ c. omega (arith, before c))
+    (λ c. omega (arith, before c)) (λ c. omega (arith, before c))
+    record-call-requires (λ c. omega (arith, short c, tested c, room c)) (λ c. omega (arith, short c, tested c, room c)) (λ c. omega (arith, short c, tested c, room c))
+    (λ c. omega (arith, short c, tested c, room c)) (λ c. omega (arith, short c, tested c, room c)) (λ c. omega (arith, short c, tested c, room c))
+    (λ c. simp length-set (omega (arith, short c, tested c, room c))) (λ c. omega (arith, short c, tested c)) loop-less loop-again
     (λ c. c .before .loop .inv .1)
     (λ c. c .before .loop .inv .2)
     (λ c. c .before .loop .inv .3)

@@ -28,21 +28,31 @@ performed-requires c κs =
 
 copies-after-requires : tie.Need-copies-after-requires
 copies-after-requires c κs =
-    let s = c .before .before .before .before .before .before .before .before .before .before .before .before .before .before .before .before .before .before .before .before .before .before .before .before .before .before .before .before .before .before .before in
+    let s = c .before .before .before .before .before .before .before .before .before .before .before .before .before .before .before .before .before .before .before .before .before .before
+    .before .before .before .before .before .before .before .before .before in
     let a = s .args in
     let p = s .pre .1 in
     let d = c .before .before .before .before .before .before .before .before .before .before .before .before .before .before .before .performed in
     let r = d .ensures (p .0) (p .1) (p .2) (p .3) (a .count) (p .4) (p .5) (p .6) in
-    let short : length (a .copies .now) < 18446744073709551615 = omega (arith, s .good .1 .1 .1 .1 .1 .1 .1 .1 .1 .1 .0 .1) in
-    (few-places (p .0) (a .store) _ _ _ (p .1) (p .4), λ t. can-take (p .0) (d .result .store) _ _ _ _ (r .after) (a .call .now) (d .result .answer .number) (a .size) (a .count) (length (a .copies .now)) (p .6) short (s .pre .0 .1) (rw (← role-is (c .before .before .before .before .before .before .before .before .before .before .before .before .before .before .before .before .before .before .before .before .before .before .before)) t))
+    let short : length (a .copies .now) < 18446744073709551615 = omega (arith, s .good .1 .1 .1 .1 .1 .1 .1 .1 .1 .1 .0 .1) in (
+      few-places (p .0) (a .store) _ _ _ (p .1) (p .4),
+      λ t. can-take (p .0) (d .result .store) _ _ _ _ (r .after) (a .call .now) (d .result .answer .number) (a .size) (a .count)
+          (length (a .copies .now)) (p .6) short (s .pre .0 .1)
+          (rw (← role-is
+          (c .before .before .before .before .before .before .before .before .before .before .before .before .before .before .before .before .before .before .before .before .before .before
+          .before)) t),
+    )
 
 returns : tie.Need-returns
 returns c =
-    let s = c .before .before .before .before .before .before .before .before .before .before .before .before .before .before .before .before .before .before .before .before .before .before .before .before .before .before .before .before .before .before .before .before .before .before in
+    let s = c .before .before .before .before .before .before .before .before .before .before .before .before .before .before .before .before .before .before .before .before .before .before
+    .before .before .before .before .before .before .before .before .before .before .before .before in
     let a = s .args in
     let d = c .before .before .before .before .before .before .before .before .before .before .before .before .before .before .before .before .before .before .performed in
     let g = c .before .before .copies-after in
-    let sc = role-is (c .before .before .before .before .before .before .before .before .before .before .before .before .before .before .before .before .before .before .before .before .before .before .before .before .before .before) in
+    let sc = role-is
+    (c .before .before .before .before .before .before .before .before .before .before .before .before .before .before .before .before .before .before .before .before .before .before
+    .before .before .before .before) in
     let cmd = commandOf (callAt (a .call .now)) in
     let k = d .result .answer .number in
     let q = d .result .store .current .position in
@@ -64,13 +74,5 @@ returns c =
 pub record-call-spec : {M : Type 1} → statement M
 record-call-spec =
     tie.close
-    (tie.spec
-    (λ c κs. search needs)
-    performed-requires
-    copies-after-requires
-    (λ c. search needs)
-    (λ c. search needs)
-    (λ c. search needs)
-    (λ c. search needs)
-    (λ c. search needs)
-    returns)
+    (tie.spec (λ c κs. search needs) performed-requires copies-after-requires (λ c. search needs) (λ c. search needs) (λ c. search needs) (λ c. search needs)
+    (λ c. search needs) returns)

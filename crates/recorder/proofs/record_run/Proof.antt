@@ -40,8 +40,10 @@ returns c =
     let a = c .before .before .before .before .before .before .before .before .before .before .before .before .before .args in
     let t = told d in
     let n = c .before .if1 .taken in
-    let ran-as = run-refused (given d) _ _ (t .0) (t .1) n in
-    (by-run (given d) (a .copies .now) _ _ (t .0) (t .1) n, (λ z. (refl, refl, refl), (λ q. meets-demand-1 (given d) _ _ _ ran-as _ (λ z. (refl, refl, refl)), (λ q. meets-demand-2 (given d) _ _ _ ran-as (words d), λ z. absurd (n z)))))
+    let ran-as = run-refused (given d) _ _ (t .0) (t .1) n in (
+      by-run (given d) (a .copies .now) _ _ (t .0) (t .1) n,
+      (λ z. (refl, refl, refl), (λ q. meets-demand-1 (given d) _ _ _ ran-as _ (λ z. (refl, refl, refl)), (λ q. meets-demand-2 (given d) _ _ _ ran-as (words d), λ z. absurd (n z)))),
+    )
 
 cast-v : tie.Need-cast-v
 cast-v c = omega (arith, passed (given (c .before .before)) (sym (told (c .before .before) .0) ∙ c .if1 .left) .limits .few-vertices)
@@ -60,7 +62,13 @@ returns-2 c =
     (too-few (given d) (a .copies .now) e t, (λ z. (refl, refl, refl), (λ q. absurd (q refl), (λ q. absurd (q refl), λ z. absurd (omega (arith, z))))))
 
 -- enough stretches
-enough : (c : tie.Else2) → (ltb (length (c .before .before .before .before .before .before .before .before .before .before .before .before .before .before .before .args .copies .now) / stretch (parametersOf (given (c .before .before .before .before .before)))) (changesIn (callsOf (c .before .before .before .before .before .before .before .before .before .before .before .before .before .before .before .args .calls .now))) ≡ false) × (c .before .before .length .result * changesIn (callsOf (c .before .before .before .before .before .before .before .before .before .before .before .before .before .before .before .args .calls .now)) ≤ length (c .before .before .before .before .before .before .before .before .before .before .before .before .before .before .before .args .copies .now))
+enough : (c : tie.Else2)
+    → (ltb (length (c .before .before .before .before .before .before .before .before .before .before .before .before .before .before .before .args .copies .now) / stretch
+    (parametersOf (given (c .before .before .before .before .before)))) (changesIn
+    (callsOf (c .before .before .before .before .before .before .before .before .before .before .before .before .before .before .before .args .calls .now))) ≡ false)
+    × (c .before .before .length .result * changesIn
+    (callsOf (c .before .before .before .before .before .before .before .before .before .before .before .before .before .before .before .args .calls .now)) ≤ length
+    (c .before .before .before .before .before .before .before .before .before .before .before .before .before .before .before .args .copies .now))
 enough c =
     let a = c .before .before .before .before .before .before .before .before .before .before .before .before .before .before .before .args in (
       subst (λ k. ltb (length (a .copies .now) / k) (changesIn (callsOf (a .calls .now))) ≡ false) (c .before .before .length .ensures)
@@ -70,40 +78,35 @@ enough c =
 
 accepted-requires : tie.Need-accepted-requires
 accepted-requires c κs =
-    let d = c .before .before .before .before .before .before .before .before .before .before .before in
-    (sym (told d .0) ∙ c .before .before .before .before .before .before .before .before .before .if1 .left, (c .before .before .before .before .before .before .before .before .length .ensures, enough (c .before .before .before .before .before .before) .1))
+    let d = c .before .before .before .before .before .before .before .before .before .before .before in (
+      sym (told d .0) ∙ c .before .before .before .before .before .before .before .before .before .if1 .left,
+      (c .before .before .before .before .before .before .before .before .length .ensures, enough (c .before .before .before .before .before .before) .1),
+    )
 
 returns-3 : tie.Need-returns-3
 returns-3 c =
-    let d = c .before .before .before .before .before .before .before .before .before .before .before .before .before .before .before .before .before .before .before .before .before .before .before .before in
-    let a = c .before .before .before .before .before .before .before .before .before .before .before .before .before .before .before .before .before .before .before .before .before .before .before .before .before .before .before .before .before .before .before .before .before .before .args in
-    let e = sym (told d .0) ∙ c .before .before .before .before .before .before .before .before .before .before .before .before .before .before .before .before .before .before .before .before .before .before .if1 .left in
+    let d = c .before .before .before .before .before .before .before .before .before .before .before .before .before .before .before .before .before .before .before .before .before .before
+    .before .before in
+    let a = c .before .before .before .before .before .before .before .before .before .before .before .before .before .before .before .before .before .before .before .before .before .before
+    .before .before .before .before .before .before .before .before .before .before .before .before .args in
+    let e = sym (told d .0)
+    ∙ c .before .before .before .before .before .before .before .before .before .before .before .before .before .before .before .before .before .before .before .before .before
+    .before .if1 .left in
     let t = enough (c .before .before .before .before .before .before .before .before .before .before .before .before .before .before .before .before .before .before .before) .0 in
     let r = c .before .before .before .before .before .before .before .before .before .before .before .before .accepted .ensures in
-    let g = r .1 ∙ ap (λ (k : ℕ). recorded k (madeIn (given d)) (a .copies .now)) (c .before .before .before .before .before .before .before .before .before .before .before .before .before .before .before .before .before .before .before .before .before .length .ensures) in
+    let g = r .1 ∙ ap (λ (k : ℕ). recorded k (madeIn (given d)) (a .copies .now))
+    (c .before .before .before .before .before .before .before .before .before .before .before .before .before .before .before .before .before .before .before .before .before .length
+    .ensures) in
     let ran-as = run-accepted (given d) _ e (r .0) in (
       as-recorded (given d) (a .copies .now) e t _ _ (r .0) g,
-      (λ n. absurd (n (no-refusal (given d) (a .copies .now) e t)), (λ q. meets-demand-1 (given d) _ _ _ ran-as _ (λ n. absurd (n e)), (λ q. meets-demand-2 (given d) _ _ _ ran-as (words d), λ q. meets-demand-3 (given d) _ _ _ ran-as e))),
+      (
+        λ n. absurd (n (no-refusal (given d) (a .copies .now) e t)),
+        (λ q. meets-demand-1 (given d) _ _ _ ran-as _ (λ n. absurd (n e)), (λ q. meets-demand-2 (given d) _ _ _ ran-as (words d), λ q. meets-demand-3 (given d) _ _ _ ran-as e)),
+      ),
     )
 
 pub record-run-spec : {M : Type 1} → statement M
 record-run-spec =
     tie.close
-    (tie.spec
-    (λ c κs. search needs)
-    (λ c. search needs)
-    returns
-    cast-v
-    cast-e
-    (λ c κs. search needs)
-    (λ c κs. search needs)
-    (λ c. search needs)
-    returns-2
-    accepted-requires
-    (λ c. search needs)
-    (λ c. search needs)
-    (λ c. search needs)
-    (λ c. search needs)
-    (λ c. search needs)
-    (λ c. search needs)
-    returns-3)
+    (tie.spec (λ c κs. search needs) (λ c. search needs) returns cast-v cast-e (λ c κs. search needs) (λ c κs. search needs) (λ c. search needs) returns-2
+    accepted-requires (λ c. search needs) (λ c. search needs) (λ c. search needs) (λ c. search needs) (λ c. search needs) (λ c. search needs) returns-3)

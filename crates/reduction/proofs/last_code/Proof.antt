@@ -34,35 +34,18 @@ mul-k : tie.Need-mul-k Inv-loop μ-loop
 mul-k c = omega (arith, c .place .ensures, c .before .before .before .before .before .before .before .before .before .pre .1 .places (c .before .before .loop .i) (omega arith))
 
 shared-slice-read-k : tie.Need-shared-slice-read-k Inv-loop μ-loop
-shared-slice-read-k c = omega (arith, c .before .place .ensures, c .before .before .before .before .before .before .before .before .before .before .pre .1 .places (c .before .before .before .loop .i) (omega arith))
+shared-slice-read-k c =
+    omega (
+      arith,
+      c .before .place .ensures,
+      c .before .before .before .before .before .before .before .before .before .before .pre .1 .places (c .before .before .before .loop .i)
+          (omega arith),
+    )
 
 -- the number of a call
-numbered : (c : tie.After-shared-slice-known3 Inv-loop μ-loop) → getD (c .before .before .before .before .before .before .before .before .before .before .args .kept .now) (c .before .place .result) 0 < length (c .before .before .before .before .before .before .before .before .before .before .args .calls .now) / 5
+numbered : (c : tie.After-shared-slice-known3 Inv-loop μ-loop) → getD (c .before .before .before .before .before .before .before .before .before .before .args .kept .now)
+    (c .before .place .result) 0 < length (c .before .before .before .before .before .before .before .before .before .before .args .calls .now) / 5
 numbered c = rw (c .before .place .ensures) (c .before .before .before .before .before .before .before .before .before .before .pre .1 .numbers (c .before .before .before .loop .i) (omega arith))
-
-cast-k : tie.Need-cast-k Inv-loop μ-loop
-cast-k c = omega (arith, numbered c)
-
-mul-one : tie.Need-mul-one Inv-loop μ-loop
-mul-one c = omega (arith, numbered (c .before .before .before .before))
-
-mul-one-2 : tie.Need-mul-one-2 Inv-loop μ-loop
-mul-one-2 c = omega (arith, numbered (c .before .before .before .before))
-
-add-one : tie.Need-add-one Inv-loop μ-loop
-add-one c = omega (arith, numbered (c .before .before .before .before))
-
-mul-one-3 : tie.Need-mul-one-3 Inv-loop μ-loop
-mul-one-3 c = omega (arith, numbered (c .before .before .before .before))
-
-sub-one : tie.Need-sub-one Inv-loop μ-loop
-sub-one c = omega (arith, numbered (c .before .before .before .before))
-
-part-one-start : tie.Need-part-one-start Inv-loop μ-loop
-part-one-start c = omega (arith, numbered (c .before .before .before .before))
-
-part-one-end : tie.Need-part-one-end Inv-loop μ-loop
-part-one-end c = omega (arith, numbered (c .before .before .before .before))
 
 one-requires : tie.Need-one-requires Inv-loop μ-loop
 one-requires c κs =
@@ -71,7 +54,13 @@ one-requires c κs =
     ((p .0, _, g .after), five-words _ _ (numbered (c .before .before .before .before .before)))
 
 add-i : tie.Need-add-i Inv-loop μ-loop
-add-i c = omega (arith, c .before .before .before .before .before .before .before .before .before .before .before .before .before .before .before .before .before .before .before .before .before .before .before .before .before .pre .1 .few, c .before .before .before .before .before .before .before .before .before .before .before .before .before .before .before .before .before .loop-test, c .before .before .before .before .before .before .before .before .before .before .before .before .before .before .before .before .before .before .loop .inv .0)
+add-i c = omega (
+  arith,
+  c .before .before .before .before .before .before .before .before .before .before .before .before .before .before .before .before .before .before .before .before .before .before
+      .before .before .before .pre .1 .few,
+  c .before .before .before .before .before .before .before .before .before .before .before .before .before .before .before .before .before .loop-test,
+  c .before .before .before .before .before .before .before .before .before .before .before .before .before .before .before .before .before .before .loop .inv .0,
+)
 
 loop-less : tie.Need-loop-less Inv-loop μ-loop
 loop-less c = omega (arith, c .before .before .before .before .before .before .before .before .before .before .before .before .before .before .before .before .before .loop-test)
@@ -80,8 +69,10 @@ loop-again : tie.Need-loop-again Inv-loop μ-loop
 loop-again c =
     let s = c .before .before .before .before .before .before .before .before .before .one in
     let l = c .before .before .before .before .before .before .before .before .before .before .before .before .before .before .before .before .before .before .loop in
-    let a = c .before .before .before .before .before .before .before .before .before .before .before .before .before .before .before .before .before .before .before .before .before .before .before .before .before .args in
-    let t = c .before .before .before .before .before .before .before .before .before .before .before .before .before .before .before .before .before .before .before .before .before .before .before .before .before .pre .1 in
+    let a = c .before .before .before .before .before .before .before .before .before .before .before .before .before .before .before .before .before .before .before .before .before .before
+    .before .before .before .args in
+    let t = c .before .before .before .before .before .before .before .before .before .before .before .before .before .before .before .before .before .before .before .before .before .before
+    .before .before .before .pre .1 in
     let i : l .i < a .n = c .before .before .before .before .before .before .before .before .before .before .before .before .before .before .before .before .before .loop-test .taken in (
       omega (arith, i),
       s .kept .1 .0 ∙ l .inv .1,
@@ -89,7 +80,12 @@ loop-again c =
       s .kept .1 .1 .1 .0 ∙ l .inv .3,
       s .kept .1 .1 .1 .1 .0 ∙ l .inv .4,
       λ w m h.
-          tried-one w m (a .calls .now) (a .kept .now) (a .skip) (l .i) _ _ _ _ _ (l .inv .5 w m h) (omega (arith, t .fits, i)) _ (ap (λ j. getD (a .kept .now) j 0) (c .before .before .before .before .before .before .before .before .before .before .before .before .before .before .before .before .place .ensures)) (numbered (c .before .before .before .before .before .before .before .before .before .before .before .before .before .before .before)) _ (five-part (a .calls .now) (getD (a .kept .now) (c .before .before .before .before .before .before .before .before .before .before .before .before .before .before .before .before .place .result) 0)) (s .result) _ (λ v n g. at-capacity _ _ (capacity-is v n _ _ _ _ g _ refl) (s .ensures v n g)),
+          tried-one w m (a .calls .now) (a .kept .now) (a .skip) (l .i) _ _ _ _ _ (l .inv .5 w m h) (omega (arith, t .fits, i)) _
+          (ap (λ j. getD (a .kept .now) j 0)
+          (c .before .before .before .before .before .before .before .before .before .before .before .before .before .before .before .before .place .ensures)) (numbered
+          (c .before .before .before .before .before .before .before .before .before .before .before .before .before .before .before)) _ (five-part (a .calls .now)
+          (getD (a .kept .now) (c .before .before .before .before .before .before .before .before .before .before .before .before .before .before .before .before .place .result) 0))
+          (s .result) _ (λ v n g. at-capacity _ _ (capacity-is v n _ _ _ _ g _ refl) (s .ensures v n g)),
     )
 
 returns : tie.Need-returns Inv-loop μ-loop
@@ -102,25 +98,11 @@ returns c =
 pub last-code-spec : {M : Type 1} → statement M
 last-code-spec =
     tie.close
-    (tie.spec
-    Inv-loop
-    μ-loop
-    loop-holds
-    place-requires
-    mul-k
-    shared-slice-read-k
-    cast-k
-    mul-one
-    mul-one-2
-    add-one
-    mul-one-3
-    sub-one
-    part-one-start
-    part-one-end
-    one-requires
-    add-i
-    loop-less
-    loop-again
+    (tie.spec Inv-loop μ-loop loop-holds place-requires mul-k shared-slice-read-k (λ c. omega (arith, numbered c)) (λ c. omega (arith, numbered (c .before .before .before .before)))
+    (λ c. omega (arith, numbered (c .before .before .before .before))) (λ c. omega (arith, numbered (c .before .before .before .before)))
+    (λ c. omega (arith, numbered (c .before .before .before .before))) (λ c. omega (arith, numbered (c .before .before .before .before)))
+    (λ c. omega (arith, numbered (c .before .before .before .before))) (λ c. omega (arith, numbered (c .before .before .before .before)))
+    one-requires add-i loop-less loop-again
     (λ c. c .before .loop .inv .1)
     (λ c. c .before .loop .inv .2)
     (λ c. c .before .loop .inv .3)

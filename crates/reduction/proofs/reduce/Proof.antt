@@ -42,37 +42,41 @@ returns-3 : tie.Need-returns-3
 returns-3 c =
     let d = c .before .before .before .before in
     let a = c .before .before .before .before .before .before .before .before .before .before .before .before .before .before .args in
-    let e = too-long (given d) (a .list .now) (sym (told d .0) ∙ c .before .before .if1 .left) (rw (le-ltb 20000 (length (a .calls .now) / 5) (c .before .if2 .left), lt-ltb (length (a .list .now)) (length (a .calls .now)) (c .if3 .taken))) in
+    let e = too-long (given d) (a .list .now) (sym (told d .0) ∙ c .before .before .if1 .left)
+    (rw (le-ltb 20000 (length (a .calls .now) / 5) (c .before .if2 .left), lt-ltb (length (a .list .now)) (length (a .calls .now)) (c .if3 .taken))) in
     (e, (λ z y. (refl, refl, refl, refl), is-least (given d) _ _ _ e))
 
 reduced-requires : tie.Need-reduced-requires
 reduced-requires c κs =
     let d = c .before .before .before .before .before .before .before .before .before in
-    let a = c .before .before .before .before .before .before .before .before .before .before .before .before .before .before .before .before .before .before .before .args in
-    (sym (told d .0) ∙ c .before .before .before .before .before .before .before .if1 .left, rw (le-ltb 20000 (length (a .calls .now) / 5) (c .before .before .before .before .before .before .if2 .left), le-ltb (length (a .list .now)) (length (a .calls .now)) (c .before .before .before .before .before .if3 .left)))
+    let a = c .before .before .before .before .before .before .before .before .before .before .before .before .before .before .before .before .before .before .before .args in (
+      sym (told d .0) ∙ c .before .before .before .before .before .before .before .if1 .left,
+      rw (
+        le-ltb 20000 (length (a .calls .now) / 5) (c .before .before .before .before .before .before .if2 .left),
+        le-ltb (length (a .list .now)) (length (a .calls .now))
+            (c .before .before .before .before .before .if3 .left),
+      ),
+    )
 
 returns-4 : tie.Need-returns-4
 returns-4 c =
     let d = c .before .before .before .before .before .before .before .before .before .before .before .before .before .before .before .before .before .before .before .before in
-    let a = c .before .before .before .before .before .before .before .before .before .before .before .before .before .before .before .before .before .before .before .before .before .before .before .before .before .before .before .before .before .before .args in
+    let a = c .before .before .before .before .before .before .before .before .before .before .before .before .before .before .before .before .before .before .before .before .before .before
+    .before .before .before .before .before .before .before .before .args in
     let e = c .before .before .before .before .before .before .before .before .before .before .reduced .ensures in
     let f = ap (λ (r : AfterReduction). r .code) e in
-    let k = code-free (given d) (a .list .now) (sym (told d .0) ∙ c .before .before .before .before .before .before .before .before .before .before .before .before .before .before .before .before .before .before .if1 .left) (rw (le-ltb 20000 (length (a .calls .now) / 5) (c .before .before .before .before .before .before .before .before .before .before .before .before .before .before .before .before .before .if2 .left), le-ltb (length (a .list .now)) (length (a .calls .now)) (c .before .before .before .before .before .before .before .before .before .before .before .before .before .before .before .before .if3 .left))) in
+    let k = code-free (given d) (a .list .now)
+    (sym (told d .0) ∙ c .before .before .before .before .before .before .before .before .before .before .before .before .before .before .before .before .before .before .if1 .left)
+    (rw (
+      le-ltb 20000 (length (a .calls .now) / 5)
+          (c .before .before .before .before .before .before .before .before .before .before .before .before .before .before .before .before .before .if2 .left),
+      le-ltb (length (a .list .now)) (length (a .calls .now))
+          (c .before .before .before .before .before .before .before .before .before .before .before .before .before .before .before .before .if3 .left),
+    )) in
     (e, (λ z y. absurd (⊎-elim (λ q. z (f ∙ q)) (λ q. y (f ∙ q)) k), is-least (given d) _ _ _ e))
 
 pub reduce-spec : {M : Type 1} → statement M
 reduce-spec =
     tie.close
-    (tie.spec
-    (λ c κs. search needs)
-    (λ c. search needs)
-    returns
-    returns-2
-    returns-3
-    reduced-requires
-    (λ c. search needs)
-    (λ c. search needs)
-    (λ c. search needs)
-    (λ c. search needs)
-    (λ c. search needs)
-    returns-4)
+    (tie.spec (λ c κs. search needs) (λ c. search needs) returns returns-2 returns-3 reduced-requires (λ c. search needs) (λ c. search needs)
+    (λ c. search needs) (λ c. search needs) (λ c. search needs) returns-4)

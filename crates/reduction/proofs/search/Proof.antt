@@ -29,12 +29,6 @@ loop-holds c =
     let f = s .pre .1 .few in
     (omega arith, omega arith, refl, refl, refl, refl, s .pre .1, omega (arith, f), λ w h e. search-starts (lastCode w (load (s .args .start .now))) _ _ e)
 
-add-if1 : tie.Need-add-if1 Inv-loop μ-loop
-add-if1 c = omega (arith, c .before .loop .inv .0, c .before .loop .inv .6 .few)
-
-sub-trial : tie.Need-sub-trial Inv-loop μ-loop
-sub-trial c = omega (arith, c .before .before .before .before .before .if1 .taken)
-
 trial-requires : tie.Need-trial-requires Inv-loop μ-loop
 trial-requires c κs =
     let s = c .before .before .before .before .before .before .before .before .before .before .before .before .before .before .before in
@@ -45,16 +39,35 @@ trial-requires c κs =
     )
 
 next-search-requires : tie.Need-next-search-requires Inv-loop μ-loop
-next-search-requires c κs = (omega (arith, c .before .before .before .before .before .before .before .before .before .before .before .before .before .if1 .taken), c .before .before .before .before .before .before .before .before .before .before .before .before .before .before .before .before .loop .inv .6 .fits)
+next-search-requires c κs = (
+  omega (arith, c .before .before .before .before .before .before .before .before .before .before .before .before .before .if1 .taken),
+  c .before .before .before .before .before .before .before .before .before .before .before .before .before .before .before .before .loop .inv .6 .fits,
+)
 
-stepped : (c : tie.After-slice-known8 Inv-loop μ-loop) → Stepped (c .before .before .before .before .before .before .before .before .before .before .before .before .before .before .before .before .before .before .before .before .before .before .before .before .before .before .args .calls .now) (c .before .before .next-search .last .0) (c .before .before .before .before .before .before .before .before .before .before .before .before .before .before .before .before .before .before .before .loop .s) (c .before .before .next-search .result)
+stepped : (c : tie.After-slice-known8 Inv-loop μ-loop)
+    → Stepped
+    (c .before .before .before .before .before .before .before .before .before .before .before .before .before .before .before .before .before .before .before .before .before .before .before
+    .before .before .before .args .calls .now) (c .before .before .next-search .last .0)
+    (c .before .before .before .before .before .before .before .before .before .before .before .before .before .before .before .before .before .before .before .loop .s)
+    (c .before .before .next-search .result)
 stepped c =
     let l = c .before .before .before .before .before .before .before .before .before .before .before .before .before .before .before .before .before .before .before .loop in
     let d = c .before .before .next-search in
-    search-state (c .before .before .before .before .before .before .before .before .before .before .before .before .before .before .before .before .before .before .before .before .before .before .before .before .before .before .args .calls .now) (l .kept) (d .last .0) (l .s) (d .result) (c .before .before .before .before .before .before .before .before .before .before .before .before .before .before .before .before .before .before .before .before .before .before .before .before .before .before .args .wanted) (c .before .before .before .before .before .before .before .before .before .before .trial .result) (l .inv .6) (c .before .before .before .before .before .before .before .before .before .before .before .before .before .before .before .before .if1 .taken) (d .kept .0) (d .ensures .0) (d .ensures .1)
+    search-state
+    (c .before .before .before .before .before .before .before .before .before .before .before .before .before .before .before .before .before .before .before .before .before .before
+    .before .before .before .before .args .calls .now) (l .kept) (d .last .0) (l .s) (d .result)
+    (c .before .before .before .before .before .before .before .before .before .before .before .before .before .before .before .before .before .before .before .before .before .before
+    .before .before .before .before .args .wanted) (c .before .before .before .before .before .before .before .before .before .before .trial .result) (l .inv .6)
+    (c .before .before .before .before .before .before .before .before .before .before .before .before .before .before .before .before .if1 .taken) (d .kept .0) (d .ensures .0)
+    (d .ensures .1)
 
 add-runs : tie.Need-add-runs Inv-loop μ-loop
-add-runs c = omega (arith, stepped c .less, c .before .before .before .before .before .before .before .before .before .before .before .before .before .before .before .before .before .before .before .loop .inv .7)
+add-runs c =
+    omega (
+      arith,
+      stepped c .less,
+      c .before .before .before .before .before .before .before .before .before .before .before .before .before .before .before .before .before .before .before .loop .inv .7,
+    )
 
 loop-less : tie.Need-loop-less Inv-loop μ-loop
 loop-less c = omega (arith, stepped c .less)
@@ -62,7 +75,8 @@ loop-less c = omega (arith, stepped c .less)
 loop-again : tie.Need-loop-again Inv-loop μ-loop
 loop-again c =
     let l = c .before .before .before .before .before .before .before .before .before .before .before .before .before .before .before .before .before .before .before .loop in
-    let a = c .before .before .before .before .before .before .before .before .before .before .before .before .before .before .before .before .before .before .before .before .before .before .before .before .before .before .args in
+    let a = c .before .before .before .before .before .before .before .before .before .before .before .before .before .before .before .before .before .before .before .before .before .before
+    .before .before .before .before .args in
     let d = c .before .before .next-search in
     let t = c .before .before .before .before .before .before .before .before .before .before .trial in
     let g = stepped c in (
@@ -75,7 +89,9 @@ loop-again c =
       g .numbered,
       omega (arith, g .less, l .inv .7),
       λ w h e.
-          sym (search-step (a .calls .now) (l .kept) (d .last .0) (l .s) (d .result) (a .wanted) (t .result) (l .inv .6) (c .before .before .before .before .before .before .before .before .before .before .before .before .before .before .before .before .if1 .taken) (d .kept .0) (d .ensures .0) (d .ensures .1)
+          sym (search-step (a .calls .now) (l .kept) (d .last .0) (l .s) (d .result) (a .wanted) (t .result) (l .inv .6)
+          (c .before .before .before .before .before .before .before .before .before .before .before .before .before .before .before .before .if1 .taken) (d .kept .0) (d .ensures .0)
+          (d .ensures .1)
           (lastCode w (load (a .start .now))) (l .runs) (t .ensures w (ready-again w _ _ _ _ _ _ h _ _ _ (l .inv .2) (l .inv .3) (l .inv .4))))
           ∙ l .inv .8 w h e,
     )
@@ -84,22 +100,14 @@ returns : tie.Need-returns Inv-loop μ-loop
 returns c =
     let l = c .before .before .before .loop in
     let a = c .before .before .before .before .before .before .before .before .before .before .args in
-    λ w h e. search-left (lastCode w (load (a .start .now))) (a .wanted) (a .calls .now) (l .kept) (l .s) (a .n) (l .runs) _ (l .inv .6) (l .inv .1) (l .inv .0) (omega (arith, c .if1 .left)) (l .inv .8 w h e)
+    λ w h e. search-left (lastCode w (load (a .start .now))) (a .wanted) (a .calls .now) (l .kept) (l .s) (a .n) (l .runs) _ (l .inv .6) (l .inv .1) (l .inv .0) (omega (arith, c .if1 .left))
+    (l .inv .8 w h e)
 
 pub search-spec : {M : Type 1} → statement M
 search-spec =
     tie.close
-    (tie.spec
-    Inv-loop
-    μ-loop
-    loop-holds
-    add-if1
-    sub-trial
-    trial-requires
-    next-search-requires
-    add-runs
-    loop-less
-    loop-again
+    (tie.spec Inv-loop μ-loop loop-holds (λ c. omega (arith, c .before .loop .inv .0, c .before .loop .inv .6 .few))
+    (λ c. omega (arith, c .before .before .before .before .before .if1 .taken)) trial-requires next-search-requires add-runs loop-less loop-again
     (λ c. c .before .before .before .loop .inv .2)
     (λ c. c .before .before .before .loop .inv .3)
     (λ c. c .before .before .before .loop .inv .4)

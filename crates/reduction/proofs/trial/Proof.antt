@@ -17,10 +17,12 @@ last-code-requires c κs =
     ((p .0, _, ready-runs (p .0) _ _ _ _ _ _ (p .1) (b .result) _ _ _ (b .kept .1 .0) (b .kept .1 .1 .0) refl (b .ensures)), s .pre .1)
 
 same-length : tie.Need-same-length
-same-length c = c .before .before .before .before .before .before .before .last-code .kept .1 .0 ∙ c .before .before .before .before .before .before .before .before .before .before .before .before .before .before .before .before .begin .kept .1 .0
+same-length c = c .before .before .before .before .before .before .before .last-code .kept .1 .0
+    ∙ c .before .before .before .before .before .before .before .before .before .before .before .before .before .before .before .before .begin .kept .1 .0
 
 same-length-2 : tie.Need-same-length-2
-same-length-2 c = c .before .before .before .before .before .before .before .last-code .kept .1 .1 .0 ∙ c .before .before .before .before .before .before .before .before .before .before .before .before .before .before .before .before .begin .kept .1 .1 .0
+same-length-2 c = c .before .before .before .before .before .before .before .last-code .kept .1 .1 .0
+    ∙ c .before .before .before .before .before .before .before .before .before .before .before .before .before .before .before .before .begin .kept .1 .1 .0
 
 same-length-3 : tie.Need-same-length-3
 same-length-3 c = c .before .before .before .before .before .before .before .last-code .kept .1 .1 .1 .0

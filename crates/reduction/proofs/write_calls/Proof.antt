@@ -16,12 +16,6 @@ abbrev μ-loop : tie.MeasureT-loop
 loop-holds : tie.Need-loop-holds Inv-loop μ-loop
 loop-holds c = (omega arith, refl, refl)
 
-mul-k : tie.Need-mul-k Inv-loop μ-loop
-mul-k c = omega (arith, c .before .before .before .before .before .pre .0 .fits)
-
-shared-slice-read-k : tie.Need-shared-slice-read-k Inv-loop μ-loop
-shared-slice-read-k c = omega (arith, c .before .before .before .before .before .before .pre .0 .fits)
-
 cast-k : tie.Need-cast-k Inv-loop μ-loop
 cast-k c = omega (arith, c .before .before .before .before .before .before .pre .0 .numbers (c .before .before .loop .i) (omega arith))
 
@@ -32,7 +26,10 @@ mul-copy-call-2 : tie.Need-mul-copy-call-2 Inv-loop μ-loop
 mul-copy-call-2 c = omega (arith, c .before .before .before .before .before .before .before .pre .0 .numbers (c .before .before .before .loop .i) (omega arith))
 
 copy-call-requires : tie.Need-copy-call-requires Inv-loop μ-loop
-copy-call-requires c κs = (omega (arith, c .before .before .before .before .before .before .before .pre .1), omega (arith, c .before .before .before .before .before .before .before .pre .0 .numbers (c .before .before .before .loop .i) (omega arith)))
+copy-call-requires c κs = (
+  omega (arith, c .before .before .before .before .before .before .before .pre .1),
+  omega (arith, c .before .before .before .before .before .before .before .pre .0 .numbers (c .before .before .before .loop .i) (omega arith)),
+)
 
 add-i : tie.Need-add-i Inv-loop μ-loop
 add-i c = omega (arith, c .before .before .before .before .before .before .before .before .before .before .pre .0 .few)
@@ -48,7 +45,8 @@ loop-again c =
     let k = c .before .before .copy-call in (
       omega arith,
       k .kept .0 ∙ l .inv .1,
-      rw (k .ensures, l .inv .2) (written-more (a .calls .now) (a .kept .now) (a .list .now) (l .i) _ (omega (arith, s .pre .0 .fits)) (omega (arith, s .pre .1)) refl (s .pre .0 .numbers (l .i) (omega arith))),
+      rw (k .ensures, l .inv .2) (written-more (a .calls .now) (a .kept .now) (a .list .now) (l .i) _ (omega (arith, s .pre .0 .fits)) (omega (arith, s .pre .1)) refl
+          (s .pre .0 .numbers (l .i) (omega arith))),
     )
 
 same-length : tie.Need-same-length Inv-loop μ-loop
@@ -64,18 +62,6 @@ returns c =
 pub write-calls-spec : {M : Type 1} → statement M
 write-calls-spec =
     tie.close
-    (tie.spec
-    Inv-loop
-    μ-loop
-    loop-holds
-    mul-k
-    shared-slice-read-k
-    cast-k
-    mul-copy-call
-    mul-copy-call-2
-    copy-call-requires
-    add-i
-    loop-less
-    loop-again
-    same-length
-    returns)
+    (tie.spec Inv-loop μ-loop loop-holds (λ c. omega (arith, c .before .before .before .before .before .pre .0 .fits))
+    (λ c. omega (arith, c .before .before .before .before .before .before .pre .0 .fits)) cast-k mul-copy-call mul-copy-call-2 copy-call-requires add-i loop-less loop-again
+    same-length returns)

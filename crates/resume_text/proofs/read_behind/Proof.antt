@@ -34,10 +34,4 @@ returns-2 c =
 pub read-behind-spec : {M : Type 1} → statement M
 read-behind-spec =
     tie.close
-    (tie.spec
-    (λ c κs. search needs)
-    (λ c. search needs)
-    (λ c. search needs)
-    line-of-all-requires
-    returns
-    returns-2)
+    (tie.spec (λ c κs. search needs) (λ c. search needs) (λ c. search needs) line-of-all-requires returns returns-2)

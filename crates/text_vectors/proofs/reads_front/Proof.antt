@@ -11,9 +11,4 @@ slice-aggregate-lines-as c = sym (length-take-le _ _ (c .before .if1 .taken))
 pub reads-front-spec : {M : Type 1} → statement M
 reads-front-spec =
     tie.close
-    (tie.spec
-    slice-aggregate-lines-as
-    (λ c κs. search needs)
-    (λ c κs. search needs)
-    (λ c. search needs)
-    (λ c. search needs))
+    (tie.spec slice-aggregate-lines-as (λ c κs. search needs) (λ c κs. search needs) (λ c. search needs) (λ c. search needs))

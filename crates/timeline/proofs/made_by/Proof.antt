@@ -61,7 +61,8 @@ add-row c =
     let a = s .args in
     let p = s .pre in
     let l = c .before .before .before .before .loop in
-    let k = count-next (a .journal .now) (p .0) (p .1) (a .low) (a .high) (a .bench) (l .p) (l .row) (l .n) (l .inv (p .0) (p .1) (p .2) (p .3)) (p .3 .inside) (c .before .before .before .loop-test .taken) in
+    let k = count-next (a .journal .now) (p .0) (p .1) (a .low) (a .high) (a .bench) (l .p) (l .row) (l .n) (l .inv (p .0) (p .1) (p .2) (p .3)) (p .3 .inside)
+    (c .before .before .before .loop-test .taken) in
     omega (arith, k .reach, k .word, c .before .cost-at .ensures)
 
 add-p : tie.Need-add-p Inv-loop μ-loop
@@ -92,16 +93,4 @@ returns c =
 pub made-by-spec : {M : Type 1} → statement M
 made-by-spec =
     tie.close
-    (tie.spec
-    Inv-loop
-    μ-loop
-    loop-holds
-    bench-at-requires
-    cost-at-requires
-    (λ c κs. search needs)
-    add-n
-    add-row
-    add-p
-    loop-less
-    loop-again
-    returns)
+    (tie.spec Inv-loop μ-loop loop-holds bench-at-requires cost-at-requires (λ c κs. search needs) add-n add-row add-p loop-less loop-again returns)

@@ -27,7 +27,8 @@ next-ahead-requires c κs =
     let a = s .args in
     let l = s .pre .1 .1 in
     let k = s .pre .1 .2 in
-    let y = c .before .before .loop .inv .goes (s .pre .1 .0) (l .start) (l .steps) _ (k .rows) (going-start (s .pre .1 .0) (a .current .position) _ (a .journal .now) l k false (a .steps) (s .pre .0)) in
+    let y = c .before .before .loop .inv .goes (s .pre .1 .0) (l .start) (l .steps) _ (k .rows)
+    (going-start (s .pre .1 .0) (a .current .position) _ (a .journal .now) l k false (a .steps) (s .pre .0)) in
     (l .start, l .steps, _, c .before .unfinished .ensures .0 (c .if1 .taken), y .1)
 
 redo-row-requires : tie.Need-redo-row-requires Inv-loop μ-loop
@@ -36,7 +37,8 @@ redo-row-requires c κs =
     let a = s .args in
     let l = s .pre .1 .1 in
     let k = s .pre .1 .2 in
-    let y = c .before .before .before .before .before .loop .inv .goes (s .pre .1 .0) (l .start) (l .steps) _ (k .rows) (going-start (s .pre .1 .0) (a .current .position) _ (a .journal .now) l k false (a .steps) (s .pre .0)) in
+    let y = c .before .before .before .before .before .loop .inv .goes (s .pre .1 .0) (l .start) (l .steps) _ (k .rows)
+    (going-start (s .pre .1 .0) (a .current .position) _ (a .journal .now) l k false (a .steps) (s .pre .0)) in
     let z = c .before .before .next-ahead .ensures .0 (l .start) (l .steps) _ (y .1) in
     (s .pre .1 .0, l .start, _, row-reach (a .journal .now) (l .start) (l .steps) _ _ _ false (z .0) (z .1), y .0)
 
@@ -46,7 +48,8 @@ shifted-by-requires c κs =
     let a = s .args in
     let l = s .pre .1 .1 in
     let k = s .pre .1 .2 in
-    let y = c .before .before .before .before .before .before .before .before .before .before .loop .inv .goes (s .pre .1 .0) (l .start) (l .steps) _ (k .rows) (going-start (s .pre .1 .0) (a .current .position) _ (a .journal .now) l k false (a .steps) (s .pre .0)) in
+    let y = c .before .before .before .before .before .before .before .before .before .before .loop .inv .goes (s .pre .1 .0) (l .start) (l .steps) _ (k .rows)
+    (going-start (s .pre .1 .0) (a .current .position) _ (a .journal .now) l k false (a .steps) (s .pre .0)) in
     let z = c .before .before .before .before .before .before .before .next-ahead .ensures .0 (l .start) (l .steps) _ (y .1) in
     row-word (s .pre .1 .0) (a .journal .now) (l .start) _ _ _ (y .0) false (row-reach (a .journal .now) (l .start) (l .steps) _ _ _ false (z .0) (z .1))
 
@@ -56,7 +59,8 @@ loop-less c =
     let a = s .args in
     let l = s .pre .1 .1 in
     let k = s .pre .1 .2 in
-    let y = c .before .before .before .before .before .before .before .before .before .before .before .loop .inv .goes (s .pre .1 .0) (l .start) (l .steps) _ (k .rows) (going-start (s .pre .1 .0) (a .current .position) _ (a .journal .now) l k false (a .steps) (s .pre .0)) in
+    let y = c .before .before .before .before .before .before .before .before .before .before .before .loop .inv .goes (s .pre .1 .0) (l .start) (l .steps) _ (k .rows)
+    (going-start (s .pre .1 .0) (a .current .position) _ (a .journal .now) l k false (a .steps) (s .pre .0)) in
     let n = c .before .before .before .before .before .before .before .before .next-ahead .ensures in
     let z = n .0 (l .start) (l .steps) _ (y .1) in
     fewer-left false _ _ _ _ (n .1) (z .0 .side) (z .1) (c .shifted-by .ensures)
@@ -107,18 +111,5 @@ returns c =
 pub on-spec : {M : Type 1} → statement M
 on-spec =
     tie.close
-    (tie.spec
-    Inv-loop
-    μ-loop
-    loop-holds
-    (λ c κs. search needs)
-    next-ahead-requires
-    redo-row-requires
-    shifted-by-requires
-    loop-less
-    loop-again
-    shifted-by-requires-2
-    (λ c κs. search needs)
-    same-length
-    same-length-2
-    returns)
+    (tie.spec Inv-loop μ-loop loop-holds (λ c κs. search needs) next-ahead-requires redo-row-requires shifted-by-requires loop-less loop-again
+    shifted-by-requires-2 (λ c κs. search needs) same-length same-length-2 returns)

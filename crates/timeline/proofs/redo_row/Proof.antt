@@ -40,7 +40,8 @@ returns c =
     λ b g n h k.
     let a = c .before .before .before .before .before .before .before .before .before .before .before .before .args in
     let s₀ = state (a .head) (a .vertices .now) (a .edges .now) in
-    let e = edit-is (a .journal .now) false (a .u) _ _ (c .before .before .before .before .before .before .before .before .row-crossed .ensures) (c .before .before .before .before .before .before .before .row-at .ensures) in
+    let e = edit-is (a .journal .now) false (a .u) _ _ (c .before .before .before .before .before .before .before .before .row-crossed .ensures)
+    (c .before .before .before .before .before .before .before .row-at .ensures) in
     row-done b (a .journal .now) g n s₀ (a .u) k false h _ (c .before .before .before .before .apply-edit .ensures ∙ ap (λ (x : Edit). applyS x s₀) e)
 
 pub redo-row-spec : {M : Type 1} → statement M

@@ -27,12 +27,14 @@ rows-on-requires c κs =
     )
 
 -- the rows behind the place that is gone to
-rows : (c : tie.After-struct-known2) (b : Bounds) (s : State) (l : Timeline) → Journal b (c .before .before .before .before .before .args .position) s (c .before .before .before .before .before .args .journal .now) l
+rows : (c : tie.After-struct-known2) (b : Bounds) (s : State) (l : Timeline) → Journal b (c .before .before .before .before .before .args .position) s
+    (c .before .before .before .before .before .args .journal .now) l
     → c .before .rows-on .result ≡ rowsTo 0 (l .place + c .before .before .before .before .before .args .steps) (l .steps)
 rows c b s l k =
     let a = c .before .before .before .before .before .args in
     let q : a .position .place + a .steps ≡ l .place + a .steps = omega (arith, k .place) in
-    c .before .rows-on .ensures (l .start) (l .steps) (a .position .place) (journal-behind b (a .position) s (a .journal .now) l k) (omega (arith, c .before .before .before .before .before .pre .0, k .steps))
+    c .before .rows-on .ensures (l .start) (l .steps) (a .position .place) (journal-behind b (a .position) s (a .journal .now) l k)
+    (omega (arith, c .before .before .before .before .before .pre .0, k .steps))
     ∙ ap (λ (i : ℕ). rowsTo 0 i (l .steps)) q
 
 sub-result : tie.Need-sub-result

@@ -18,7 +18,8 @@ ran-as : (c : tie.After-run) →
     (c .run .last .1 .1 .1 .1 .1 .1 .1 .0)
 ran-as c =
     let a = c .before .before .before .before .before .before .before .before .before in
-    shows (a .args .start .now) (a .args .calls .now) _ _ (a .pre .0) (a .pre .1) refl refl (c .run .result) _ _ (c .run .kept .1 .1 .1 .1 .1 .1 .0) (c .run .kept .1 .1 .1 .1 .1 .1 .1 .0) (c .run .ensures .0)
+    shows (a .args .start .now) (a .args .calls .now) _ _ (a .pre .0) (a .pre .1) refl refl (c .run .result) _ _ (c .run .kept .1 .1 .1 .1 .1 .1 .0) (c .run .kept .1 .1 .1 .1 .1 .1 .1 .0)
+    (c .run .ensures .0)
 
 told-requires : tie.Need-told-requires
 told-requires c κs =
@@ -40,15 +41,5 @@ returns c = written-as _ _ (c .told .result) _ _ (ran-as (c .before .before .bef
 pub respond-spec : {M : Type 1} → statement M
 respond-spec =
     tie.close
-    (tie.spec
-    (λ c. search needs)
-    (λ c. search needs)
-    (λ c. search needs)
-    (λ c. search needs)
-    (λ c. search needs)
-    (λ c. search needs)
-    (λ c κs. search needs)
-    (λ c. search needs)
-    (λ c. search needs)
-    told-requires
-    returns)
+    (tie.spec (λ c. search needs) (λ c. search needs) (λ c. search needs) (λ c. search needs) (λ c. search needs) (λ c. search needs) (λ c κs. search needs)
+    (λ c. search needs) (λ c. search needs) told-requires returns)

@@ -45,15 +45,5 @@ returns-2 c =
 pub resume-spec : {M : Type 1} → statement M
 resume-spec =
     tie.close
-    (tie.spec
-    (λ c κs. search needs)
-    (λ c. search needs)
-    array-share-prefix-words
-    slice-aggregate-respond
-    array-share-prefix-calls
-    slice-aggregate-respond-2
-    respond-requires
-    (λ c. search needs)
-    (λ c κs. search needs)
-    returns
-    returns-2)
+    (tie.spec (λ c κs. search needs) (λ c. search needs) array-share-prefix-words slice-aggregate-respond array-share-prefix-calls slice-aggregate-respond-2
+    respond-requires (λ c. search needs) (λ c κs. search needs) returns returns-2)

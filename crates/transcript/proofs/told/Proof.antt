@@ -15,9 +15,6 @@ returns c =
     let e = c .before .before .if1 .taken in
     written-as _ _ (c .shown .result) _ _ (run-shown (a .code) (a .done) (a .words) (a .answers .now) (a .image .now) e) (c .shown .ensures)
 
-cast-write-refused : tie.Need-cast-write-refused
-cast-write-refused c = omega (arith, c .before .before .before .pre .1 (c .if1 .left))
-
 returns-2 : tie.Need-returns-2
 returns-2 c =
     let a = c .before .before .before .before .before .args in
@@ -25,4 +22,4 @@ returns-2 c =
     written-as _ _ (c .write-refused .result) _ _ (run-told (a .code) (a .done) (a .words) (a .answers .now) (a .image .now) n) (c .write-refused .ensures)
 
 pub told-spec : {M : Type 1} → statement M
-told-spec = tie.close (tie.spec shown-requires returns cast-write-refused (λ c κs. search needs) returns-2)
+told-spec = tie.close (tie.spec shown-requires returns (λ c. omega (arith, c .before .before .before .pre .1 (c .if1 .left))) (λ c κs. search needs) returns-2)

@@ -30,19 +30,12 @@ returns : tie.Need-returns
 returns c = written-as _ _ (c .respond .result) _ _ (got (c .before .before .before .before .before) .text) (c .respond .ensures)
 
 returns-2 : tie.Need-returns-2
-returns-2 c = written-as _ _ (c .write-unreadable .result) _ _ (unreadable-read _ _ _ (c .before .before .before .before .before .read .ensures .0) (c .before .before .before .verdict2 .given .1)) (c .write-unreadable .ensures)
+returns-2 c =
+    written-as _ _ (c .write-unreadable .result) _ _ (unreadable-read _ _ _ (c .before .before .before .before .before .read .ensures .0) (c .before .before .before .verdict2 .given .1))
+    (c .write-unreadable .ensures)
 
 pub transcribe-spec : {M : Type 1} → statement M
 transcribe-spec =
     tie.close
-    (tie.spec
-    (λ c κs. search needs)
-    (λ c. search needs)
-    (λ c. search needs)
-    array-share-prefix-calls
-    slice-aggregate-respond-2
-    respond-requires
-    (λ c. search needs)
-    (λ c κs. search needs)
-    returns
-    returns-2)
+    (tie.spec (λ c κs. search needs) (λ c. search needs) (λ c. search needs) array-share-prefix-calls slice-aggregate-respond-2 respond-requires
+    (λ c. search needs) (λ c κs. search needs) returns returns-2)

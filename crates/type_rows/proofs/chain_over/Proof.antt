@@ -48,18 +48,5 @@ returns c =
 pub chain-over-spec : {M : Type 1} → statement M
 chain-over-spec =
     tie.close
-    (tie.spec
-    Inv-loop
-    μ-loop
-    mul-over
-    element-copy-out-over
-    loop-holds
-    (λ c. search needs)
-    (λ c. search needs)
-    (λ c κs. omega arith)
-    (λ c. search needs)
-    (λ c. search needs)
-    (λ c. omega arith)
-    (λ c. omega arith)
-    loop-again
-    returns)
+    (tie.spec Inv-loop μ-loop mul-over element-copy-out-over loop-holds (λ c. search needs) (λ c. search needs) (λ c κs. omega arith) (λ c. search needs)
+    (λ c. search needs) (λ c. omega arith) (λ c. omega arith) loop-again returns)

@@ -37,13 +37,4 @@ returns c =
 pub closed-spec : {M : Type 1} → statement M
 closed-spec =
     tie.close
-    (tie.spec
-    Inv-loop
-    μ-loop
-    direct-words-requires
-    loop-holds
-    chain-over-requires
-    (λ c. omega arith)
-    (λ c. omega arith)
-    loop-again
-    returns)
+    (tie.spec Inv-loop μ-loop direct-words-requires loop-holds chain-over-requires (λ c. omega arith) (λ c. omega arith) loop-again returns)

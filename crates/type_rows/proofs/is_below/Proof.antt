@@ -16,7 +16,10 @@ returns-2 : tie.Need-returns-2
 returns-2 c = (λ rows good e. sym (not-below rows _ _ (inr (omega (arith, good-facts rows good .few, c .if2 .taken)))), rw (le-ltb _ _ (c .before .if1 .left), lt-ltb _ _ (c .if2 .taken)))
 
 returns-3 : tie.Need-returns-3
-returns-3 c = (λ rows good e. c .has-bit .ensures ∙ closed-below rows _ _ _ e (omega (arith, c .before .before .before .if1 .left)), rw (le-ltb _ _ (c .before .before .before .if1 .left), le-ltb _ _ (c .before .before .if2 .left)) (c .has-bit .ensures))
+returns-3 c = (
+  λ rows good e. c .has-bit .ensures ∙ closed-below rows _ _ _ e (omega (arith, c .before .before .before .if1 .left)),
+  rw (le-ltb _ _ (c .before .before .before .if1 .left), le-ltb _ _ (c .before .before .if2 .left)) (c .has-bit .ensures),
+)
 
 pub is-below-spec : {M : Type 1} → statement M
 is-below-spec =

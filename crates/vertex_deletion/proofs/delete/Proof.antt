@@ -18,9 +18,11 @@ tables s = state (s .args .current .head) (s .args .vertices .now) (s .args .edg
 -- a refused deletion, as it is returned
 refused : (s : tie.Start) (r : Made) (code : ℕ) → r ≡ record { head = s .args .current .head; code = code; cost = 0 }
     → Deletes (s .args .vertex) (s .args .free) (s .args .current .position) (tables s) (s .args .journal .now) code 0 (tables s) (s .args .journal .now)
-    → Deletes (s .args .vertex) (s .args .free) (s .args .current .position) (tables s) (s .args .journal .now) (r .code) (r .cost) (state (r .head) (s .args .vertices .now) (s .args .edges .now)) (s .args .journal .now)
+    → Deletes (s .args .vertex) (s .args .free) (s .args .current .position) (tables s) (s .args .journal .now) (r .code) (r .cost)
+    (state (r .head) (s .args .vertices .now) (s .args .edges .now)) (s .args .journal .now)
 refused s r code e d =
-    subst (λ (y : Made). Deletes (s .args .vertex) (s .args .free) (s .args .current .position) (tables s) (s .args .journal .now) (y .code) (y .cost) (state (y .head) (s .args .vertices .now) (s .args .edges .now)) (s .args .journal .now)) (sym e) d
+    subst (λ (y : Made). Deletes (s .args .vertex) (s .args .free) (s .args .current .position) (tables s) (s .args .journal .now) (y .code) (y .cost)
+    (state (y .head) (s .args .vertices .now) (s .args .edges .now)) (s .args .journal .now)) (sym e) d
 
 returns : tie.Need-returns
 returns c =
@@ -33,8 +35,14 @@ cost-of-requires c κs =
     let s = c .before .before .before .before .before .before .before .before .before in
     let j = s .args .current .position in
     let t = s .args .journal .now in
-    let p = s .pre in
-    (p .0, _, p .2 .rows .sized, holds-current (p .0) j (tables s) t (p .1) (p .2), allowed (s .args .vertex) (s .args .free) j (tables s) t _ (c .before .before .before .before .find-vertex .ensures) _ (c .before .before .enum-told .given .1) (p .0) (p .1) (p .2))
+    let p = s .pre in (
+      p .0,
+      _,
+      p .2 .rows .sized,
+      holds-current (p .0) j (tables s) t (p .1) (p .2),
+      allowed (s .args .vertex) (s .args .free) j (tables s) t _
+          (c .before .before .before .before .find-vertex .ensures) _ (c .before .before .enum-told .given .1) (p .0) (p .1) (p .2),
+    )
 
 returns-2 : tie.Need-returns-2
 returns-2 c =
@@ -42,15 +50,25 @@ returns-2 c =
     let j = s .args .current .position in
     let t = s .args .journal .now in
     refused s _ 10 (c .unchanged2 .ensures)
-    (too-dear (s .args .vertex) (s .args .free) j (tables s) t _ (c .before .before .before .before .before .before .before .find-vertex .ensures) _ (c .before .before .before .before .before .enum-told .given .1) _ (c .before .before .cost-of .ensures) (c .before .if1 .taken))
+    (too-dear (s .args .vertex) (s .args .free) j (tables s) t _ (c .before .before .before .before .before .before .before .find-vertex .ensures) _
+    (c .before .before .before .before .before .enum-told .given .1) _ (c .before .before .cost-of .ensures) (c .before .if1 .taken))
 
 make-rows-requires : tie.Need-make-rows-requires
 make-rows-requires c κs =
     let s = c .before .before .before .before .before .before .before .before .before .before .before .before .before .before in
     let j = s .args .current .position in
     let t = s .args .journal .now in
-    let p = s .pre in
-    (p .0, p .1, allowed (s .args .vertex) (s .args .free) j (tables s) t _ (c .before .before .before .before .before .before .before .before .before .find-vertex .ensures) _ (c .before .before .before .before .before .before .before .enum-told .given .1) (p .0) (p .1) (p .2), costs (s .args .vertex) (s .args .free) j (tables s) t _ (c .before .before .before .before .before .before .before .before .before .find-vertex .ensures) _ (c .before .before .before .before .before .before .before .enum-told .given .1) _ (c .before .before .before .before .cost-of .ensures) (p .0) (p .1) (p .2), omega (arith, p .3, c .before .before .before .if1 .left), p .2)
+    let p = s .pre in (
+      p .0,
+      p .1,
+      allowed (s .args .vertex) (s .args .free) j (tables s) t _ (c .before .before .before .before .before .before .before .before .before .find-vertex .ensures) _
+          (c .before .before .before .before .before .before .before .enum-told .given .1) (p .0) (p .1) (p .2),
+      costs (s .args .vertex) (s .args .free) j (tables s) t _
+          (c .before .before .before .before .before .before .before .before .before .find-vertex .ensures) _ (c .before .before .before .before .before .before .before .enum-told .given .1) _
+          (c .before .before .before .before .cost-of .ensures) (p .0) (p .1) (p .2),
+      omega (arith, p .3, c .before .before .before .if1 .left),
+      p .2,
+    )
 
 returns-3 : tie.Need-returns-3
 returns-3 c =
@@ -59,26 +77,20 @@ returns-3 c =
     let t = s .args .journal .now in
     let p = s .pre in
     let k = c .before .before .before .before .before .before .make-rows in
-    deleted (s .args .vertex) (s .args .free) j (tables s) t _ (c .before .before .before .before .before .before .before .before .before .before .before .before .before .before .before .before .find-vertex .ensures) _ (c .before .before .before .before .before .before .before .before .before .before .before .before .before .before .enum-told .given .1) _ (c .before .before .before .before .before .before .before .before .before .before .before .cost-of .ensures) (c .before .before .before .before .before .before .before .before .before .before .if1 .left) (p .0) (p .1) (p .2)
-    (state (k .result) (k .last .1 .0) (k .last .1 .1 .0)) (k .last .1 .1 .1 .0) (λ b l y. k .ensures b l (allowed (s .args .vertex) (s .args .free) j (tables s) t _ (c .before .before .before .before .before .before .before .before .before .before .before .before .before .before .before .before .find-vertex .ensures) _ (c .before .before .before .before .before .before .before .before .before .before .before .before .before .before .enum-told .given .1) b l y) y)
+    deleted (s .args .vertex) (s .args .free) j (tables s) t _
+    (c .before .before .before .before .before .before .before .before .before .before .before .before .before .before .before .before .find-vertex .ensures) _
+    (c .before .before .before .before .before .before .before .before .before .before .before .before .before .before .enum-told .given .1) _
+    (c .before .before .before .before .before .before .before .before .before .before .before .cost-of .ensures)
+    (c .before .before .before .before .before .before .before .before .before .before .if1 .left) (p .0) (p .1) (p .2)
+    (state (k .result) (k .last .1 .0) (k .last .1 .1 .0)) (k .last .1 .1 .1 .0)
+    (λ b l y. k .ensures b l
+    (allowed (s .args .vertex) (s .args .free) j (tables s) t _
+    (c .before .before .before .before .before .before .before .before .before .before .before .before .before .before .before .before .find-vertex .ensures) _
+    (c .before .before .before .before .before .before .before .before .before .before .before .before .before .before .enum-told .given .1) b l y) y)
 
 pub delete-spec : {M : Type 1} → statement M
 delete-spec =
     tie.close
-    (tie.spec
-    (λ c κs. search needs)
-    (λ c. search needs)
-    (λ c. search needs)
-    (λ c κs. search needs)
-    (λ c. search needs)
-    returns
-    cost-of-requires
-    (λ c κs. search needs)
-    (λ c. search needs)
-    (λ c. search needs)
-    returns-2
-    make-rows-requires
-    (λ c. search needs)
-    (λ c. search needs)
-    (λ c. search needs)
+    (tie.spec (λ c κs. search needs) (λ c. search needs) (λ c. search needs) (λ c κs. search needs) (λ c. search needs) returns cost-of-requires
+    (λ c κs. search needs) (λ c. search needs) (λ c. search needs) returns-2 make-rows-requires (λ c. search needs) (λ c. search needs) (λ c. search needs)
     returns-3)

@@ -59,7 +59,11 @@ loop-less c =
     let p = s .pre in
     let l = c .before .before .before .before .before .before .before .before .before .before .before .loop in
     let k = l .inv .goes (a .current .position) (p .0) (p .1) refl (p .5) (p .2) in
-    omega (arith, row-left (DeleteVertex (a .a)) (p .0) (a .current .position) _ (a .journal .now) (p .1) (a .rows) _ (l .journal) (l .u) k (p .3) (c .before .before .before .before .before .before .before .before .before .before .loop-test .taken))
+    omega (
+      arith,
+      row-left (DeleteVertex (a .a)) (p .0) (a .current .position) _ (a .journal .now) (p .1) (a .rows) _ (l .journal) (l .u) k (p .3)
+          (c .before .before .before .before .before .before .before .before .before .before .loop-test .taken),
+    )
 
 loop-again : tie.Need-loop-again Inv-loop μ-loop
 loop-again c =
@@ -101,21 +105,10 @@ returns c =
     λ b y v i.
     let a = c .before .before .before .before .before .before .args in
     let l = c .before .loop in
-    subst (Making (DeleteVertex (a .a)) b (a .current .position) (state (a .current .head) (a .vertices .now) (a .edges .now)) (a .journal .now) y (a .rows) (state (l .h) (l .vertices) (l .edges)) (l .journal)) (c .loop-test .left) (l .inv .goes (a .current .position) b y refl i v)
+    subst (Making (DeleteVertex (a .a)) b (a .current .position) (state (a .current .head) (a .vertices .now) (a .edges .now)) (a .journal .now) y (a .rows)
+    (state (l .h) (l .vertices) (l .edges)) (l .journal)) (c .loop-test .left) (l .inv .goes (a .current .position) b y refl i v)
 
 pub make-rows-spec : {M : Type 1} → statement M
 make-rows-spec =
     tie.close
-    (tie.spec
-    Inv-loop
-    μ-loop
-    add-end
-    loop-holds
-    add-v
-    next-row-requires
-    loop-less
-    loop-again
-    same-length
-    same-length-2
-    same-length-3
-    returns)
+    (tie.spec Inv-loop μ-loop add-end loop-holds add-v next-row-requires loop-less loop-again same-length same-length-2 same-length-3 returns)

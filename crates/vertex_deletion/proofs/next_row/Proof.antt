@@ -30,7 +30,9 @@ remove-edge-requires c κs =
 returns : tie.Need-returns
 returns c =
     let a = c .before .before .before .before .before .before .before .before .before .before .before .before .before .before .before .before .args in
-    next-edge (state (a .head) (a .vertices .now) (a .edges .now)) (a .a) _ (a .cost) (a .row) (a .journal .now) _ _ (c .before .before .before .before .before .before .before .before .before .before .before .first-word .ensures) (c .before .before .before .before .before .before .before .before .before .before .if1 .taken) (c .before .before .before .before .before .before .remove-edge .ensures)
+    next-edge (state (a .head) (a .vertices .now) (a .edges .now)) (a .a) _ (a .cost) (a .row) (a .journal .now) _ _
+    (c .before .before .before .before .before .before .before .before .before .before .before .first-word .ensures)
+    (c .before .before .before .before .before .before .before .before .before .before .if1 .taken) (c .before .before .before .before .before .before .remove-edge .ensures)
 
 remove-vertex-requires : tie.Need-remove-vertex-requires
 remove-vertex-requires c κs =
@@ -47,20 +49,12 @@ remove-vertex-requires c κs =
 returns-2 : tie.Need-returns-2
 returns-2 c =
     let a = c .before .before .before .before .before .before .before .before .before .before .before .before .before .before .args in
-    next-vertex (state (a .head) (a .vertices .now) (a .edges .now)) (a .a) _ (a .cost) (a .row) (a .journal .now) _ _ (c .before .before .before .before .before .before .before .before .before .first-word .ensures) (c .before .before .before .before .before .before .before .before .if1 .left) (c .before .before .before .before .remove-vertex .ensures)
+    next-vertex (state (a .head) (a .vertices .now) (a .edges .now)) (a .a) _ (a .cost) (a .row) (a .journal .now) _ _
+    (c .before .before .before .before .before .before .before .before .before .first-word .ensures) (c .before .before .before .before .before .before .before .before .if1 .left)
+    (c .before .before .before .before .remove-vertex .ensures)
 
 pub next-row-spec : {M : Type 1} → statement M
 next-row-spec =
     tie.close
-    (tie.spec
-    first-word-requires
-    remove-edge-requires
-    (λ c. search needs)
-    (λ c. search needs)
-    (λ c. search needs)
-    returns
-    remove-vertex-requires
-    (λ c. search needs)
-    (λ c. search needs)
-    (λ c. search needs)
-    returns-2)
+    (tie.spec first-word-requires remove-edge-requires (λ c. search needs) (λ c. search needs) (λ c. search needs) returns remove-vertex-requires
+    (λ c. search needs) (λ c. search needs) (λ c. search needs) returns-2)

@@ -31,11 +31,4 @@ returns c =
 pub remove-edge-spec : {M : Type 1} → statement M
 remove-edge-spec =
     tie.close
-    (tie.spec
-    edge-words-requires
-    (λ c κs. search needs)
-    remove-edge-requires
-    (λ c. search needs)
-    (λ c. search needs)
-    (λ c. search needs)
-    returns)
+    (tie.spec edge-words-requires (λ c κs. search needs) remove-edge-requires (λ c. search needs) (λ c. search needs) (λ c. search needs) returns)

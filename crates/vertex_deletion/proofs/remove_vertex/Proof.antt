@@ -15,18 +15,12 @@ returns c =
     let p = c .before .before .before .before .before .before .before .before .vertex-prev .ensures in
     record {
       state = c .before .before .remove-vertex .ensures;
-      row = rowed-by _ _ _ _ _ _ refl (c .before .before .before .before .before .before .put-row .ensures) ∙ (λ k. rowed (a .row) (RemoveVertex (a .n) (s k) (x k) (p k)) (costing (a .cost)) (a .journal .now));
+      row = rowed-by _ _ _ _ _ _ refl (c .before .before .before .before .before .before .put-row .ensures)
+          ∙ (λ k. rowed (a .row) (RemoveVertex (a .n) (s k) (x k) (p k)) (costing (a .cost)) (a .journal .now));
     }
 
 pub remove-vertex-spec : {M : Type 1} → statement M
 remove-vertex-spec =
     tie.close
-    (tie.spec
-    (λ c κs. search needs)
-    (λ c κs. search needs)
-    (λ c κs. search needs)
-    (λ c κs. search needs)
-    (λ c κs. search needs)
-    (λ c. search needs)
-    (λ c. search needs)
-    returns)
+    (tie.spec (λ c κs. search needs) (λ c κs. search needs) (λ c κs. search needs) (λ c κs. search needs) (λ c κs. search needs) (λ c. search needs)
+    (λ c. search needs) returns)

@@ -109,7 +109,8 @@ fn ahead(r: &mut Random, machine: &Machine) -> Option<Call> {
 
 /// Something that mostly gets the list refused.
 fn damage(r: &mut Random, several: &mut Several, starts: &mut Vec<Vec<u32>>) {
-    let k = several.stores as usize;
+    // A second damage may find any number of stores; slices are made for a few.
+    let k = several.stores.min(9) as usize;
     let case = &mut several.case;
     let more = r.between(1, 7);
     match r.under(12) {

@@ -26,7 +26,17 @@ abbrev μ-loop : tie.MeasureT-loop
 μ-loop vertices₀ edges₀ t₀ marks₀ closed types capacity calls width count answers₀ y₀ k₀ at₀ vertices edges t marks answers y k at = count - k
 
 loop-holds : tie.Need-loop-holds Inv-loop μ-loop
-loop-holds c = (omega arith, omega arith, refl, refl, refl, refl, refl, λ w m xs h r f. after-calls-none w _ m _ _ _ _ _ (c .before .before .before .before .before .before .before .args .answers .now) h)
+loop-holds c = (
+  omega arith,
+  omega arith,
+  refl,
+  refl,
+  refl,
+  refl,
+  refl,
+  λ w m xs h r f. after-calls-none w _ m _ _ _ _ _ (c .before .before .before .before .before .before .before .args .answers .now)
+      h,
+)
 
 -- the words of call k are there
 words-there : (c : tie.In-loop Inv-loop μ-loop) → c .before .loop .at + 5 ≤ length (c .before .before .before .before .before .before .before .before .before .args .calls .now)
@@ -38,62 +48,60 @@ words-there c =
 list-short : (c : tie.In-loop Inv-loop μ-loop) → length (c .before .before .before .before .before .before .before .before .before .args .calls .now) * 4 < 9223372036854775808
 list-short c = c .before .before .before .before .before .before .before .before .before .good .1 .1 .1 .1 .1 .1 .1 .1 .0 .1
 
-add-decode : tie.Need-add-decode Inv-loop μ-loop
-add-decode c = omega (arith, words-there c, list-short c)
-
-mul-decode : tie.Need-mul-decode Inv-loop μ-loop
-mul-decode c = omega (arith, words-there c, list-short c)
-
-sub-decode : tie.Need-sub-decode Inv-loop μ-loop
-sub-decode c = omega (arith, words-there c, list-short c)
-
-part-decode-start : tie.Need-part-decode-start Inv-loop μ-loop
-part-decode-start c = omega (arith, words-there c, list-short c)
-
-part-decode-end : tie.Need-part-decode-end Inv-loop μ-loop
-part-decode-end c = omega (arith, words-there c, list-short c)
-
 step-requires : tie.Need-step-requires Inv-loop μ-loop
 step-requires c κs =
     let p = c .before .before .before .before .before .before .before .before .before .before .before .before .before .before .before .pre .0 in
     let i = c .before .before .before .before .before .before .before .loop .inv in
     let g = i .7 (p .0) (p .1) (p .2) (rw (c .before .before .before .before .before .before .before .before .same .ensures) (p .3)) (p .4) (p .5) in
-    let l = last-within (allowing (c .before .before .before .before .before .before .before .before .before .before .before .before .before .before .before .args .capacity) (p .0)) (p .1) (take (c .before .before .before .before .before .before .before .loop .k) (p .2)) (omega (arith, used-is (p .0) (p .1) _ _ _ _ (p .3), c .before .before .before .before .before .before .before .before .before .before .before .before .before .before .before .pre .1 .0 .0)) in
-    ((p .0, _, g .after), (omega (arith, used-is (p .0) _ _ _ _ _ (g .after), l), omega (arith, i .4, c .before .before .before .before .before .before .before .before .before .before .before .before .before .before .before .pre .1 .0 .1)))
+    let l = last-within (allowing (c .before .before .before .before .before .before .before .before .before .before .before .before .before .before .before .args .capacity) (p .0)) (p .1)
+    (take (c .before .before .before .before .before .before .before .loop .k) (p .2))
+    (omega (
+      arith,
+      used-is (p .0) (p .1) _ _ _ _ (p .3),
+      c .before .before .before .before .before .before .before .before .before .before .before .before .before .before .before .pre .1 .0 .0,
+    )) in (
+      (p .0, _, g .after),
+      (
+        omega (arith, used-is (p .0) _ _ _ _ _ (g .after), l),
+        omega (arith, i .4, c .before .before .before .before .before .before .before .before .before .before .before .before .before .before .before .pre .1 .0 .1),
+      ),
+    )
 
 -- there are two words for its answer, and no slice is longer than one can be
-answer-there : (c : tie.After-same2 Inv-loop μ-loop) → 2 * c .before .before .before .before .before .before .before .before .before .before .before .before .before .before .before .before .before .loop .k + 1 < length (c .before .before .before .before .before .before .before .before .before .before .before .before .before .before .before .before .before .loop .answers)
-answer-there c = omega (arith, c .before .before .before .before .before .before .before .before .before .before .before .before .before .before .before .before .loop-test, c .before .before .before .before .before .before .before .before .before .before .before .before .before .before .before .before .before .before .before .before .before .before .before .before .before .pre .1 .1 .0, c .before .before .before .before .before .before .before .before .before .before .before .before .before .before .before .before .before .loop .inv .6)
+answer-there : (c : tie.After-same2 Inv-loop μ-loop)
+    → 2 * c .before .before .before .before .before .before .before .before .before .before .before .before .before .before .before .before .before .loop .k + 1 < length
+    (c .before .before .before .before .before .before .before .before .before .before .before .before .before .before .before .before .before .loop .answers)
+answer-there c =
+    omega (
+      arith,
+      c .before .before .before .before .before .before .before .before .before .before .before .before .before .before .before .before .loop-test,
+      c .before .before .before .before .before .before .before .before .before .before .before .before .before .before .before .before .before .before .before .before .before .before .before
+          .before .before .pre .1 .1 .0,
+      c .before .before .before .before .before .before .before .before .before .before .before .before .before .before .before .before .before .loop .inv .6,
+    )
 
-answers-short : (c : tie.After-same2 Inv-loop μ-loop) → length (c .before .before .before .before .before .before .before .before .before .before .before .before .before .before .before .before .before .loop .answers) * 4 < 9223372036854775808
-answers-short c = omega (arith, c .before .before .before .before .before .before .before .before .before .before .before .before .before .before .before .before .before .loop .inv .6, c .before .before .before .before .before .before .before .before .before .before .before .before .before .before .before .before .before .before .before .before .before .before .before .before .before .good .1 .1 .1 .1 .1 .1 .1 .1 .1 .1 .1 .0 .1)
-
-mul-answers : tie.Need-mul-answers Inv-loop μ-loop
-mul-answers c = omega (arith, answer-there c, answers-short c)
-
-mul-answers-2 : tie.Need-mul-answers-2 Inv-loop μ-loop
-mul-answers-2 c = omega (arith, answer-there c, answers-short c)
-
-slice-write-answers : tie.Need-slice-write-answers Inv-loop μ-loop
-slice-write-answers c = omega (arith, answer-there c, answers-short c)
-
-mul-answers-3 : tie.Need-mul-answers-3 Inv-loop μ-loop
-mul-answers-3 c = omega (arith, answer-there c, answers-short c)
-
-add-answers : tie.Need-add-answers Inv-loop μ-loop
-add-answers c = omega (arith, answer-there c, answers-short c)
-
-mul-answers-4 : tie.Need-mul-answers-4 Inv-loop μ-loop
-mul-answers-4 c = omega (arith, answer-there c, answers-short c)
-
-add-k : tie.Need-add-k Inv-loop μ-loop
-add-k c = omega (arith, answer-there c, answers-short c)
+answers-short : (c : tie.After-same2 Inv-loop μ-loop)
+    → length (c .before .before .before .before .before .before .before .before .before .before .before .before .before .before .before .before .before .loop .answers) * 4 <
+    9223372036854775808
+answers-short c = omega (
+  arith,
+  c .before .before .before .before .before .before .before .before .before .before .before .before .before .before .before .before .before .loop .inv .6,
+  c .before .before .before .before .before .before .before .before .before .before .before .before .before .before .before .before .before .before .before .before .before .before .before
+      .before .before .good .1 .1 .1 .1 .1 .1 .1 .1 .1 .1 .1 .0 .1,
+)
 
 slice-write-answers-2 : tie.Need-slice-write-answers-2 Inv-loop μ-loop
 slice-write-answers-2 c = simp length-set (omega (arith, answer-there c))
 
 add-at : tie.Need-add-at Inv-loop μ-loop
-add-at c = omega (arith, c .before .before .before .loop .inv .1, c .before .before .before .before .before .before .before .before .before .before .before .pre .0 .4 .there (c .before .before .before .loop .k) (c .before .before .loop-test .taken), c .before .before .before .before .before .before .before .before .before .before .before .pre .1 .1 .1, c .before .before .before .before .before .before .before .before .before .before .before .good .1 .1 .1 .1 .1 .1 .1 .1 .0 .1)
+add-at c = omega (
+  arith,
+  c .before .before .before .loop .inv .1,
+  c .before .before .before .before .before .before .before .before .before .before .before .pre .0 .4 .there
+      (c .before .before .before .loop .k) (c .before .before .loop-test .taken),
+  c .before .before .before .before .before .before .before .before .before .before .before .pre .1 .1 .1,
+  c .before .before .before .before .before .before .before .before .before .before .before .good .1 .1 .1 .1 .1 .1 .1 .1 .0 .1,
+)
 
 loop-less : tie.Need-loop-less Inv-loop μ-loop
 loop-less c = omega (arith, c .before .before .before .before .before .before .before .before .before .before .before .before .before .before .before .before .loop-test)
@@ -102,7 +110,8 @@ loop-again : tie.Need-loop-again Inv-loop μ-loop
 loop-again c =
     let s = c .before .before .before .before .before .before .before .before .before .step in
     let l = c .before .before .before .before .before .before .before .before .before .before .before .before .before .before .before .before .before .loop in
-    let a = c .before .before .before .before .before .before .before .before .before .before .before .before .before .before .before .before .before .before .before .before .before .before .before .before .before .args in (
+    let a = c .before .before .before .before .before .before .before .before .before .before .before .before .before .before .before .before .before .before .before .before .before .before
+    .before .before .before .args in (
       omega (arith, c .before .before .before .before .before .before .before .before .before .before .before .before .before .before .before .before .loop-test),
       next-at (l .k) (a .width) (l .at) (l .inv .1),
       s .kept .1 .0 ∙ l .inv .2,
@@ -112,8 +121,19 @@ loop-again c =
       simp length-set (l .inv .6),
       λ w m xs h reads near.
           let g = l .inv .7 w m xs h reads near in
-          rw (c .same2 .ensures) (after-calls-more w (a .capacity) m _ _ _ _ _ _ reads (l .k) (l .at) _ (s .result) _ g (c .before .before .before .before .before .before .before .before .before .before .before .before .before .before .before .before .loop-test .taken) (l .inv .1) (c .before .before .before .before .before .before .before .before .before .before .before .before .before .before .decode .ensures)
-          (s .ensures .0 w _ (g .after) (command-near (allowing (a .capacity) w) m reads (l .k) (l .at) _ near (c .before .before .before .before .before .before .before .before .before .before .before .before .before .before .before .before .loop-test .taken) (l .inv .1) (c .before .before .before .before .before .before .before .before .before .before .before .before .before .before .decode .ensures))) (omega (arith, c .before .before .before .before .before .before .before .before .before .before .before .before .before .before .before .before .loop-test, c .before .before .before .before .before .before .before .before .before .before .before .before .before .before .before .before .before .before .before .before .before .before .before .before .before .pre .1 .1 .0))),
+          rw (c .same2 .ensures)
+          (after-calls-more w (a .capacity) m _ _ _ _ _ _ reads (l .k) (l .at) _ (s .result) _ g
+          (c .before .before .before .before .before .before .before .before .before .before .before .before .before .before .before .before .loop-test .taken) (l .inv .1)
+          (c .before .before .before .before .before .before .before .before .before .before .before .before .before .before .decode .ensures)
+          (s .ensures .0 w _ (g .after)
+          (command-near (allowing (a .capacity) w) m reads (l .k) (l .at) _ near
+          (c .before .before .before .before .before .before .before .before .before .before .before .before .before .before .before .before .loop-test .taken) (l .inv .1)
+          (c .before .before .before .before .before .before .before .before .before .before .before .before .before .before .decode .ensures))) (omega (
+            arith,
+            c .before .before .before .before .before .before .before .before .before .before .before .before .before .before .before .before .loop-test,
+            c .before .before .before .before .before .before .before .before .before .before .before .before .before .before .before .before .before .before .before .before .before
+                .before .before .before .before .pre .1 .1 .0,
+          ))),
     )
 
 same-length : tie.Need-same-length Inv-loop μ-loop
@@ -139,33 +159,9 @@ returns c =
 pub carry-out-spec : {M : Type 1} → statement M
 carry-out-spec =
     tie.close
-    (tie.spec
-    Inv-loop
-    μ-loop
-    (λ c κs. search needs)
-    loop-holds
-    add-decode
-    mul-decode
-    sub-decode
-    part-decode-start
-    part-decode-end
-    (λ c κs. search needs)
-    add-at
-    step-requires
-    (λ c κs. search needs)
-    mul-answers
-    mul-answers-2
-    slice-write-answers
-    mul-answers-3
-    add-answers
-    mul-answers-4
-    slice-write-answers-2
-    add-k
-    loop-less
-    loop-again
-    same-length
-    same-length-2
-    same-length-3
-    same-length-4
-    same-length-5
-    returns)
+    (tie.spec Inv-loop μ-loop (λ c κs. search needs) loop-holds (λ c. omega (arith, words-there c, list-short c)) (λ c. omega (arith, words-there c, list-short c))
+    (λ c. omega (arith, words-there c, list-short c)) (λ c. omega (arith, words-there c, list-short c)) (λ c. omega (arith, words-there c, list-short c)) (λ c κs. search needs) add-at
+    step-requires (λ c κs. search needs) (λ c. omega (arith, answer-there c, answers-short c)) (λ c. omega (arith, answer-there c, answers-short c))
+    (λ c. omega (arith, answer-there c, answers-short c)) (λ c. omega (arith, answer-there c, answers-short c)) (λ c. omega (arith, answer-there c, answers-short c))
+    (λ c. omega (arith, answer-there c, answers-short c)) slice-write-answers-2 (λ c. omega (arith, answer-there c, answers-short c))
+    loop-less loop-again same-length same-length-2 same-length-3 same-length-4 same-length-5 returns)

@@ -21,17 +21,11 @@ carry-out-requires c κs =
 returns : tie.Need-returns
 returns c =
     let a = c .before .before .before .before .before .before .before .before .before .before .before .before .before .before .before .before .before .before .before .before .before .before .args in
-    λ w m h. after-at _ _ (capacity-is w m _ _ _ _ h _ refl) (c .before .before .before .before .before .before .before .before .before .before .carry-out .ensures w m (callsOf (a .calls .now)) h (reads-five (a .calls .now)) (own-calls w m _ _ _ _ h _ refl (callsOf (a .calls .now))))
+    λ w m h. after-at _ _ (capacity-is w m _ _ _ _ h _ refl)
+    (c .before .before .before .before .before .before .before .before .before .before .carry-out .ensures w m (callsOf (a .calls .now)) h (reads-five (a .calls .now))
+    (own-calls w m _ _ _ _ h _ refl (callsOf (a .calls .now))))
 
 pub each-spec : {M : Type 1} → statement M
 each-spec =
     tie.close
-    (tie.spec
-    cast-capacity
-    carry-out-requires
-    (λ c. search needs)
-    (λ c. search needs)
-    (λ c. search needs)
-    (λ c. search needs)
-    (λ c. search needs)
-    returns)
+    (tie.spec cast-capacity carry-out-requires (λ c. search needs) (λ c. search needs) (λ c. search needs) (λ c. search needs) (λ c. search needs) returns)

@@ -16,7 +16,11 @@ returns-2 c =
 returns-3 : tie.Need-returns-3
 returns-3 c =
     let d = c .before .before .before in
-    rw (sym (d .before .at-most .ensures) ∙ not-false (d .before .at-most .result) (d .if1 .left), sym (c .before .before .at-most2 .ensures) ∙ not-false (c .before .before .at-most2 .result) (c .before .if2 .left)) (c .at-most3 .ensures)
+    rw (
+      sym (d .before .at-most .ensures) ∙ not-false (d .before .at-most .result) (d .if1 .left),
+      sym (c .before .before .at-most2 .ensures)
+          ∙ not-false (c .before .before .at-most2 .result) (c .before .if2 .left),
+    ) (c .at-most3 .ensures)
 
 pub in-limits-spec : {M : Type 1} → statement M
 in-limits-spec = tie.close (tie.spec (λ c κs. search needs) returns (λ c κs. search needs) returns-2 (λ c κs. search needs) returns-3)

@@ -18,7 +18,8 @@ use Rattle.engine.proofs.refusals.refusal.Tie as tie
 -- ---- what the tests before the start's check found
 
 lengths-pass : (c : tie.Else1) →
-    lengthsCode (c .before .before .before .before .args .calls) (c .before .before .before .before .args .answers) (c .before .before .before .before .args .vertices) (c .before .before .before .before .args .edges) (c .before .before .before .before .args .journal)
+    lengthsCode (c .before .before .before .before .args .calls) (c .before .before .before .before .args .answers) (c .before .before .before .before .args .vertices)
+    (c .before .before .before .before .args .edges) (c .before .before .before .before .args .journal)
     ≡ 0
 lengths-pass c = sym (c .before .lengths-code .ensures) ∙ c .if1 .left
 
@@ -37,12 +38,6 @@ returns-2 : tie.Need-returns-2
 returns-2 c =
     λ l h. rows-refused l _ _ _ _ _ _ _ _ h (lengths-pass (c .before .before .before)) (verdict-bad _ _ (c .before .before .check-rows .ensures) (c .enum-told2 .given .1))
 
-cast-v : tie.Need-cast-v
-cast-v c = omega (arith, limits (c .before .before .before) .0)
-
-cast-e : tie.Need-cast-e
-cast-e c = omega (arith, limits (c .before .before .before) .1)
-
 cast-check : tie.Need-cast-check
 cast-check c = omega (arith, good-facts (c .before .before .before .before .before .before .before .args .rows .now) (rows-good c) .few)
 
@@ -59,7 +54,8 @@ returns-3 c =
     let f = c .before .before in
     let e = f .before .before in
     λ l h.
-    let r = start-refused l _ _ _ _ _ _ _ _ h (lengths-pass (e .before .before .before)) (rows-good e) (f .before .check .result) (found (f .before)) (λ z. c .before .if2 .taken (f .code-of .ensures ∙ z)) in
+    let r = start-refused l _ _ _ _ _ _ _ _ h (lengths-pass (e .before .before .before)) (rows-good e) (f .before .check .result) (found (f .before))
+    (λ z. c .before .if2 .taken (f .code-of .ensures ∙ z)) in
     (f .code-of .ensures ∙ r .0, c .offset-of .ensures ∙ r .1)
 
 returns-4 : tie.Need-returns-4
@@ -81,20 +77,6 @@ returns-5 c =
 pub refusal-spec : {M : Type 1} → statement M
 refusal-spec =
     tie.close
-    (tie.spec
-    (λ c κs. search needs)
-    returns
-    (λ c κs. search needs)
-    (λ c. search needs)
-    (λ c. search needs)
-    returns-2
-    cast-v
-    cast-e
-    cast-check
-    (λ c κs. search needs)
-    (λ c κs. search needs)
-    (λ c κs. search needs)
-    returns-3
-    (λ c κs. search needs)
-    returns-4
-    returns-5)
+    (tie.spec (λ c κs. search needs) returns (λ c κs. search needs) (λ c. search needs) (λ c. search needs) returns-2 (λ c. omega (arith, limits (c .before .before .before) .0))
+    (λ c. omega (arith, limits (c .before .before .before) .1)) cast-check
+    (λ c κs. search needs) (λ c κs. search needs) (λ c κs. search needs) returns-3 (λ c κs. search needs) returns-4 returns-5)

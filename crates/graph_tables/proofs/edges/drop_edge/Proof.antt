@@ -7,7 +7,9 @@ use Rattle.graph_tables.proofs.edges.drop_edge.Tie as tie
 returns : tie.Need-returns
 returns c =
     let s = c .before .before .before .before .before .before .before .before .before .before .before .before .before .before .before in
-    edge-dropped (s .args .head) (s .args .vertices .now) (s .args .edges .now) (s .args .n) (c .before .before .before .before .before .before .before .before .before .before .before .unlink .ensures) (c .before .before .before .before .before .before .before .put-edge .ensures) (c .before .before .before .put-this .ensures)
+    edge-dropped (s .args .head) (s .args .vertices .now) (s .args .edges .now) (s .args .n)
+    (c .before .before .before .before .before .before .before .before .before .before .before .unlink .ensures)
+    (c .before .before .before .before .before .before .before .put-edge .ensures) (c .before .before .before .put-this .ensures)
 
 pub drop-edge-spec : {M : Type 1} → statement M
 drop-edge-spec =

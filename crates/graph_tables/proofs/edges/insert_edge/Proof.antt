@@ -28,19 +28,12 @@ returns c =
     let p = c .before .before .before .before .before .before .before .before .before .before .before .before .before .before .before .before .before .before in
     let s = c .before .before .before .before .before .before .before .before .before .before .before .before .before .before .before .before .before .before .before .before .before .before .before in
     let x = s .args .edge in
-    three (placeEdgeS (x .number) (x .alpha) (x .omega) (x .sort) (x .reading) (s .args .at .order)) (attachS (x .alpha) (s .args .at .out) (2 * x .number)) (attachS (x .omega) (s .args .at .into) (2 * x .number + 1))
+    three (placeEdgeS (x .number) (x .alpha) (x .omega) (x .sort) (x .reading) (s .args .at .order)) (attachS (x .alpha) (s .args .at .out) (2 * x .number))
+    (attachS (x .omega) (s .args .at .into) (2 * x .number + 1))
     (p .place-edge .ensures) (a .attach .ensures) (a2 .attach2 .ensures)
 
 pub insert-edge-spec : {M : Type 1} → statement M
 insert-edge-spec =
     tie.close
-    (tie.spec
-    (λ c κs. search needs)
-    (λ c. search needs)
-    attach-requires
-    (λ c. search needs)
-    (λ c. search needs)
-    attach-requires-2
-    (λ c. search needs)
-    (λ c. search needs)
-    returns)
+    (tie.spec (λ c κs. search needs) (λ c. search needs) attach-requires (λ c. search needs) (λ c. search needs) attach-requires-2 (λ c. search needs)
+    (λ c. search needs) returns)

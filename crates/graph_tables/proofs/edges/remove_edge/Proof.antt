@@ -32,13 +32,5 @@ returns c =
 pub remove-edge-spec : {M : Type 1} → statement M
 remove-edge-spec =
     tie.close
-    (tie.spec
-    (λ c. search needs)
-    (λ c. search needs)
-    (λ c κs. search needs)
-    (λ c. search needs)
-    detach-requires-2
-    drop-edge-requires
-    (λ c. search needs)
-    (λ c. search needs)
-    returns)
+    (tie.spec (λ c. search needs) (λ c. search needs) (λ c κs. search needs) (λ c. search needs) detach-requires-2 drop-edge-requires (λ c. search needs)
+    (λ c. search needs) returns)

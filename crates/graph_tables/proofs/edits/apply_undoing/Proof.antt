@@ -107,49 +107,9 @@ returns-9 c =
 pub apply-undoing-spec : {M : Type 1} → statement M
 apply-undoing-spec =
     tie.close
-    (tie.spec
-    (λ c. search needs)
-    insert-vertex-requires
-    (λ c. search needs)
-    remove-vertex-requires
-    (λ c. search needs)
-    insert-edge-requires
-    (λ c. search needs)
-    remove-edge-requires
-    (λ c. search needs)
-    set-vertex-requires
-    (λ c. search needs)
-    set-edge-requires
-    (λ c. search needs)
-    move-vertex-requires
-    (λ c. search needs)
-    move-edge-requires
-    (λ c. search needs)
-    move-word-requires
-    (λ c. search needs)
-    (λ c. search needs)
-    returns
-    (λ c. search needs)
-    (λ c. search needs)
-    returns-2
-    (λ c. search needs)
-    (λ c. search needs)
-    returns-3
-    (λ c. search needs)
-    (λ c. search needs)
-    returns-4
-    (λ c. search needs)
-    (λ c. search needs)
-    returns-5
-    (λ c. search needs)
-    (λ c. search needs)
-    returns-6
-    (λ c. search needs)
-    (λ c. search needs)
-    returns-7
-    (λ c. search needs)
-    (λ c. search needs)
-    returns-8
-    (λ c. search needs)
-    (λ c. search needs)
-    returns-9)
+    (tie.spec (λ c. search needs) insert-vertex-requires (λ c. search needs) remove-vertex-requires (λ c. search needs) insert-edge-requires (λ c. search needs)
+    remove-edge-requires (λ c. search needs) set-vertex-requires (λ c. search needs) set-edge-requires (λ c. search needs) move-vertex-requires
+    (λ c. search needs) move-edge-requires (λ c. search needs) move-word-requires (λ c. search needs) (λ c. search needs) returns (λ c. search needs)
+    (λ c. search needs) returns-2 (λ c. search needs) (λ c. search needs) returns-3 (λ c. search needs) (λ c. search needs) returns-4 (λ c. search needs)
+    (λ c. search needs) returns-5 (λ c. search needs) (λ c. search needs) returns-6 (λ c. search needs) (λ c. search needs) returns-7 (λ c. search needs)
+    (λ c. search needs) returns-8 (λ c. search needs) (λ c. search needs) returns-9)

@@ -15,15 +15,11 @@ insert-after-requires c κs =
 returns : tie.Need-returns
 returns c =
     let s = c .before .before .before .before .before .before .before .before .before .before .before .before in
-    attached (s .args .head) (s .args .vertices .now) (s .args .edges .now) (s .args .v) (s .args .p) (s .args .w) (c .before .before .before .before .before .before .before .before .ends-of .ensures) (c .before .before .before .before .before .before .insert-after .ensures) (c .before .before .put-ends .ensures)
+    attached (s .args .head) (s .args .vertices .now) (s .args .edges .now) (s .args .v) (s .args .p) (s .args .w)
+    (c .before .before .before .before .before .before .before .before .ends-of .ensures) (c .before .before .before .before .before .before .insert-after .ensures)
+    (c .before .before .put-ends .ensures)
 
 pub attach-spec : {M : Type 1} → statement M
 attach-spec =
     tie.close
-    (tie.spec
-    (λ c κs. search needs)
-    insert-after-requires
-    (λ c κs. search needs)
-    (λ c. search needs)
-    (λ c. search needs)
-    returns)
+    (tie.spec (λ c κs. search needs) insert-after-requires (λ c κs. search needs) (λ c. search needs) (λ c. search needs) returns)

@@ -14,7 +14,8 @@ unlink-requires c κs =
 returns : tie.Need-returns
 returns c =
     let s = c .before .before .before .before .before .before .before .before .before .before .before .before in
-    detached (s .args .head) (s .args .vertices .now) (s .args .edges .now) (s .args .v) (s .args .w) (c .before .before .before .before .before .before .before .before .ends-of .ensures) (c .before .before .before .before .before .before .unlink .ensures) (c .before .before .put-ends .ensures)
+    detached (s .args .head) (s .args .vertices .now) (s .args .edges .now) (s .args .v) (s .args .w) (c .before .before .before .before .before .before .before .before .ends-of .ensures)
+    (c .before .before .before .before .before .before .unlink .ensures) (c .before .before .put-ends .ensures)
 
 pub detach-spec : {M : Type 1} → statement M
 detach-spec =

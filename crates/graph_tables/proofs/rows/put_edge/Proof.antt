@@ -6,15 +6,6 @@ use borrow.Author.Needs.{needs}
 use Rattle.graph_tables.proofs.rows.put_edge.Statement.{statement}
 use Rattle.graph_tables.proofs.rows.put_edge.Tie as tie
 
-slice-write-edges-2 : tie.Need-slice-write-edges-2
-slice-write-edges-2 c = simp length-set (omega arith)
-
-slice-write-edges-3 : tie.Need-slice-write-edges-3
-slice-write-edges-3 c = simp length-set (omega arith)
-
-slice-write-edges-4 : tie.Need-slice-write-edges-4
-slice-write-edges-4 c = simp length-set (omega arith)
-
 returns : tie.Need-returns
 returns c =
     let s = c .before .before .before in
@@ -23,22 +14,6 @@ returns c =
 pub put-edge-spec : {M : Type 1} → statement M
 put-edge-spec =
     tie.close
-    (tie.spec
-    (λ c κs. search needs)
-    (λ c κs. search needs)
-    (λ c. search needs)
-    (λ c. search needs)
-    (λ c. search needs)
-    (λ c. search needs)
-    (λ c. search needs)
-    (λ c. search needs)
-    (λ c. search needs)
-    slice-write-edges-2
-    (λ c. search needs)
-    (λ c. search needs)
-    slice-write-edges-3
-    (λ c. search needs)
-    (λ c. search needs)
-    slice-write-edges-4
-    (λ c. search needs)
-    returns)
+    (tie.spec (λ c κs. search needs) (λ c κs. search needs) (λ c. search needs) (λ c. search needs) (λ c. search needs) (λ c. search needs) (λ c. search needs)
+    (λ c. search needs) (λ c. search needs) (λ c. simp length-set (omega arith)) (λ c. search needs) (λ c. search needs) (λ c. simp length-set (omega arith))
+    (λ c. search needs) (λ c. search needs) (λ c. simp length-set (omega arith)) (λ c. search needs) returns)

@@ -7,9 +7,6 @@ use borrow.Author.Needs.{needs}
 use Rattle.graph_tables.proofs.rows.put_ends.Statement.{statement}
 use Rattle.graph_tables.proofs.rows.put_ends.Tie as tie
 
-slice-write-vertices-2 : tie.Need-slice-write-vertices-2
-slice-write-vertices-2 c = simp length-set (omega arith)
-
 returns : tie.Need-returns
 unfolding putEnds
 returns c = refl
@@ -17,14 +14,5 @@ returns c = refl
 pub put-ends-spec : {M : Type 1} → statement M
 put-ends-spec =
     tie.close
-    (tie.spec
-    (λ c. search needs)
-    (λ c. search needs)
-    (λ c. search needs)
-    (λ c. search needs)
-    (λ c. search needs)
-    (λ c. search needs)
-    (λ c. search needs)
-    slice-write-vertices-2
-    (λ c. search needs)
-    returns)
+    (tie.spec (λ c. search needs) (λ c. search needs) (λ c. search needs) (λ c. search needs) (λ c. search needs) (λ c. search needs) (λ c. search needs)
+    (λ c. simp length-set (omega arith)) (λ c. search needs) returns)

@@ -8,15 +8,6 @@ use borrow.Author.Needs.{needs}
 use Rattle.graph_tables.proofs.rows.put_fields.Statement.{statement}
 use Rattle.graph_tables.proofs.rows.put_fields.Tie as tie
 
-slice-write-edges-2 : tie.Need-slice-write-edges-2
-slice-write-edges-2 c = simp length-set (omega arith)
-
-slice-write-edges-3 : tie.Need-slice-write-edges-3
-slice-write-edges-3 c = simp length-set (omega arith)
-
-slice-write-edges-4 : tie.Need-slice-write-edges-4
-slice-write-edges-4 c = simp length-set (omega arith)
-
 returns : tie.Need-returns
 returns c =
     let a = c .args in
@@ -25,20 +16,6 @@ returns c =
 pub put-fields-spec : {M : Type 1} → statement M
 put-fields-spec =
     tie.close
-    (tie.spec
-    (λ c. search needs)
-    (λ c. search needs)
-    (λ c. search needs)
-    (λ c. search needs)
-    (λ c. search needs)
-    (λ c. search needs)
-    (λ c. search needs)
-    slice-write-edges-2
-    (λ c. search needs)
-    (λ c. search needs)
-    slice-write-edges-3
-    (λ c. search needs)
-    (λ c. search needs)
-    slice-write-edges-4
-    (λ c. search needs)
-    returns)
+    (tie.spec (λ c. search needs) (λ c. search needs) (λ c. search needs) (λ c. search needs) (λ c. search needs) (λ c. search needs) (λ c. search needs)
+    (λ c. simp length-set (omega arith)) (λ c. search needs) (λ c. search needs) (λ c. simp length-set (omega arith)) (λ c. search needs) (λ c. search needs)
+    (λ c. simp length-set (omega arith)) (λ c. search needs) returns)

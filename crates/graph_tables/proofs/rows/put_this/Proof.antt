@@ -7,9 +7,6 @@ use borrow.Author.Needs.{needs}
 use Rattle.graph_tables.proofs.rows.put_this.Statement.{statement}
 use Rattle.graph_tables.proofs.rows.put_this.Tie as tie
 
-slice-write-edges-2 : tie.Need-slice-write-edges-2
-slice-write-edges-2 c = simp length-set (omega arith)
-
 returns : tie.Need-returns
 unfolding thisET
 returns c = refl
@@ -17,18 +14,5 @@ returns c = refl
 pub put-this-spec : {M : Type 1} → statement M
 put-this-spec =
     tie.close
-    (tie.spec
-    (λ c. search needs)
-    (λ c. search needs)
-    (λ c. search needs)
-    (λ c. search needs)
-    (λ c. search needs)
-    (λ c. search needs)
-    (λ c. search needs)
-    (λ c. search needs)
-    (λ c. search needs)
-    (λ c. search needs)
-    (λ c. search needs)
-    slice-write-edges-2
-    (λ c. search needs)
-    returns)
+    (tie.spec (λ c. search needs) (λ c. search needs) (λ c. search needs) (λ c. search needs) (λ c. search needs) (λ c. search needs) (λ c. search needs)
+    (λ c. search needs) (λ c. search needs) (λ c. search needs) (λ c. search needs) (λ c. simp length-set (omega arith)) (λ c. search needs) returns)

@@ -7,12 +7,6 @@ use borrow.Author.Needs.{needs}
 use Rattle.graph_tables.proofs.rows.put_vertex.Statement.{statement}
 use Rattle.graph_tables.proofs.rows.put_vertex.Tie as tie
 
-slice-write-vertices-2 : tie.Need-slice-write-vertices-2
-slice-write-vertices-2 c = simp length-set (omega arith)
-
-slice-write-vertices-3 : tie.Need-slice-write-vertices-3
-slice-write-vertices-3 c = simp length-set (omega arith)
-
 returns : tie.Need-returns
 unfolding rowVT
 returns c = refl
@@ -20,17 +14,5 @@ returns c = refl
 pub put-vertex-spec : {M : Type 1} → statement M
 put-vertex-spec =
     tie.close
-    (tie.spec
-    (λ c. search needs)
-    (λ c. search needs)
-    (λ c. search needs)
-    (λ c. search needs)
-    (λ c. search needs)
-    (λ c. search needs)
-    (λ c. search needs)
-    slice-write-vertices-2
-    (λ c. search needs)
-    (λ c. search needs)
-    slice-write-vertices-3
-    (λ c. search needs)
-    returns)
+    (tie.spec (λ c. search needs) (λ c. search needs) (λ c. search needs) (λ c. search needs) (λ c. search needs) (λ c. search needs) (λ c. search needs)
+    (λ c. simp length-set (omega arith)) (λ c. search needs) (λ c. search needs) (λ c. simp length-set (omega arith)) (λ c. search needs) returns)

@@ -13,7 +13,8 @@ insert-after-requires c κs =
 returns : tie.Need-returns
 returns c =
     let s = c .before .before .before .before .before .before .before .before .before in
-    moved (s .args .layout) (s .args .n) (s .args .p) (s .args .table .now) (s .args .ends) (c .before .before .before .before .before .before .unlink .ensures) (c .before .before .insert-after .ensures)
+    moved (s .args .layout) (s .args .n) (s .args .p) (s .args .table .now) (s .args .ends) (c .before .before .before .before .before .before .unlink .ensures)
+    (c .before .before .insert-after .ensures)
 
 pub relink-spec : {M : Type 1} → statement M
 relink-spec = tie.close (tie.spec (λ c κs. search needs) insert-after-requires (λ c. search needs) returns)

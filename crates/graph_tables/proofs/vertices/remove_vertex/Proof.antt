@@ -7,7 +7,8 @@ use Rattle.graph_tables.proofs.vertices.remove_vertex.Tie as tie
 returns : tie.Need-returns
 returns c =
     let s = c .before .before .before .before .before .before .before .before .before .before .before in
-    vertex-removed (s .args .head) (s .args .vertices .now) (s .args .edges .now) (s .args .n) (c .before .before .before .before .before .before .before .unlink .ensures) (c .before .before .before .put-vertex .ensures)
+    vertex-removed (s .args .head) (s .args .vertices .now) (s .args .edges .now) (s .args .n) (c .before .before .before .before .before .before .before .unlink .ensures)
+    (c .before .before .before .put-vertex .ensures)
 
 pub remove-vertex-spec : {M : Type 1} → statement M
 remove-vertex-spec =

@@ -47,7 +47,8 @@ returns-2 c =
     let x = c .before .read in
     let four : a .size ≡ 4 = omega (arith, s .pre .0, c .before .before .before .before .before .before .before .if1 .left) in
     let degree = degree-at (a .deg .now) (a .part .now) (l .at) (w .result) (g .result) (d .result) (w .ensures .0) (g .ensures) (d .ensures) in
-    degree-stop (a .count) (l .i) (a .part .now) 6 (l .at) (omega (arith, c .before .before .before .before .before .loop-test)) (a .size) four (a .deg .now) (d .result) (x .result) degree (x .ensures) (c .if2 .taken)
+    degree-stop (a .count) (l .i) (a .part .now) 6 (l .at) (omega (arith, c .before .before .before .before .before .loop-test)) (a .size) four (a .deg .now) (d .result) (x .result) degree
+    (x .ensures) (c .if2 .taken)
     ∙ l .inv .2
 
 loop-again : tie.Need-loop-again Inv-loop μ-loop
@@ -63,7 +64,8 @@ loop-again c =
     let degree = degree-at (a .deg .now) (a .part .now) (l .at) (w .result) (g .result) (d .result) (w .ensures .0) (g .ensures) (d .ensures) in (
       omega (arith, c .before .before .before .before .before .loop-test),
       omega (arith, l .inv .1, s .pre .0),
-      degree-go (a .count) (l .i) (a .part .now) 6 (l .at) (omega (arith, c .before .before .before .before .before .loop-test)) (a .size) four (a .deg .now) (d .result) (x .result) degree (x .ensures) (c .if2 .left)
+      degree-go (a .count) (l .i) (a .part .now) 6 (l .at) (omega (arith, c .before .before .before .before .before .loop-test)) (a .size) four (a .deg .now) (d .result) (x .result) degree
+          (x .ensures) (c .if2 .left)
           ∙ l .inv .2,
       row-next (a .count) (l .i) (a .part .now) 6 (l .at) (omega (arith, c .before .before .before .before .before .loop-test)) (a .size) (length (a .part .now)) (l .inv .3),
     )
@@ -77,22 +79,8 @@ returns-3 c =
 pub degrees-spec : {M : Type 1} → statement M
 degrees-spec =
     tie.close
-    (tie.spec
-    Inv-loop
-    μ-loop
-    returns
-    loop-holds
+    (tie.spec Inv-loop μ-loop returns loop-holds
     (λ c κs. omega (arith, row c))
-    (λ c κs. search needs)
-    (λ c κs. search needs)
-    (λ c. omega arith)
+    (λ c κs. search needs) (λ c κs. search needs) (λ c. omega arith)
     (λ c κs. omega (arith, row (c .before .before .before)))
-    (λ c. omega arith)
-    (λ c. omega arith)
-    (λ c. omega arith)
-    returns-2
-    (λ c. omega arith)
-    (λ c. omega arith)
-    (λ c. omega arith)
-    loop-again
-    returns-3)
+    (λ c. omega arith) (λ c. omega arith) (λ c. omega arith) returns-2 (λ c. omega arith) (λ c. omega arith) (λ c. omega arith) loop-again returns-3)

@@ -24,13 +24,5 @@ returns c =
 pub edge-enter-spec : {M : Type 1} → statement M
 edge-enter-spec =
     tie.close
-    (tie.spec
-    (λ c κs. omega arith)
-    (λ c. omega arith)
-    (λ c κs. omega arith)
-    (λ c. omega arith)
-    (λ c κs. omega arith)
-    enter-requires
-    (λ c. search needs)
-    (λ c. search needs)
-    returns)
+    (tie.spec (λ c κs. omega arith) (λ c. omega arith) (λ c κs. omega arith) (λ c. omega arith) (λ c κs. omega arith) enter-requires (λ c. search needs)
+    (λ c. search needs) returns)

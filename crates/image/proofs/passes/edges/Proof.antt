@@ -68,7 +68,8 @@ loop-again c =
       omega (arith, e .kept),
       subst (λ (d : List ℕ). NoneAbove (1 + (l .at + 6)) d) (sym (e .ensures .0)) (below-ends (l .at) (l .deg) _ _ (l .inv .4)),
       rw (e .ensures .0, e .ensures .1)
-          (edge-go (a .count) (l .i) (a .part .now) (a .from) (l .at) (omega arith) (a .cap) (a .types) (l .deg) (l .own) (g .result) (g .ensures) (c .before .before .before .before .before .before .before .if1 .left) ∙ l .inv .5),
+          (edge-go (a .count) (l .i) (a .part .now) (a .from) (l .at) (omega arith) (a .cap) (a .types) (l .deg) (l .own) (g .result) (g .ensures)
+          (c .before .before .before .before .before .before .before .if1 .left) ∙ l .inv .5),
       rw (e .ensures .0) (degrees-go (a .count) (l .i) (a .part .now) (a .from) (l .at) (omega arith) (l .deg) ∙ l .inv .6),
       rw (e .ensures .1) (owners-go (a .count) (l .i) (a .part .now) (a .from) (l .at) (omega arith) (l .own) ∙ l .inv .7),
     )
@@ -83,22 +84,5 @@ returns-2 c =
 pub edges-spec : {M : Type 1} → statement M
 edges-spec =
     tie.close
-    (tie.spec
-    Inv-loop
-    μ-loop
-    loop-holds
-    edge-good-requires
-    (λ c. omega arith)
-    (λ c. omega arith)
-    (λ c. omega arith)
-    (λ c. search needs)
-    (λ c. search needs)
-    returns
-    edge-enter-requires
-    (λ c. omega arith)
-    (λ c. omega arith)
-    (λ c. omega arith)
-    loop-again
-    (λ c. search needs)
-    (λ c. search needs)
-    returns-2)
+    (tie.spec Inv-loop μ-loop loop-holds edge-good-requires (λ c. omega arith) (λ c. omega arith) (λ c. omega arith) (λ c. search needs) (λ c. search needs)
+    returns edge-enter-requires (λ c. omega arith) (λ c. omega arith) (λ c. omega arith) loop-again (λ c. search needs) (λ c. search needs) returns-2)

@@ -27,7 +27,13 @@ write-requires : tie.Need-write-requires
 write-requires c κs = omega (arith, c .before .wide3 .ensures .0, c .before .before .before .before .before .before .before .before .before .before .before .before .before .before .pre .0)
 
 write-requires-2 : tie.Need-write-requires-2
-write-requires-2 c κs = omega (arith, c .before .before .before .before .before .wide3 .ensures .0, c .before .before .before .before .before .before .before .before .before .before .before .before .before .before .before .before .before .before .pre .0, c .before .before .before .write .kept)
+write-requires-2 c κs =
+    omega (
+      arith,
+      c .before .before .before .before .before .wide3 .ensures .0,
+      c .before .before .before .before .before .before .before .before .before .before .before .before .before .before .before .before .before .before .pre .0,
+      c .before .before .before .write .kept,
+    )
 
 returns : tie.Need-returns
 returns c =
@@ -46,16 +52,5 @@ returns c =
 pub enter-spec : {M : Type 1} → statement M
 enter-spec =
     tie.close
-    (tie.spec
-    (λ c κs. search needs)
-    bump-requires
-    (λ c κs. search needs)
-    bump-requires-2
-    (λ c κs. search needs)
-    (λ c. search needs)
-    write-requires
-    (λ c. search needs)
-    write-requires-2
-    (λ c. search needs)
-    (λ c. search needs)
-    returns)
+    (tie.spec (λ c κs. search needs) bump-requires (λ c κs. search needs) bump-requires-2 (λ c κs. search needs) (λ c. search needs) write-requires
+    (λ c. search needs) write-requires-2 (λ c. search needs) (λ c. search needs) returns)

@@ -43,7 +43,15 @@ add-t21 c =
     let f = c .before .before .before .list in
     let e = list-le (v .result) (d .result) (l .own) (drop (l .at) (a .part .now)) in
     let m = length-drop (l .at) (a .part .now) in
-    omega (arith, f .ensures .0, e .1, m, l .inv .2, c .before .before .before .before .before .before .before .before .before .before .before .before .before .before .before .pre .2, c .before .before .before .before .before .before .before .before .before .before .before .before .before .before .before .pre .3)
+    omega (
+      arith,
+      f .ensures .0,
+      e .1,
+      m,
+      l .inv .2,
+      c .before .before .before .before .before .before .before .before .before .before .before .before .before .before .before .pre .2,
+      c .before .before .before .before .before .before .before .before .before .before .before .before .before .before .before .pre .3,
+    )
 
 returns : tie.Need-returns Inv-loop μ-loop
 returns c =
@@ -56,7 +64,8 @@ returns c =
     let f = c .before .before .before .list in
     let deg = degree-by (a .deg .now) (a .vs .now) (l .row) (v .result) (w .result) (x .result) (d .result) (v .ensures) (w .ensures .0) (x .ensures) (d .ensures) in
     let good = list-by (l .own) (a .vs .now) (drop (l .at) (a .part .now)) (l .row) (v .result) (d .result) (f .result) (v .ensures) (f .ensures .0) in
-    incidence-stop (a .size) (a .deg .now) (l .own) (a .count) (l .i) (a .vs .now) (a .part .now) (a .from) (l .row) (l .at) (d .result) (f .result) (omega (arith, c .before .before .before .before .before .before .before .before .before .loop-test)) deg good (c .if1 .taken)
+    incidence-stop (a .size) (a .deg .now) (l .own) (a .count) (l .i) (a .vs .now) (a .part .now) (a .from) (l .row) (l .at) (d .result) (f .result)
+    (omega (arith, c .before .before .before .before .before .before .before .before .before .loop-test)) deg good (c .if1 .taken)
     ∙ l .inv .4
 
 -- where the whole list is there, it is within the part
@@ -71,7 +80,16 @@ add-at c =
     let f = c .before .before .before .before .list in
     let e = list-le (v .result) (d .result) (l .own) (drop (l .at) (a .part .now)) in
     let m = length-drop (l .at) (a .part .now) in
-    omega (arith, f .ensures .0, e .1, m, l .inv .2, c .before .before .before .before .before .before .before .before .before .before .before .before .before .before .before .before .pre .2, c .before .if1 .left, c .wide2 .ensures .0)
+    omega (
+      arith,
+      f .ensures .0,
+      e .1,
+      m,
+      l .inv .2,
+      c .before .before .before .before .before .before .before .before .before .before .before .before .before .before .before .before .pre .2,
+      c .before .if1 .left,
+      c .wide2 .ensures .0,
+    )
 
 loop-again : tie.Need-loop-again Inv-loop μ-loop
 loop-again c =
@@ -90,7 +108,8 @@ loop-again c =
     let u = c .wide2 in
     let full : f .result ≡ d .result = omega (arith, f .ensures .0, e .0, c .before .if1 .left) in
     let turn = c .before .before .before .before .before .before .before .before .before .before .loop-test in
-    let go = incidence-go (a .size) (a .deg .now) (l .own) (a .count) (l .i) (a .vs .now) (a .part .now) (a .from) (l .row) (l .at) (d .result) (f .result) (omega (arith, turn)) deg good (c .before .if1 .left) in (
+    let go = incidence-go (a .size) (a .deg .now) (l .own) (a .count) (l .i) (a .vs .now) (a .part .now) (a .from) (l .row) (l .at) (d .result) (f .result) (omega (arith, turn)) deg good
+    (c .before .if1 .left) in (
       omega (arith, turn),
       omega (arith, l .inv .1, p .0),
       omega (arith, f .ensures .0, e .1, m, l .inv .2, full, u .ensures .0),
@@ -114,29 +133,6 @@ returns-3 c =
 pub incidences-spec : {M : Type 1} → statement M
 incidences-spec =
     tie.close
-    (tie.spec
-    Inv-loop
-    μ-loop
-    loop-holds
-    read-requires
-    (λ c κs. search needs)
-    (λ c κs. search needs)
-    (λ c κs. search needs)
-    (λ c κs. search needs)
-    (λ c. omega arith)
-    (λ c. omega arith)
-    add-t21
-    (λ c. search needs)
-    returns
-    (λ c κs. search needs)
-    add-at
-    (λ c. omega arith)
-    (λ c. omega arith)
-    (λ c. omega arith)
-    loop-again
-    (λ c. omega arith)
-    (λ c. omega arith)
-    (λ c. search needs)
-    returns-2
-    (λ c. search needs)
-    returns-3)
+    (tie.spec Inv-loop μ-loop loop-holds read-requires (λ c κs. search needs) (λ c κs. search needs) (λ c κs. search needs) (λ c κs. search needs)
+    (λ c. omega arith) (λ c. omega arith) add-t21 (λ c. search needs) returns (λ c κs. search needs) add-at (λ c. omega arith) (λ c. omega arith)
+    (λ c. omega arith) loop-again (λ c. omega arith) (λ c. omega arith) (λ c. search needs) returns-2 (λ c. search needs) returns-3)

@@ -37,7 +37,11 @@ returns c =
     let g = c .before .get in
     let t = c .before .before .before .before .loop-test .taken in
     let o = own-by (l .own) (a .part .now) (l .i) (w .result) (g .result) (w .ensures .0) (g .ensures) in (
-      omega (arith, list-miss (a .v) (a .d) (l .k) (l .i) (l .own) (a .part .now) (omega (arith, m .ensures .0, t)) (omega (arith, m .ensures .1, l .inv .1, t, c .before .before .before .before .before .before .before .before .before .pre)) (λ y. c .if1 .taken (sym o ∙ y))),
+      omega (
+        arith,
+        list-miss (a .v) (a .d) (l .k) (l .i) (l .own) (a .part .now) (omega (arith, m .ensures .0, t))
+            (omega (arith, m .ensures .1, l .inv .1, t, c .before .before .before .before .before .before .before .before .before .pre)) (λ y. c .if1 .taken (sym o ∙ y)),
+      ),
       λ e. absurd (omega (arith, m .ensures .0, t)),
     )
 
@@ -52,12 +56,14 @@ loop-again c =
     let t = c .before .before .before .before .before .before .before .before .loop-test .taken in
     let y = own-by (l .own) (a .part .now) (l .i) (w .result) (g .result) (w .ensures .0) (g .ensures) ∙ c .before .before .before .before .if1 .left in
     let o = put-by (l .own) (a .part .now) (p .last .0) (l .i) (w .result) (w .result) 0 (w .ensures .0) refl (p .ensures) in
-    let r = list-hit (a .v) (a .d) (l .k) (l .i) (l .own) (a .part .now) (omega (arith, m .ensures .0, t)) (omega (arith, m .ensures .1, l .inv .1, t, c .before .before .before .before .before .before .before .before .before .before .before .before .before .pre)) y in (
+    let r = list-hit (a .v) (a .d) (l .k) (l .i) (l .own) (a .part .now) (omega (arith, m .ensures .0, t))
+    (omega (arith, m .ensures .1, l .inv .1, t, c .before .before .before .before .before .before .before .before .before .before .before .before .before .pre)) y in (
       omega arith,
       omega arith,
       omega (arith, p .kept),
       rw o (omega (arith, r, l .inv .3)),
-      rw o (sym (list-owners (a .v) (a .d) (l .k) (l .i) (l .own) (a .part .now) (omega (arith, m .ensures .0, t)) (omega (arith, m .ensures .1, l .inv .1, t, c .before .before .before .before .before .before .before .before .before .before .before .before .before .pre))) ∙ l .inv .4),
+      rw o (sym (list-owners (a .v) (a .d) (l .k) (l .i) (l .own) (a .part .now) (omega (arith, m .ensures .0, t))
+          (omega (arith, m .ensures .1, l .inv .1, t, c .before .before .before .before .before .before .before .before .before .before .before .before .before .pre))) ∙ l .inv .4),
     )
 
 returns-2 : tie.Need-returns-2 Inv-loop μ-loop
@@ -65,26 +71,12 @@ returns-2 c =
     let a = c .before .before .before .before .before .args in
     let m = c .before .before .fewer in
     let l = c .before .loop in
-    let e = list-over (a .v) (a .d) (l .k) (l .i) (l .own) (a .part .now) (omega (arith, m .ensures .0, l .inv .0)) (λ h. omega (arith, m .ensures .2 (omega (arith, h, l .inv .0, c .loop-test .left)), l .inv .0, l .inv .1, c .loop-test .left)) in
+    let e = list-over (a .v) (a .d) (l .k) (l .i) (l .own) (a .part .now) (omega (arith, m .ensures .0, l .inv .0))
+    (λ h. omega (arith, m .ensures .2 (omega (arith, h, l .inv .0, c .loop-test .left)), l .inv .0, l .inv .1, c .loop-test .left)) in
     (omega (arith, e .0, l .inv .3), λ q. sym (e .1 (omega (arith, q))) ∙ l .inv .4)
 
 pub list-spec : {M : Type 1} → statement M
 list-spec =
     tie.close
-    (tie.spec
-    Inv-loop
-    μ-loop
-    (λ c. search needs)
-    (λ c κs. search needs)
-    loop-holds
-    index-requires
-    (λ c κs. search needs)
-    (λ c. search needs)
-    returns
-    (λ c κs. search needs)
-    (λ c. omega arith)
-    (λ c. omega arith)
-    (λ c. omega arith)
-    loop-again
-    (λ c. search needs)
-    returns-2)
+    (tie.spec Inv-loop μ-loop (λ c. search needs) (λ c κs. search needs) loop-holds index-requires (λ c κs. search needs) (λ c. search needs) returns
+    (λ c κs. search needs) (λ c. omega arith) (λ c. omega arith) (λ c. omega arith) loop-again (λ c. search needs) returns-2)

@@ -12,15 +12,33 @@ returns c = simp (sym (c .before .numbered .ensures), not-true (c .before .numbe
 
 returns-2 : tie.Need-returns-2
 unfolding goodVertex
-returns-2 c = simp (sym (c .before .before .numbered .ensures), not-false (c .before .before .numbered .result) (c .before .if1 .left), not-true (c .before .before .before .args .fresh) (c .if2 .taken))
+returns-2 c =
+    simp (
+      sym (c .before .before .numbered .ensures),
+      not-false (c .before .before .numbered .result) (c .before .if1 .left),
+      not-true (c .before .before .before .args .fresh)
+          (c .if2 .taken),
+    )
 
 returns-3 : tie.Need-returns-3
 unfolding goodVertex
-returns-3 c = simp (sym (c .before .before .before .numbered .ensures), not-false (c .before .before .before .numbered .result) (c .before .before .if1 .left), not-false (c .before .before .before .before .args .fresh) (c .before .if2 .left), lt-ltb _ _ (c .if3 .taken))
+returns-3 c =
+    simp (
+      sym (c .before .before .before .numbered .ensures),
+      not-false (c .before .before .before .numbered .result) (c .before .before .if1 .left),
+      not-false (c .before .before .before .before .args .fresh) (c .before .if2 .left),
+      lt-ltb _ _ (c .if3 .taken),
+    )
 
 returns-4 : tie.Need-returns-4
 unfolding goodVertex
-returns-4 c = simp (sym (c .before .before .before .numbered .ensures), not-false (c .before .before .before .numbered .result) (c .before .before .if1 .left), not-false (c .before .before .before .before .args .fresh) (c .before .if2 .left), le-ltb _ _ (c .if3 .left))
+returns-4 c =
+    simp (
+      sym (c .before .before .before .numbered .ensures),
+      not-false (c .before .before .before .numbered .result) (c .before .before .if1 .left),
+      not-false (c .before .before .before .before .args .fresh) (c .before .if2 .left),
+      le-ltb _ _ (c .if3 .left),
+    )
 
 pub good-vertex-spec : {M : Type 1} → statement M
 good-vertex-spec = tie.close (tie.spec (λ c κs. search needs) returns returns-2 returns-3 returns-4)

@@ -31,22 +31,19 @@ loop-holds c =
     let k = given (s .args .words .now) (s .args .vertices .now) (s .args .edges .now) (s .pre .0) in (
       refl,
       refl,
-      fill-start (λ x. x ∷ []) (WCore (load (s .args .words .now))) (concatMap incidencesOf (load (s .args .words .now) .vseq)) (c .part .result .now) (state (s .args .head) (s .args .vertices .now) (s .args .edges .now)) (c .part .ensures .0 ∙ k .lists ∙ sym (each-one _)) (s .pre .1),
+      fill-start (λ x. x ∷ []) (WCore (load (s .args .words .now))) (concatMap incidencesOf (load (s .args .words .now) .vseq)) (c .part .result .now)
+          (state (s .args .head) (s .args .vertices .now) (s .args .edges .now)) (c .part .ensures .0 ∙ k .lists ∙ sym (each-one _)) (s .pre .1),
     )
 
 -- what is known in a turn
 turn : (c : tie.In-loop Inv-loop μ-loop) → let s = c .before .before .before .before .before .before in let l = c .before .loop in
-    Turn (λ x. x ∷ []) (WCore (load (s .args .words .now))) (concatMap incidencesOf (load (s .args .words .now) .vseq)) (c .before .before .part .result .now) (state (s .args .head) (l .vertices) (l .edges)) (l .at)
+    Turn (λ x. x ∷ []) (WCore (load (s .args .words .now))) (concatMap incidencesOf (load (s .args .words .now) .vseq)) (c .before .before .part .result .now)
+    (state (s .args .head) (l .vertices) (l .edges)) (l .at)
 turn c =
     let s = c .before .before .before .before .before .before in
     let l = c .before .loop in
-    fill-turn (λ x. x ∷ []) (WCore (load (s .args .words .now))) (concatMap incidencesOf (load (s .args .words .now) .vseq)) (c .before .before .part .result .now) (state (s .args .head) (l .vertices) (l .edges)) (l .at) (l .inv .2) (c .loop-test .taken)
-
-mul-word : tie.Need-mul-word Inv-loop μ-loop
-mul-word c = omega (arith, c .before .before .loop-test .taken)
-
-shared-slice-read-word : tie.Need-shared-slice-read-word Inv-loop μ-loop
-shared-slice-read-word c = omega (arith, c .before .before .before .loop-test .taken)
+    fill-turn (λ x. x ∷ []) (WCore (load (s .args .words .now))) (concatMap incidencesOf (load (s .args .words .now) .vseq)) (c .before .before .part .result .now)
+    (state (s .args .head) (l .vertices) (l .edges)) (l .at) (l .inv .2) (c .loop-test .taken)
 
 word-requires : tie.Need-word-requires Inv-loop μ-loop
 word-requires c κs =
@@ -69,7 +66,8 @@ loop-again c =
     let l = d .before .loop in (
       omega (arith, e .word .kept, l .inv .0),
       omega (arith, e .word .kept, l .inv .1),
-      turn-next (s .args .words .now) (s .args .vertices .now) (s .args .edges .now) (s .pre .0) (d .before .before .part .result .now) (state (s .args .head) (l .vertices) (l .edges)) (l .at) (turn d) _ (e .word .ensures),
+      turn-next (s .args .words .now) (s .args .vertices .now) (s .args .edges .now) (s .pre .0) (d .before .before .part .result .now) (state (s .args .head) (l .vertices) (l .edges))
+          (l .at) (turn d) _ (e .word .ensures),
     )
 
 returns : tie.Need-returns Inv-loop μ-loop
@@ -77,23 +75,14 @@ returns c =
     let s = c .before .before .before .before .before .before in
     let l = c .before .loop in
     let g = load (s .args .words .now) in
-    subst (λ (vs : List Vertex). Core (state (s .args .head) (l .vertices) (l .edges)) vs (g .eseq)) (filled-all g (given (s .args .words .now) (s .args .vertices .now) (s .args .edges .now) (s .pre .0) .formed))
-    (fill-end (λ x. x ∷ []) (WCore (load (s .args .words .now))) (concatMap incidencesOf (load (s .args .words .now) .vseq)) (c .before .before .part .result .now) (state (s .args .head) (l .vertices) (l .edges)) (l .at) (λ x. omega arith) (l .inv .2) (c .loop-test .left))
+    subst (λ (vs : List Vertex). Core (state (s .args .head) (l .vertices) (l .edges)) vs (g .eseq))
+    (filled-all g (given (s .args .words .now) (s .args .vertices .now) (s .args .edges .now) (s .pre .0) .formed))
+    (fill-end (λ x. x ∷ []) (WCore (load (s .args .words .now))) (concatMap incidencesOf (load (s .args .words .now) .vseq)) (c .before .before .part .result .now)
+    (state (s .args .head) (l .vertices) (l .edges)) (l .at) (λ x. omega arith) (l .inv .2) (c .loop-test .left))
 
 pub lists-spec : {M : Type 1} → statement M
 lists-spec =
     tie.close
-    (tie.spec
-    Inv-loop
-    μ-loop
-    (λ c κs. search needs)
-    loop-holds
-    mul-word
-    shared-slice-read-word
-    word-requires
-    add-at
-    loop-less
-    loop-again
-    (λ c. search needs)
-    (λ c. search needs)
-    returns)
+    (tie.spec Inv-loop μ-loop (λ c κs. search needs) loop-holds (λ c. omega (arith, c .before .before .loop-test .taken)) (λ c. omega (arith, c .before .before .before .loop-test .taken))
+    word-requires add-at loop-less loop-again (λ c. search needs)
+    (λ c. search needs) returns)

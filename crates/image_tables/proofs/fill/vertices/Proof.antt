@@ -30,11 +30,13 @@ loop-holds c =
 
 -- what is known in a turn
 turn : (c : tie.In-loop Inv-loop μ-loop) → let s = c .before .before .before .before .before .before .before in let l = c .before .loop in
-    Turn (vertexRecord (recordSize (s .args .words .now))) VCore (load (s .args .words .now) .vseq) (c .before .before .before .part .result .now) (state (l .h) (l .vertices) (s .args .edges .now)) (l .at)
+    Turn (vertexRecord (recordSize (s .args .words .now))) VCore (load (s .args .words .now) .vseq) (c .before .before .before .part .result .now)
+    (state (l .h) (l .vertices) (s .args .edges .now)) (l .at)
 turn c =
     let s = c .before .before .before .before .before .before .before in
     let l = c .before .loop in
-    fill-turn (vertexRecord (recordSize (s .args .words .now))) VCore (load (s .args .words .now) .vseq) (c .before .before .before .part .result .now) (state (l .h) (l .vertices) (s .args .edges .now)) (l .at) (l .inv .1) (c .loop-test .taken)
+    fill-turn (vertexRecord (recordSize (s .args .words .now))) VCore (load (s .args .words .now) .vseq) (c .before .before .before .part .result .now)
+    (state (l .h) (l .vertices) (s .args .edges .now)) (l .at) (l .inv .1) (c .loop-test .taken)
 
 -- the record, of the size that was read
 can : (c : tie.In-loop Inv-loop μ-loop) → let s = c .before .before .before .before .before .before .before in let l = c .before .loop in let part = c .before .before .before .part .result .now in
@@ -42,14 +44,12 @@ can : (c : tie.In-loop Inv-loop μ-loop) → let s = c .before .before .before .
 can c =
     let l = c .before .loop in
     let s = c .before .before .before .before .before .before .before in
-    let r = vertex-can (s .args .words .now) (s .args .vertices .now) (s .args .edges .now) (s .pre .0) (c .before .before .before .part .result .now) (l .at) (l .h) (l .vertices) (s .args .edges .now) (l .inv .0) refl (turn c) in
+    let r = vertex-can (s .args .words .now) (s .args .vertices .now) (s .args .edges .now) (s .pre .0) (c .before .before .before .part .result .now) (l .at) (l .h) (l .vertices)
+    (s .args .edges .now) (l .inv .0) refl (turn c) in
     (omega (arith, r .0, c .before .before .record-size .ensures .0), r .1, r .2)
 
 vertex-requires : tie.Need-vertex-requires Inv-loop μ-loop
 vertex-requires c κs = let r = can (c .before) in (r .1, r .2)
-
-add-at : tie.Need-add-at Inv-loop μ-loop
-add-at c = omega (arith, can (c .before .before .before .before) .0)
 
 loop-less : tie.Need-loop-less Inv-loop μ-loop
 loop-less c =
@@ -63,7 +63,8 @@ loop-again c =
     let d = e .before .before in
     let l = d .before .loop in
     let s = d .before .before .before .before .before .before .before in
-    let next = vertex-next (s .args .words .now) (s .args .vertices .now) (s .args .edges .now) (s .pre .0) (d .before .before .before .part .result .now) (l .at) (l .h) (l .vertices) (s .args .edges .now) (l .inv .0) refl (turn d) _ (e .vertex .ensures) in (
+    let next = vertex-next (s .args .words .now) (s .args .vertices .now) (s .args .edges .now) (s .pre .0) (d .before .before .before .part .result .now) (l .at) (l .h) (l .vertices)
+    (s .args .edges .now) (l .inv .0) refl (turn d) _ (e .vertex .ensures) in (
       omega (arith, e .vertex .kept, l .inv .0),
       rw (d .before .before .record-size .ensures .0) next,
     )
@@ -72,20 +73,11 @@ returns : tie.Need-returns Inv-loop μ-loop
 returns c =
     let l = c .before .loop in
     let s = c .before .before .before .before .before .before .before in
-    fill-end (vertexRecord (recordSize (s .args .words .now))) VCore (load (s .args .words .now) .vseq) (c .before .before .before .part .result .now) (state (l .h) (l .vertices) (s .args .edges .now)) (l .at) (λ x. omega arith) (l .inv .1) (c .loop-test .left)
+    fill-end (vertexRecord (recordSize (s .args .words .now))) VCore (load (s .args .words .now) .vseq) (c .before .before .before .part .result .now)
+    (state (l .h) (l .vertices) (s .args .edges .now)) (l .at) (λ x. omega arith) (l .inv .1) (c .loop-test .left)
 
 pub vertices-spec : {M : Type 1} → statement M
 vertices-spec =
     tie.close
-    (tie.spec
-    Inv-loop
-    μ-loop
-    (λ c κs. search needs)
-    (λ c κs. search needs)
-    loop-holds
-    vertex-requires
-    add-at
-    loop-less
-    loop-again
-    (λ c. search needs)
-    returns)
+    (tie.spec Inv-loop μ-loop (λ c κs. search needs) (λ c κs. search needs) loop-holds vertex-requires (λ c. omega (arith, can (c .before .before .before .before) .0)) loop-less loop-again
+    (λ c. search needs) returns)

@@ -14,22 +14,11 @@ returns c =
     let th2 = ty .before in
     let th = th2 .before in
     let a = th .before .before .before .args in
-    six-by (a .out .now) (a .edges .now) (a .at) (a .e) (e1 .three .ensures) (e2 .three2 .ensures) (th .this .ensures) (th2 .this2 .ensures) (ty .edge-type .ensures) (ki .reading-kind .ensures) (de .reading-decimetres .ensures)
+    six-by (a .out .now) (a .edges .now) (a .at) (a .e) (e1 .three .ensures) (e2 .three2 .ensures) (th .this .ensures) (th2 .this2 .ensures) (ty .edge-type .ensures)
+    (ki .reading-kind .ensures) (de .reading-decimetres .ensures)
 
 pub edge-spec : {M : Type 1} → statement M
 edge-spec =
     tie.close
-    (tie.spec
-    (λ c. search needs)
-    (λ c κs. search needs)
-    (λ c. search needs)
-    (λ c. search needs)
-    (λ c κs. search needs)
-    (λ c κs. search needs)
-    (λ c κs. search needs)
-    (λ c κs. search needs)
-    (λ c κs. search needs)
-    (λ c. search needs)
-    (λ c κs. search needs)
-    (λ c. search needs)
-    returns)
+    (tie.spec (λ c. search needs) (λ c κs. search needs) (λ c. search needs) (λ c. search needs) (λ c κs. search needs) (λ c κs. search needs)
+    (λ c κs. search needs) (λ c κs. search needs) (λ c κs. search needs) (λ c. search needs) (λ c κs. search needs) (λ c. search needs) returns)

@@ -22,8 +22,11 @@ next-requires c κs = (valid-e, λ z. absurd (z refl))
 
 loop-holds : tie.Need-loop-holds Inv-loop μ-loop
 loop-holds c =
-    let s = c .before .before .before in
-    (refl, writing-start (edgeWords (s .args .edges .now)) edgeLinks (s .args .edges .now) (edgeListEnds (s .args .head)) (s .args .out .now) (s .args .from) valid-e (s .pre .0) (c .next .result) (c .next .ensures))
+    let s = c .before .before .before in (
+      refl,
+      writing-start (edgeWords (s .args .edges .now)) edgeLinks (s .args .edges .now) (edgeListEnds (s .args .head)) (s .args .out .now) (s .args .from) valid-e (s .pre .0)
+          (c .next .result) (c .next .ensures),
+    )
 
 -- what is known in a turn
 turn : (c : tie.In-loop Inv-loop μ-loop) → let s = c .before .before .before .before .before in let l = c .before .loop in
@@ -31,7 +34,8 @@ turn : (c : tie.In-loop Inv-loop μ-loop) → let s = c .before .before .before 
 turn c =
     let s = c .before .before .before .before .before in
     let l = c .before .loop in
-    writing-turn (edgeWords (s .args .edges .now)) edgeLinks (s .args .edges .now) (edgeListEnds (s .args .head)) (s .args .out .now) (s .args .from) (l .out) (l .at) (l .e) (l .inv .1) (c .loop-test .taken)
+    writing-turn (edgeWords (s .args .edges .now)) edgeLinks (s .args .edges .now) (edgeListEnds (s .args .head)) (s .args .out .now) (s .args .from) (l .out) (l .at) (l .e) (l .inv .1)
+    (c .loop-test .taken)
 
 edge-requires : tie.Need-edge-requires Inv-loop μ-loop
 unfolding edgePartOf
@@ -63,20 +67,10 @@ unfolding edgePartOf
 returns c =
     let s = c .before .before .before .before .before in
     let l = c .before .loop in
-    writing-end (edgeWords (s .args .edges .now)) edgeLinks (s .args .edges .now) (edgeListEnds (s .args .head)) (s .args .out .now) (s .args .from) (l .out) (l .at) (l .e) (l .inv .1) (c .loop-test .left) .0
+    writing-end (edgeWords (s .args .edges .now)) edgeLinks (s .args .edges .now) (edgeListEnds (s .args .head)) (s .args .out .now) (s .args .from) (l .out) (l .at) (l .e) (l .inv .1)
+    (c .loop-test .left) .0
 
 pub edges-spec : {M : Type 1} → statement M
 edges-spec =
     tie.close
-    (tie.spec
-    Inv-loop
-    μ-loop
-    next-requires
-    loop-holds
-    edge-requires
-    add-at
-    next-requires-2
-    loop-less
-    loop-again
-    (λ c. search needs)
-    returns)
+    (tie.spec Inv-loop μ-loop next-requires loop-holds edge-requires add-at next-requires-2 loop-less loop-again (λ c. search needs) returns)

@@ -13,20 +13,14 @@ returns c =
     let second = c .before .before .three2 in
     let words = edgeOffset vertexSize (a .v) ∷ incidenceOffset vertexSize (a .v) (a .e) ∷ imageLength (a .v) (a .e) ∷ [] in
     then-by (a .out .now) 0 3 (a .v ∷ a .e ∷ vertexOffset ∷ []) words (c .before .before .before .before .before .before .three .ensures) refl
-    (rw (c .before .before .before .before .before .before .before .before .before .before .edge-offset .ensures, c .before .before .before .before .before .before .before .before .before .incidence-offset .ensures, c .before .before .before .before .before .before .before .before .length .ensures) at (second .ensures))
+    (rw (
+      c .before .before .before .before .before .before .before .before .before .before .edge-offset .ensures,
+      c .before .before .before .before .before .before .before .before .before .incidence-offset .ensures,
+      c .before .before .before .before .before .before .before .before .length .ensures,
+    ) at (second .ensures))
 
 pub header-spec : {M : Type 1} → statement M
 header-spec =
     tie.close
-    (tie.spec
-    (λ c κs. search needs)
-    (λ c κs. search needs)
-    (λ c κs. search needs)
-    (λ c. search needs)
-    (λ c κs. search needs)
-    (λ c. search needs)
-    (λ c. search needs)
-    (λ c. search needs)
-    (λ c κs. search needs)
-    (λ c. search needs)
-    returns)
+    (tie.spec (λ c κs. search needs) (λ c κs. search needs) (λ c κs. search needs) (λ c. search needs) (λ c κs. search needs) (λ c. search needs)
+    (λ c. search needs) (λ c. search needs) (λ c κs. search needs) (λ c. search needs) returns)

@@ -35,7 +35,8 @@ turn : (c : tie.In-loop Inv-loop μ-loop) → let s = c .before .before .before 
 turn c =
     let s = c .before .before .before .before .before .before .before in
     let l = c .before .loop in
-    writing-turn (λ x. x ∷ []) incidenceLinks (s .args .edges .now) (c .before .before .before .ends-of .result) (s .args .out .now) (s .args .from) (l .out) (l .at) (l .w) (l .inv .1) (c .loop-test .taken)
+    writing-turn (λ x. x ∷ []) incidenceLinks (s .args .edges .now) (c .before .before .before .ends-of .result) (s .args .out .now) (s .args .from) (l .out) (l .at) (l .w) (l .inv .1)
+    (c .loop-test .taken)
 
 -- there is room for the word
 room : (c : tie.In-loop Inv-loop μ-loop) → c .before .loop .at + 1 ≤ length (c .before .loop .out)
@@ -45,15 +46,6 @@ room c =
     let q : length (listWords (s .args .vertices .now) (s .args .edges .now) (s .args .v)) ≡ length (concatMap (λ x. x ∷ []) (nodes incidenceLinks (s .args .edges .now) (e .result))) =
     ap length (sym (each-one _ ∙ ap (nodes incidenceLinks (s .args .edges .now)) (e .ensures))) in
     omega (arith, turn c .room, s .pre .2, q, c .before .loop .inv .0)
-
-mul-out : tie.Need-mul-out Inv-loop μ-loop
-mul-out c = omega (arith, room c)
-
-slice-write-out : tie.Need-slice-write-out Inv-loop μ-loop
-slice-write-out c = omega (arith, room c)
-
-add-at : tie.Need-add-at Inv-loop μ-loop
-add-at c = omega (arith, room c)
 
 next-requires-2 : tie.Need-next-requires-2 Inv-loop μ-loop
 next-requires-2 c κs = (valid-i, turn c .inside)
@@ -71,23 +63,13 @@ returns c =
     let s = c .before .before .before .before .before .before .before in
     let e = c .before .before .before .ends-of in
     let l = c .before .loop in
-    let q : concatMap (λ x. x ∷ []) (nodes incidenceLinks (s .args .edges .now) (e .result)) ≡ listWords (s .args .vertices .now) (s .args .edges .now) (s .args .v) = each-one _ ∙ ap (nodes incidenceLinks (s .args .edges .now)) (e .ensures) in
+    let q : concatMap (λ x. x ∷ []) (nodes incidenceLinks (s .args .edges .now) (e .result)) ≡ listWords (s .args .vertices .now) (s .args .edges .now) (s .args .v) =
+    each-one _ ∙ ap (nodes incidenceLinks (s .args .edges .now)) (e .ensures) in
     rw (← q) (writing-end (λ x. x ∷ []) incidenceLinks (s .args .edges .now) (e .result) (s .args .out .now) (s .args .from) (l .out) (l .at) (l .w) (l .inv .1) (c .loop-test .left))
 
 pub list-spec : {M : Type 1} → statement M
 list-spec =
     tie.close
-    (tie.spec
-    Inv-loop
-    μ-loop
-    (λ c κs. search needs)
-    next-requires
-    loop-holds
-    mul-out
-    slice-write-out
-    add-at
-    next-requires-2
-    loop-less
+    (tie.spec Inv-loop μ-loop (λ c κs. search needs) next-requires loop-holds (λ c. omega (arith, room c)) (λ c. omega (arith, room c)) (λ c. omega (arith, room c)) next-requires-2 loop-less
     loop-again
-    (λ c. search needs)
-    returns)
+    (λ c. search needs) returns)

@@ -23,17 +23,22 @@ next-requires c κs = (valid-v, λ z. absurd (z refl))
 
 loop-holds : tie.Need-loop-holds Inv-loop μ-loop
 loop-holds c =
-    let s = c .before .before .before .before in
-    (refl, pairs-start (vertexWords (s .args .vertices .now) (s .args .edges .now)) (listWords (s .args .vertices .now) (s .args .edges .now)) vertexLinks (s .args .vertices .now) (vertexListEnds (s .args .head)) (s .args .out .now) (s .args .from) (s .args .behind) valid-v (s .pre .0) (c .next .result) (c .next .ensures))
+    let s = c .before .before .before .before in (
+      refl,
+      pairs-start (vertexWords (s .args .vertices .now) (s .args .edges .now)) (listWords (s .args .vertices .now) (s .args .edges .now)) vertexLinks (s .args .vertices .now)
+          (vertexListEnds (s .args .head)) (s .args .out .now) (s .args .from) (s .args .behind) valid-v (s .pre .0) (c .next .result) (c .next .ensures),
+    )
 
 -- what is known in a turn
 turn : (c : tie.In-loop Inv-loop μ-loop) → let s = c .before .before .before .before .before .before in let l = c .before .loop in
-    PairTurn (vertexWords (s .args .vertices .now) (s .args .edges .now)) (listWords (s .args .vertices .now) (s .args .edges .now)) vertexLinks (s .args .vertices .now) (vertexListEnds (s .args .head)) (s .args .out .now) (s .args .from) (s .args .behind) (l .out) (l .at) (l .to) (l .v)
+    PairTurn (vertexWords (s .args .vertices .now) (s .args .edges .now)) (listWords (s .args .vertices .now) (s .args .edges .now)) vertexLinks (s .args .vertices .now)
+    (vertexListEnds (s .args .head)) (s .args .out .now) (s .args .from) (s .args .behind) (l .out) (l .at) (l .to) (l .v)
 unfolding vertexPartOf
 turn c =
     let s = c .before .before .before .before .before .before in
     let l = c .before .loop in
-    pairs-turn (vertexWords (s .args .vertices .now) (s .args .edges .now)) (listWords (s .args .vertices .now) (s .args .edges .now)) vertexLinks (s .args .vertices .now) (vertexListEnds (s .args .head)) (s .args .out .now) (s .args .from) (s .args .behind) (l .out) (l .at) (l .to) (l .v) (s .pre .2) (l .inv .1) (c .loop-test .taken)
+    pairs-turn (vertexWords (s .args .vertices .now) (s .args .edges .now)) (listWords (s .args .vertices .now) (s .args .edges .now)) vertexLinks (s .args .vertices .now)
+    (vertexListEnds (s .args .head)) (s .args .out .now) (s .args .from) (s .args .behind) (l .out) (l .at) (l .to) (l .v) (s .pre .2) (l .inv .1) (c .loop-test .taken)
 
 vertex-requires : tie.Need-vertex-requires Inv-loop μ-loop
 unfolding incidencePartOf
@@ -43,9 +48,6 @@ vertex-requires c κs =
     let l = c .before .before .loop in
     let i = t .inside (c .before .loop-test .taken) in
     ((omega arith, omega arith), s .pre .1 (l .v) (omega arith), t .before, omega (arith, t .room, s .pre .3, l .inv .0), omega (arith, t .few, s .pre .4))
-
-add-at : tie.Need-add-at Inv-loop μ-loop
-add-at c = omega (arith, turn (c .before .before .before .before) .before)
 
 next-requires-2 : tie.Need-next-requires-2 Inv-loop μ-loop
 next-requires-2 c κs = (valid-v, turn (c .before .before .before .before) .inside)
@@ -66,20 +68,11 @@ unfolding vertexPartOf incidencePartOf
 returns c =
     let s = c .before .before .before .before .before .before in
     let l = c .before .loop in
-    pairs-end (vertexWords (s .args .vertices .now) (s .args .edges .now)) (listWords (s .args .vertices .now) (s .args .edges .now)) vertexLinks (s .args .vertices .now) (vertexListEnds (s .args .head)) (s .args .out .now) (s .args .from) (s .args .behind) (l .out) (l .at) (l .to) (l .v) (l .inv .1) (c .loop-test .left)
+    pairs-end (vertexWords (s .args .vertices .now) (s .args .edges .now)) (listWords (s .args .vertices .now) (s .args .edges .now)) vertexLinks (s .args .vertices .now)
+    (vertexListEnds (s .args .head)) (s .args .out .now) (s .args .from) (s .args .behind) (l .out) (l .at) (l .to) (l .v) (l .inv .1) (c .loop-test .left)
 
 pub vertices-spec : {M : Type 1} → statement M
 vertices-spec =
     tie.close
-    (tie.spec
-    Inv-loop
-    μ-loop
-    next-requires
-    loop-holds
-    vertex-requires
-    add-at
-    next-requires-2
-    loop-less
-    loop-again
-    (λ c. search needs)
-    returns)
+    (tie.spec Inv-loop μ-loop next-requires loop-holds vertex-requires (λ c. omega (arith, turn (c .before .before .before .before) .before)) next-requires-2 loop-less loop-again
+    (λ c. search needs) returns)

@@ -45,14 +45,4 @@ returns c = along-end _ _ _ _ _ _ (c .before .loop .inv) (c .loop-test .left)
 pub count-edges-spec : {M : Type 1} → statement M
 count-edges-spec =
     tie.close
-    (tie.spec
-    Inv-loop
-    μ-loop
-    first-word-requires
-    loop-holds
-    counted-requires
-    add-n
-    following-requires
-    loop-less
-    loop-again
-    returns)
+    (tie.spec Inv-loop μ-loop first-word-requires loop-holds counted-requires add-n following-requires loop-less loop-again returns)

@@ -2,7 +2,7 @@
 -- The invariant is what the locals hold: the sum so far and a cursor at a word of the list. The variant is what is left of the list.
 use mathlib.Core.Path.{_≡_, refl, sym, subst, ap, _∙_}
 use mathlib.Core.WellFounded.{WellFounded, InvImage·wf}
-use Prim.Native.Nat.{ℕ, _+_, _≤_, _<_, _^_, _/_}
+use Prim.Native.Nat.{ℕ, _+_, _≤_, _<_, _^_, _/_, _%_}
 use mathlib.Core.Bool.{Bool, true, false, not}
 use mathlib.Core.List.{List, [], _∷_}
 use native.Mathlib.Omega.{arith}
@@ -24,7 +24,8 @@ use contract.Monad.{Fun, fact}
 use contract.Running.{givenOf, tables, tablesOf}
 use types.Kit.{Given, Item, ‵, raw, _⊛_, ⋆, some, later, runs, anyQ, atRet, Sq, _$_, _∵_, !, qed, by, move, drop, rewrite, use1, use2, split, join, pick, fsplit, fjoin, suffices, frame, await, done}
 use types.Part.{whole, sub, look-in}
-use types.Run.{look, store, init, forget, stop, fld, from, load, lit, of-opd, bin, and-then, no-more, assigns, first as head, skips, jumps, blocks, branches, land, land-last, returns, enter, alloc1, alloc0, params1, pass1, pass0, free1, free0, exec, Below, again, loops}
+use types.Run.{look, store, init, forget, stop, fld, from, load, lit, of-opd, bin, and-then, no-more, assigns, first as head, skips, jumps, blocks, branches, land, land-last, returns, enter}
+use types.Run.{alloc1, alloc0, params1, pass1, pass0, free1, free0, exec, Below, again, loops}
 use sound.WpLaws.{FmC, fmOf, WpFn-mono}
 use denote.RattleType.{RattleType, owns}
 use denote.Laws.{Is, shows}
@@ -195,13 +196,14 @@ module _ {M : Type 1} (𝓤 : URA M) (H : Heap 𝓤) (A : Atoms 𝓤) (mem : Mem
   abbrev With : Contract 𝓤
   With = tripleOf 𝓤 H A with-degree.signature (with-degree.spec 𝓤 H A mem run)
 
-module _ {M : Type 1} (𝓤 : URA M) (H : Heap 𝓤) (A : Atoms 𝓤) (W : Given 𝓤 H A) (mem : Memory → SProp 𝓤) (run : Routine → Fun 𝓤) (κ₀ : Lft) (q₀ : Share) (κ : Lft) (q : Share) (x s : RefT (List ℕ)) (first t c : ℕ) (fits : first < 2 ^ 32) (t-fits : t < 2 ^ 32) (c-fits : c < 2 ^ 32) (ok : CanWalkFrom (now s) first) where
+module _ {M : Type 1} (𝓤 : URA M) (H : Heap 𝓤) (A : Atoms 𝓤) (W : Given 𝓤 H A) (mem : Memory → SProp 𝓤) (run : Routine → Fun 𝓤) (κ₀ : Lft) (q₀ : Share) (κ : Lft) (q : Share)
+    (x s : RefT (List ℕ)) (first t c : ℕ) (fits : first < 2 ^ 32) (t-fits : t < 2 ^ 32) (c-fits : c < 2 ^ 32) (ok : CanWalkFrom (now s) first) where
   -- what one word counts
   abbrev one : ℕ → ℕ
-  one = degreeOne (λ k. bitOf (now x) k t) c (now s)
+  one = degreeOne (λ k. bitOf (now x) k (t % 64)) c (now s)
 
   few : (w : ℕ) → one w ≤ 1
-  few = one-le (λ k. bitOf (now x) k t) c (now s)
+  few = one-le (λ k. bitOf (now x) k (t % 64)) c (now s)
 
   abbrev St : Type 0
   St = State one s first
@@ -253,7 +255,8 @@ module _ {M : Type 1} (𝓤 : URA M) (H : Heap 𝓤) (A : Atoms 𝓤) (W : Given
   abbrev to-at : At 𝓤 H A mem run .Ghost
   to-at = (((κ, tt), (q, tt), tt, (s, (first, tt)), at-vals), tt)
 
-  goes-at : ent 𝓤 (onEntry 𝓤 H A degree-from.signature (κ₀, (κ, tt)) (q₀, (q, tt)) passed vals) (sep 𝓤 (At 𝓤 H A mem run .pre to-at) (sep 𝓤 (sep 𝓤 (sem 𝓤 H A OwnS) (sem 𝓤 H A OwnX)) (sem 𝓤 H A (flft κ₀ q₀))))
+  goes-at : ent 𝓤 (onEntry 𝓤 H A degree-from.signature (κ₀, (κ, tt)) (q₀, (q, tt)) passed vals)
+      (sep 𝓤 (At 𝓤 H A mem run .pre to-at) (sep 𝓤 (sep 𝓤 (sem 𝓤 H A OwnS) (sem 𝓤 H A OwnX)) (sem 𝓤 H A (flft κ₀ q₀))))
   goes-at =
       qed W ((TokenX ⊛ Token) ∷ ‵ (owns (Ptr ∷ ShrSlice (named 1) κ u32 ∷ u32 ∷ u32 ∷ u32 ∷ []) passed vals) ∷ []) ∵
       move ! (1 ∷ []) $ fsplit ! $ move ! (1 ∷ []) $ fsplit ! $ use1 W (‵ OwnS ⊛ ‵ OwnS) (shr-slice-copy 𝓤 H A W (named 0) κ u32 .twice s (v ∷ [])) $ split ! $
@@ -275,7 +278,8 @@ module _ {M : Type 1} (𝓤 : URA M) (H : Heap 𝓤) (A : Atoms 𝓤) (W : Given
   abbrev to-with : ℕ → ℕ → With 𝓤 H A mem run .Ghost
   to-with w n = (((κ₀, (κ, tt)), (q₀, (q, tt)), tt, with-args w n, with-vals w n), tt)
 
-  goes-with : (w n : ℕ) → w < 2 ^ 32 → n < 2 ^ 32 → EdgeRowIn (now s) (w / 2) × (n + one w < 2 ^ 32) → ent 𝓤 (⋆ 𝓤 H A (Token ∷ Own ∷ [])) (sep 𝓤 (With 𝓤 H A mem run .pre (to-with w n)) (sep 𝓤 (sem 𝓤 H A OwnS) (sem 𝓤 H A OwnX)))
+  goes-with : (w n : ℕ) → w < 2 ^ 32 → n < 2 ^ 32 → EdgeRowIn (now s) (w / 2) × (n + one w < 2 ^ 32)
+      → ent 𝓤 (⋆ 𝓤 H A (Token ∷ Own ∷ [])) (sep 𝓤 (With 𝓤 H A mem run .pre (to-with w n)) (sep 𝓤 (sem 𝓤 H A OwnS) (sem 𝓤 H A OwnX)))
   goes-with w n f g h =
       qed W (Token ∷ Own ∷ []) ∵
       move ! (1 ∷ []) $ split ! $ split ! $ use1 W (‵ OwnS ⊛ ‵ OwnS) (shr-slice-copy 𝓤 H A W (named 0) κ u32 .twice s (v ∷ [])) $ split ! $
@@ -284,7 +288,8 @@ module _ {M : Type 1} (𝓤 : URA M) (H : Heap 𝓤) (A : Atoms 𝓤) (W : Given
       nothing ! $ owned ! u32 (Is u32) (uint-makes 𝓤 H A W w32) n _ (refl, g) $ fjoin ! $ owned ! u32 (Is u32) (uint-makes 𝓤 H A W w32) c _ (refl, c-fits) $ fjoin ! $
       owned ! u32 (Is u32) (uint-makes 𝓤 H A W w32) t _ (refl, t-fits) $ fjoin ! $ owned ! u32 (Is u32) (uint-makes 𝓤 H A W w32) w _ (refl, f) $ fjoin ! $
       move ! (3 ∷ 0 ∷ []) $ fjoin ! $ move ! (1 ∷ 0 ∷ []) $ fjoin ! $ move ! (3 ∷ 4 ∷ []) $ join ! $
-      use2 W (raw (With 𝓤 H A mem run .pre (to-with w n))) (qed W ((TokenX ⊛ Token) ∷ ‵ (owns (Ptr ∷ ShrSlice (named 1) κ u32 ∷ u32 ∷ u32 ∷ u32 ∷ u32 ∷ []) (with-args w n) (with-vals w n)) ∷ []) ∵ says ! h $ frame ! $ done !) $ frame ! $
+      use2 W (raw (With 𝓤 H A mem run .pre (to-with w n)))
+      (qed W ((TokenX ⊛ Token) ∷ ‵ (owns (Ptr ∷ ShrSlice (named 1) κ u32 ∷ u32 ∷ u32 ∷ u32 ∷ u32 ∷ []) (with-args w n) (with-vals w n)) ∷ []) ∵ says ! h $ frame ! $ done !) $ frame ! $
       move ! (1 ∷ 0 ∷ []) $ frame ! $ done !
 
   with-said : (w n m : ℕ) → ent 𝓤 (ensured 𝓤 H A with-degree.ended (with-degree.clauses 𝓤 H A mem run) (κ₀, (κ, tt)) (with-args w n) tt m) (fact 𝓤 (m ≡ n + one w))
@@ -312,16 +317,18 @@ module _ {M : Type 1} (𝓤 : URA M) (H : Heap 𝓤) (A : Atoms 𝓤) (W : Given
 
   -- ---- the exit
 
-  exits : (n : ℕ) → n < 2 ^ 32 → DegreeFrom (now x) (now s) first t c n → ent 𝓤 (⋆ 𝓤 H A (Token ∷ Own ∷ [])) (Post (vint w32 n))
+  exits : (n : ℕ) → n < 2 ^ 32 → DegreeFrom (now x) (now s) first (t % 64) c n → ent 𝓤 (⋆ 𝓤 H A (Token ∷ Own ∷ [])) (Post (vint w32 n))
   exits n f e =
       qed W (Token ∷ Own ∷ []) ∵
-      suffices ! _ (ends-at 𝓤 H A degree-from.ended stayed (degree-from.clauses 𝓤 H A mem run) W (((κ₀, (κ, tt)), (q₀, (q, tt)), tt, passed, vals), tt) (vint w32 n) n (tt, (tt, (tt, (tt, (tt, tt))))) (tt, (tt, (tt, (tt, (tt, tt)))))) $ says ! e $
+      suffices ! _ (ends-at 𝓤 H A degree-from.ended stayed (degree-from.clauses 𝓤 H A mem run) W (((κ₀, (κ, tt)), (q₀, (q, tt)), tt, passed, vals), tt) (vint w32 n) n
+      (tt, (tt, (tt, (tt, (tt, tt))))) (tt, (tt, (tt, (tt, (tt, tt)))))) $ says ! e $
       owned ! u32 (Is u32) (uint-makes 𝓤 H A W w32) n (vint w32 n ∷ []) (refl, f) $ move ! (2 ∷ []) $ split ! $ move ! (1 ∷ 3 ∷ []) $ join ! $ frame ! $ split ! $
       -- [what s owns; what x owns; what the result owns]
       nothing ! $ owned ! u32 (Is u32) (uint-makes 𝓤 H A W w32) c _ (refl, c-fits) $ fjoin ! $ owned ! u32 (Is u32) (uint-makes 𝓤 H A W w32) t _ (refl, t-fits) $ fjoin ! $
       owned ! u32 (Is u32) (uint-makes 𝓤 H A W w32) first _ (refl, fits) $ fjoin ! $ move ! (1 ∷ 0 ∷ []) $ fjoin ! $ move ! (1 ∷ 0 ∷ []) $ fjoin ! $ frame ! $ done !
 
-  module _ (𝓣 : Tables 𝓤 H) (fm : FmC 𝓤 H (W .laws) (𝓣 .C)) (known-at : Triple 𝓤 (𝓣 .C #cursor·at) (At 𝓤 H A mem run)) (known-stepped : Triple 𝓤 (𝓣 .C #cursor·stepped) (Stepped 𝓤 H A mem run)) (known-with : Triple 𝓤 (𝓣 .C #with-degree) (With 𝓤 H A mem run)) where
+  module _ (𝓣 : Tables 𝓤 H) (fm : FmC 𝓤 H (W .laws) (𝓣 .C)) (known-at : Triple 𝓤 (𝓣 .C #cursor·at) (At 𝓤 H A mem run))
+      (known-stepped : Triple 𝓤 (𝓣 .C #cursor·stepped) (Stepped 𝓤 H A mem run)) (known-with : Triple 𝓤 (𝓣 .C #with-degree) (With 𝓤 H A mem run)) where
     abbrev C : Calls 𝓤 H
     C = 𝓣 .C
 
@@ -337,7 +344,8 @@ module _ {M : Type 1} (𝓤 : URA M) (H : Heap 𝓤) (A : Atoms 𝓤) (W : Given
           ∷ ‵ (froom cursor l₁₁ 0) ∷ ‵ (fdies cursor l₁₁) ∷ ‵ (froom word l₁₀ 0) ∷ ‵ (fdies word l₁₀) ∷ ‵ (froom tyBool l₉ 0) ∷ ‵ (fdies tyBool l₉) ∷ ‵ (froom word l₈ 0) ∷ ‵ (fdies word l₈)
           ∷ ‵ (fat fullShare cursor l₇ 0 (T′.lowered (i .r))) ∷ ‵ (fdies cursor l₇) ∷ ‵ (fat fullShare word l₆ 0 (vint w32 (i .n))) ∷ ‵ (fdies word l₆)
           ∷ ‵ (fat fullShare word l₅ 0 (vint w32 c)) ∷ ‵ (fdies word l₅) ∷ ‵ (fat fullShare word l₄ 0 (vint w32 t)) ∷ ‵ (fdies word l₄)
-          ∷ ‵ (fat fullShare word l₃ 0 (vint w32 first)) ∷ ‵ (fdies word l₃) ∷ ‵ (fat fullShare slice l₂ 0 v) ∷ ‵ (fdies slice l₂) ∷ ‵ (fat fullShare array l₁ 0 p) ∷ ‵ (fdies array l₁) ∷ ‵ (froom word l₀ 0) ∷ ‵ (fdies word l₀) ∷ []
+          ∷ ‵ (fat fullShare word l₃ 0 (vint w32 first)) ∷ ‵ (fdies word l₃) ∷ ‵ (fat fullShare slice l₂ 0 v) ∷ ‵ (fdies slice l₂) ∷ ‵ (fat fullShare array l₁ 0 p) ∷ ‵ (fdies array l₁) ∷ ‵
+          (froom word l₀ 0) ∷ ‵ (fdies word l₀) ∷ []
 
       -- the same with the test made: the cursor's word in _8, and whether it is not 0 in _9
       abbrev Tested : St → Val → List (Item 𝓤)
@@ -346,7 +354,8 @@ module _ {M : Type 1} (𝓤 : URA M) (H : Heap 𝓤) (A : Atoms 𝓤) (W : Given
           ∷ ‵ (fat fullShare word l₈ 0 (vint w32 (i .r .word))) ∷ ‵ (fdies word l₈)
           ∷ ‵ (fat fullShare cursor l₇ 0 (T′.lowered (i .r))) ∷ ‵ (fdies cursor l₇) ∷ ‵ (fat fullShare word l₆ 0 (vint w32 (i .n))) ∷ ‵ (fdies word l₆)
           ∷ ‵ (fat fullShare word l₅ 0 (vint w32 c)) ∷ ‵ (fdies word l₅) ∷ ‵ (fat fullShare word l₄ 0 (vint w32 t)) ∷ ‵ (fdies word l₄)
-          ∷ ‵ (fat fullShare word l₃ 0 (vint w32 first)) ∷ ‵ (fdies word l₃) ∷ ‵ (fat fullShare slice l₂ 0 v) ∷ ‵ (fdies slice l₂) ∷ ‵ (fat fullShare array l₁ 0 p) ∷ ‵ (fdies array l₁) ∷ ‵ (froom word l₀ 0) ∷ ‵ (fdies word l₀) ∷ []
+          ∷ ‵ (fat fullShare word l₃ 0 (vint w32 first)) ∷ ‵ (fdies word l₃) ∷ ‵ (fat fullShare slice l₂ 0 v) ∷ ‵ (fdies slice l₂) ∷ ‵ (fat fullShare array l₁ 0 p) ∷ ‵ (fdies array l₁) ∷ ‵
+          (froom word l₀ 0) ∷ ‵ (fdies word l₀) ∷ []
 
       abbrev Turned : St → Out → SProp 𝓤
       Turned i = afterTurn 𝓤 H (Below 𝓤 H A (Nearer one few s first ok) In i) (afterBlock 𝓤 H (afterSeq 𝓤 H (Wp 𝓤 H C Λ En rest (atReturn 𝓤 H En Post)) (atReturn 𝓤 H En Post)))
@@ -355,10 +364,12 @@ module _ {M : Type 1} (𝓤 : URA M) (H : Heap 𝓤) (A : Atoms 𝓤) (W : Given
       leaves : (i : St) (y : Val) → i .r .word ≡ 0 → Sq W (Tested i y) (runs C Λ En rest (atRet En Post))
       leaves i y z =
           assigns ! (of-opd ! (load ! (from ! (stop !)) (look ! 13 refl))) (from ! (stop !)) (init ! 25 refl (tt, record { fits = i .n-fits })) $
-          returns ! (look ! 25 refl) $ forget ! 7 refl $ forget ! 9 refl $ forget ! 11 refl $ forget ! 13 refl $ forget ! 15 refl $ forget ! 17 refl $ forget ! 19 refl $ forget ! 21 refl $ forget ! 23 refl $ forget ! 25 refl $
-          move ! (25 ∷ 26 ∷ []) $ free1 ! $ move ! (23 ∷ 24 ∷ []) $ free1 ! $ move ! (21 ∷ 22 ∷ []) $ free1 ! $ move ! (19 ∷ 20 ∷ []) $ free1 ! $ move ! (17 ∷ 18 ∷ []) $ free1 ! $ move ! (15 ∷ 16 ∷ []) $ free1 ! $ move ! (13 ∷ 14 ∷ []) $ free1 ! $ move ! (11 ∷ 12 ∷ []) $ free1 ! $
+          returns ! (look ! 25 refl) $ forget ! 7 refl $ forget ! 9 refl $ forget ! 11 refl $ forget ! 13 refl $ forget ! 15 refl $ forget ! 17 refl $ forget ! 19 refl $ forget ! 21 refl $
+          forget ! 23 refl $ forget ! 25 refl $
+          move ! (25 ∷ 26 ∷ []) $ free1 ! $ move ! (23 ∷ 24 ∷ []) $ free1 ! $ move ! (21 ∷ 22 ∷ []) $ free1 ! $ move ! (19 ∷ 20 ∷ []) $ free1 ! $ move ! (17 ∷ 18 ∷ []) $ free1 ! $
+          move ! (15 ∷ 16 ∷ []) $ free1 ! $ move ! (13 ∷ 14 ∷ []) $ free1 ! $ move ! (11 ∷ 12 ∷ []) $ free1 ! $
           move ! (9 ∷ 10 ∷ []) $ free1 ! $ move ! (7 ∷ 8 ∷ []) $ free1 ! $ move ! (5 ∷ 6 ∷ []) $ free1 ! $ move ! (3 ∷ 4 ∷ []) $ free1 ! $ free0 ! $
-          drop ! $ by ! (exits (i .n) (i .n-fits) (λ vertices u a b. ends-with one few s first ok i z vertices u a b ∙ degree-sum (λ k. bitOf (now x) k t) c vertices (now s) u))
+          drop ! $ by ! (exits (i .n) (i .n-fits) (λ vertices u a b. ends-with one few s first ok i z vertices u a b ∙ degree-sum (λ k. bitOf (now x) k (t % 64)) c vertices (now s) u))
 
       -- the cursor's word is one of the list's: it is counted, and the cursor is stepped
       goes-on : (i : St) (y : Val) → (i .r .word ≡ 0 → ⊥) → Sq W (Tested i y) (runs C Λ En more (anyQ (Turned i)))
@@ -366,10 +377,19 @@ module _ {M : Type 1} (𝓤 : URA M) (H : Heap 𝓤) (A : Atoms 𝓤) (W : Given
       goes-on i y z =
           -- [what the cursor owns; the token; what s and x own; _11; …; _10; …; _9; …; _8; …; _7; …; _6; …; _5; …; _4; …; _3; …; _2; …; _1; …; _0; …]
           assigns ! (of-opd ! (load ! (from ! (fld ! refl (stop !))) (look-in ! 11 (sub ! 1 refl (whole !))))) (from ! (stop !)) (init ! 5 refl (tt, record { fits = i .w-fits })) $
-          move ! (1 ∷ 2 ∷ []) $ use2 W (raw (With 𝓤 H A mem run .pre (to-with w n)) ⊛ (‵ OwnS ⊛ ‵ OwnX)) (goes-with w n (i .w-fits) (i .n-fits) (row one few s first ok i z, sum-fits one few s first ok i z)) $ split ! $
+          move ! (1 ∷ 2 ∷ []) $
+          use2 W (raw (With 𝓤 H A mem run .pre (to-with w n)) ⊛ (‵ OwnS ⊛ ‵ OwnX)) (goes-with w n (i .w-fits) (i .n-fits) (row one few s first ok i z, sum-fits one few s first ok i z)) $
+          split ! $
           -- [the callee's pre; what s and x own; what the cursor owns; _11; …]
-          calls-at ! fm (With 𝓤 H A mem run) known-with (to-with w n) (and-then ! (load ! (from ! (stop !)) (look ! 23 refl)) (and-then ! (load ! (from ! (stop !)) (look ! 21 refl)) (and-then ! (load ! (from ! (stop !)) (look ! 5 refl)) (and-then ! (load ! (from ! (stop !)) (look ! 17 refl)) (and-then ! (load ! (from ! (stop !)) (look ! 15 refl)) (and-then ! (load ! (from ! (stop !)) (look ! 13 refl)) (no-more !))))))) (λ u.
-          use1 W (later (some (λ (m : ℕ). ((TokenX ⊛ Token) ⊛ ‵ (u32 .own m (u ∷ []))) ⊛ raw (ensured 𝓤 H A with-degree.ended (with-degree.clauses 𝓤 H A mem run) (κ₀, (κ, tt)) (with-args w n) tt m)))) (id⊢ 𝓤 _) $ await ! tt $ pick ! (λ m.
+          calls-at ! fm (With 𝓤 H A mem run) known-with (to-with w n)
+          (and-then ! (load ! (from ! (stop !)) (look ! 23 refl))
+          (and-then ! (load ! (from ! (stop !)) (look ! 21 refl))
+          (and-then ! (load ! (from ! (stop !)) (look ! 5 refl))
+          (and-then ! (load ! (from ! (stop !)) (look ! 17 refl))
+          (and-then ! (load ! (from ! (stop !)) (look ! 15 refl)) (and-then ! (load ! (from ! (stop !)) (look ! 13 refl)) (no-more !))))))) (λ u.
+          use1 W (later
+          (some (λ (m : ℕ). ((TokenX ⊛ Token) ⊛ ‵ (u32 .own m (u ∷ []))) ⊛ raw (ensured 𝓤 H A with-degree.ended (with-degree.clauses 𝓤 H A mem run) (κ₀, (κ, tt)) (with-args w n) tt m))))
+          (id⊢ 𝓤 _) $ await ! tt $ pick ! (λ m.
           split ! $ move ! (1 ∷ []) $ use1 W (raw (fact 𝓤 (m ≡ n + one w))) (with-said w n m) $ heard ! (m ≡ n + one w) (λ e. split ! $ move ! (1 ∷ []) $
           -- [the result; the tokens; what s and x own; what the cursor owns; _11; …]
           peeks ! u32 (Is u32) (shows 𝓤 H A u32) m (u ∷ []) (λ is.
@@ -377,10 +397,12 @@ module _ {M : Type 1} (𝓤 : URA M) (H : Heap 𝓤) (A : Atoms 𝓤) (W : Given
           -- [the tokens; what s and x own; what the cursor owns; _11; …]
           split ! $ move ! (2 ∷ 0 ∷ []) $ join ! $ move ! (2 ∷ 1 ∷ []) $ peeks ! (Row (κ, tt)) (Is (Row (κ, tt))) (shows 𝓤 H A (Row (κ, tt))) (i .r) (T′.lowered (i .r) ∷ []) (λ is₀.
           assigns ! (of-opd ! (load ! (from ! (stop !)) (look ! 11 refl))) (from ! (stop !)) (init ! 3 refl (LL.lawful (T.the-type αᵉ) (T′.the-laws αᵉ) 𝓤 H A W .typed (i .r) _ is₀ .0)) $
-          use2 W (raw (Stepped 𝓤 H A mem run .pre (to-stepped (i .r)))) (goes-stepped (i .r) (subst (λ (x : RefT (List ℕ)). HalfRowIn (now x) w) (sym (i .same-edges)) (inside one few s first ok i z))) $
+          use2 W (raw (Stepped 𝓤 H A mem run .pre (to-stepped (i .r))))
+          (goes-stepped (i .r) (subst (λ (x : RefT (List ℕ)). HalfRowIn (now x) w) (sym (i .same-edges)) (inside one few s first ok i z))) $
           -- [the callee's pre; what s and x own; _11; …]
           calls-at-last ! fm (Stepped 𝓤 H A mem run) known-stepped (to-stepped (i .r)) (and-then ! (load ! (from ! (stop !)) (look ! 2 refl)) (no-more !)) (λ u₁.
-          use1 W (later (some (λ (r₁ : Cursor). (Token ⊛ ‵ (Row (κ, tt) .own r₁ (u₁ ∷ []))) ⊛ raw (ensured 𝓤 H A stepped.ended (stepped.clauses 𝓤 H A mem run) (κ, tt) (i .r, tt) tt r₁)))) (id⊢ 𝓤 _) $ await ! tt $ pick ! (λ r₁.
+          use1 W (later (some (λ (r₁ : Cursor). (Token ⊛ ‵ (Row (κ, tt) .own r₁ (u₁ ∷ []))) ⊛ raw (ensured 𝓤 H A stepped.ended (stepped.clauses 𝓤 H A mem run) (κ, tt) (i .r, tt) tt r₁))))
+          (id⊢ 𝓤 _) $ await ! tt $ pick ! (λ r₁.
           split ! $ move ! (1 ∷ []) $ use1 W (raw (fact 𝓤 (Steps (i .r) r₁))) (stepped-said (i .r) r₁) $ heard ! (Steps (i .r) r₁) (λ e₁. split ! $ move ! (1 ∷ []) $
           -- [what the stepped cursor owns; the token; what s and x own; _11; …]
           peeks ! (Row (κ, tt)) (Is (Row (κ, tt))) (shows 𝓤 H A (Row (κ, tt))) r₁ (u₁ ∷ []) (λ is₁.
@@ -411,34 +433,52 @@ module _ {M : Type 1} (𝓤 : URA M) (H : Heap 𝓤) (A : Atoms 𝓤) (W : Given
           (λ some. skips ! $ exec ! C Λ En more (anyQ (Turned i)) $ goes-on i _ (test-some (i .r .word) some))
           (λ none. jumps ! $ exec ! C Λ En rest (atRet En Post) $ leaves i _ (test-none (i .r .word) none))
 
-    walk : Is Ptr x (p ∷ []) → Is (ShrSlice (named 1) κ u32) s (v ∷ []) → ent 𝓤 (onEntry 𝓤 H A degree-from.signature (κ₀, (κ, tt)) (q₀, (q, tt)) passed vals) (WpFn 𝓤 H C Λ code.function (p ∷ v ∷ vint w32 first ∷ vint w32 t ∷ vint w32 c ∷ []) Post)
+    walk : Is Ptr x (p ∷ []) → Is (ShrSlice (named 1) κ u32) s (v ∷ []) → ent 𝓤 (onEntry 𝓤 H A degree-from.signature (κ₀, (κ, tt)) (q₀, (q, tt)) passed vals)
+        (WpFn 𝓤 H C Λ code.function (p ∷ v ∷ vint w32 first ∷ vint w32 t ∷ vint w32 c ∷ []) Post)
     walk g h =
         qed W (raw (onEntry 𝓤 H A degree-from.signature (κ₀, (κ, tt)) (q₀, (q, tt)) passed vals) ∷ []) ∵ enter ! C Λ code.function (p ∷ v ∷ vint w32 first ∷ vint w32 t ∷ vint w32 c ∷ []) _ $
-        alloc1 ! (λ l₀. alloc1 ! (λ l₁. alloc1 ! (λ l₂. alloc1 ! (λ l₃. alloc1 ! (λ l₄. alloc1 ! (λ l₅. alloc1 ! (λ l₆. alloc1 ! (λ l₇. alloc1 ! (λ l₈. alloc1 ! (λ l₉. alloc1 ! (λ l₁₀. alloc1 ! (λ l₁₁. alloc0 ! $ params1 ! $
+        alloc1 ! (λ l₀. alloc1 !
+        (λ l₁. alloc1 !
+        (λ l₂. alloc1 ! (λ l₃. alloc1 ! (λ l₄. alloc1 ! (λ l₅. alloc1 ! (λ l₆. alloc1 ! (λ l₇. alloc1 ! (λ l₈. alloc1 ! (λ l₉. alloc1 ! (λ l₁₀. alloc1 ! (λ l₁₁. alloc0 ! $ params1 ! $
         pass1 ! (init ! 20 refl (shr-lawful 𝓤 H A W (named 0) κ₀ (Array u64 64) .typed x (p ∷ []) g .0)) $ pass1 ! (init ! 18 refl (shr-slice-lawful 𝓤 H A W (named 1) κ u32 .typed s (v ∷ []) h .0)) $
         pass1 ! (init ! 16 refl (tt, record { fits = fits })) $ pass1 ! (init ! 14 refl (tt, record { fits = t-fits })) $ pass1 ! (init ! 12 refl (tt, record { fits = c-fits })) $ pass0 ! $
         assigns ! (of-opd ! (lit ! tt)) (from ! (stop !)) (init ! 10 refl (tt, record { fits = lit< tt })) $
         move ! (24 ∷ []) $ use1 W (raw (At 𝓤 H A mem run .pre to-at) ⊛ Own) goes-at $ split ! $
         -- [the callee's pre; what s and x own; room for _11; …; _0; …]
         calls-at ! fm (At 𝓤 H A mem run) known-at to-at (and-then ! (load ! (from ! (stop !)) (look ! 20 refl)) (and-then ! (load ! (from ! (stop !)) (look ! 18 refl)) (no-more !))) (λ u.
-        use1 W (later (some (λ (r : Cursor). (Token ⊛ ‵ (Row (κ, tt) .own r (u ∷ []))) ⊛ raw (ensured 𝓤 H A at.ended (at.clauses 𝓤 H A mem run) (κ, tt) (s, (first, tt)) tt r)))) (id⊢ 𝓤 _) $ await ! tt $ pick ! (λ r.
+        use1 W (later (some (λ (r : Cursor). (Token ⊛ ‵ (Row (κ, tt) .own r (u ∷ []))) ⊛ raw (ensured 𝓤 H A at.ended (at.clauses 𝓤 H A mem run) (κ, tt) (s, (first, tt)) tt r)))) (id⊢ 𝓤 _) $
+        await ! tt $ pick ! (λ r.
         split ! $ move ! (1 ∷ []) $ use1 W (raw (fact 𝓤 ((r .edges ≡ s) × (r .word ≡ first)))) (at-said r) $ heard ! ((r .edges ≡ s) × (r .word ≡ first)) (λ e. split ! $ move ! (1 ∷ []) $
         -- [what the struct owns; the token; what s and x own; room for _11; …; _0; …]
         peeks ! (Row (κ, tt)) (Is (Row (κ, tt))) (shows 𝓤 H A (Row (κ, tt))) r (u ∷ []) (λ is.
         land ! (from ! (stop !)) (init ! 11 refl (LL.lawful (T.the-type αᵉ) (T′.the-laws αᵉ) 𝓤 H A W .typed r _ is .0)) $
         rewrite ! 11 (λ (y : Val). ‵ (fat fullShare cursor l₇ 0 y)) (ap only (told-value r u is)) refl $ rewrite ! 0 (λ (ys : List Val). ‵ (Row (κ, tt) .own r ys)) (told-value r u is) refl $
-        head ! $ blocks ! $ loops ! 𝓣 (Nearer one few s first ok) (nearer-wf one few s first ok) (In l₀ l₁ l₂ l₃ l₄ l₅ l₆ l₇ l₈ l₉ l₁₀ l₁₁) (turns l₀ l₁ l₂ l₃ l₄ l₅ l₆ l₇ l₈ l₉ l₁₀ l₁₁) (start one few s first ok r (e .0) (e .1) (cursor-fits r u is))))))))))))))))))
+        head ! $ blocks ! $ loops ! 𝓣 (Nearer one few s first ok) (nearer-wf one few s first ok) (In l₀ l₁ l₂ l₃ l₄ l₅ l₆ l₇ l₈ l₉ l₁₀ l₁₁) (turns l₀ l₁ l₂ l₃ l₄ l₅ l₆ l₇ l₈ l₉ l₁₀ l₁₁)
+        (start one few s first ok r (e .0) (e .1) (cursor-fits r u is))))))))))))))))))
 
 module _ {M : Type 1} (𝓤 : URA M) (H : Heap 𝓤) (A : Atoms 𝓤) (W : Given 𝓤 H A) (mem : Memory → SProp 𝓤) (run : Routine → Fun 𝓤) where
-  degree-from-walks : (𝓣 : Tables 𝓤 H) → FmC 𝓤 H (W .laws) (𝓣 .C) → Triple 𝓤 (𝓣 .C #cursor·at) (At 𝓤 H A mem run) → Triple 𝓤 (𝓣 .C #cursor·stepped) (Stepped 𝓤 H A mem run) → Triple 𝓤 (𝓣 .C #with-degree) (With 𝓤 H A mem run)
+  degree-from-walks : (𝓣 : Tables 𝓤 H) → FmC 𝓤 H (W .laws) (𝓣 .C) → Triple 𝓤 (𝓣 .C #cursor·at) (At 𝓤 H A mem run) → Triple 𝓤 (𝓣 .C #cursor·stepped) (Stepped 𝓤 H A mem run)
+      → Triple 𝓤 (𝓣 .C #with-degree) (With 𝓤 H A mem run)
       → Walks 𝓤 H A degree-from.ended stayed (WpFn 𝓤 H (𝓣 .C) (𝓣 .Λ) code.function) (degree-from.clauses 𝓤 H A mem run)
-  degree-from-walks 𝓣 fm known-at known-stepped known-with = walked 𝓤 H A degree-from.ended stayed (degree-from.clauses 𝓤 H A mem run) (WpFn 𝓤 H (𝓣 .C) (𝓣 .Λ) code.function) (λ κs. (ptr-vals, (slice-vals, (uint-vals w32, (uint-vals w32, (uint-vals w32, tt)))))) (λ κs. (shr-tells (named 0) (κs .0) (Array u64 64), (shr-slice-tells (named 1) (κs .1 .0) u32, (uint-tells w32, (uint-tells w32, (uint-tells w32, tt))))))
-      (λ κs qs bounds a g are. needs 𝓤 (CanWalkFrom (now (a .1 .0)) (a .1 .1 .0)) _ (λ ok. walk 𝓤 H A W mem run (κs .0) (qs .0) (κs .1 .0) (qs .1 .0) (a .0) (a .1 .0) (a .1 .1 .0) (a .1 .1 .1 .0) (a .1 .1 .1 .1 .0) (are .1 .1 .0 .1) (are .1 .1 .1 .0 .1) (are .1 .1 .1 .1 .0 .1) ok 𝓣 fm known-at known-stepped known-with (are .0) (are .1 .0)))
+  degree-from-walks 𝓣 fm known-at known-stepped known-with = walked 𝓤 H A degree-from.ended stayed (degree-from.clauses 𝓤 H A mem run) (WpFn 𝓤 H (𝓣 .C) (𝓣 .Λ) code.function)
+      (λ κs. (ptr-vals, (slice-vals, (uint-vals w32, (uint-vals w32, (uint-vals w32, tt))))))
+      (λ κs. (shr-tells (named 0) (κs .0) (Array u64 64), (shr-slice-tells (named 1) (κs .1 .0) u32, (uint-tells w32, (uint-tells w32, (uint-tells w32, tt))))))
+      (λ κs qs bounds a g are. needs 𝓤 (CanWalkFrom (now (a .1 .0)) (a .1 .1 .0)) _
+      (λ ok. walk 𝓤 H A W mem run (κs .0) (qs .0) (κs .1 .0) (qs .1 .0) (a .0) (a .1 .0) (a .1 .1 .0) (a .1 .1 .1 .0) (a .1 .1 .1 .1 .0) (are .1 .1 .0 .1) (are .1 .1 .1 .0 .1)
+      (are .1 .1 .1 .1 .0 .1) ok 𝓣 fm known-at known-stepped known-with (are .0) (are .1 .0)))
 
 degree-from-meets : {M : Type 1} (𝓤 : URA M) (H : Heap 𝓤) (A : Atoms 𝓤) (W : Given 𝓤 H A) (mem : Memory → SProp 𝓤) (run : Routine → Fun 𝓤) (𝓣 : Tables 𝓤 H)
     → Triple 𝓤 (𝓣 .C #cursor·at) (At 𝓤 H A mem run) → Triple 𝓤 (𝓣 .C #cursor·stepped) (Stepped 𝓤 H A mem run) → Triple 𝓤 (𝓣 .C #with-degree) (With 𝓤 H A mem run)
     → Meets 𝓤 H A degree-from.signature (WpFn 𝓤 H (𝓣 .C) (𝓣 .Λ) code.function) (degree-from.spec 𝓤 H A mem run)
-degree-from-meets 𝓤 H A W mem run 𝓣 known-at known-stepped known-with = walk-meets 𝓤 H A degree-from.ended stayed W (goes-none-ref 𝓤 H A W 2 (0 ∷ []) tt words-slot yes, (goes-none-slice 𝓤 H A W 2 (1 ∷ []) tt (plain (λ _. u32)) yes, (goes-none 𝓤 H A W 2 (λ _. u32) yes (λ κs x f. refl), (goes-none 𝓤 H A W 2 (λ _. u32) yes (λ κs x f. refl), (goes-none 𝓤 H A W 2 (λ _. u32) yes (λ κs x f. refl), tt))))) (degree-from.clauses 𝓤 H A mem run) (WpFn 𝓤 H (𝓣 .C) (𝓣 .Λ) code.function) (WpFn-mono 𝓤 H (W .laws) 𝓣 code.function)
+degree-from-meets 𝓤 H A W mem run 𝓣 known-at known-stepped known-with =
+    walk-meets 𝓤 H A degree-from.ended stayed W (
+      goes-none-ref 𝓤 H A W 2 (0 ∷ []) tt words-slot yes,
+      (
+        goes-none-slice 𝓤 H A W 2 (1 ∷ []) tt (plain (λ _. u32)) yes,
+        (goes-none 𝓤 H A W 2 (λ _. u32) yes (λ κs x f. refl), (goes-none 𝓤 H A W 2 (λ _. u32) yes (λ κs x f. refl), (goes-none 𝓤 H A W 2 (λ _. u32) yes (λ κs x f. refl), tt))),
+      ),
+    )
+    (degree-from.clauses 𝓤 H A mem run) (WpFn 𝓤 H (𝓣 .C) (𝓣 .Λ) code.function) (WpFn-mono 𝓤 H (W .laws) 𝓣 code.function)
     (degree-from-walks 𝓤 H A W mem run 𝓣 (fmOf 𝓤 H (W .laws) 𝓣) known-at known-stepped known-with)
 
 pub degree-from-spec : {M : Type 1} → stated.statement M

@@ -18,26 +18,22 @@ accepted : (c : tie.Else1) → let a = c .before .before .before .before .before
 accepted c = accept tt (λ g y. c .before .create-edge .ensures .1 g y) (c .if1 .left) tt (c .before .before .before .before .before .before .before .pre)
 
 planned : (c : tie.After-choose) → let a = c .before .before .before .before .before .before .before .before .before .before .before .before .args in
-    InsertEdge (a .n) (a .a) (a .z) (a .sort) Untested (a .head .elast) (c .before .before .before .last-word .result) (c .choose .result) ≡ planS (CreateEdge (a .n) (a .a) (a .z) (a .sort)) (state (a .head) (a .vertices .now) (a .edges .now))
+    InsertEdge (a .n) (a .a) (a .z) (a .sort) Untested (a .head .elast) (c .before .before .before .last-word .result) (c .choose .result) ≡ planS (CreateEdge (a .n) (a .a) (a .z) (a .sort))
+    (state (a .head) (a .vertices .now) (a .edges .now))
 planned c =
     let a = c .before .before .before .before .before .before .before .before .before .before .before .before .args in
-    insert-edge-by (a .n) (a .a) (a .z) (a .sort) (a .head .elast) (c .before .before .before .last-word .ensures) (c .choose .ensures ∙ (λ j. ifEqual (a .a) (a .z) (2 * a .n) (c .before .last-word2 .ensures j)))
+    insert-edge-by (a .n) (a .a) (a .z) (a .sort) (a .head .elast) (c .before .before .before .last-word .ensures)
+    (c .choose .ensures ∙ (λ j. ifEqual (a .a) (a .z) (2 * a .n) (c .before .last-word2 .ensures j)))
 
 pub create-edge-spec : {M : Type 1} → statement M
 create-edge-spec =
     tie.close
-    (tie.spec
-    (λ c κs. search needs)
-    (λ c κs. search needs)
-    (λ c. search needs)
-    (λ c. search needs)
+    (tie.spec (λ c κs. search needs) (λ c κs. search needs) (λ c. search needs) (λ c. search needs)
     (λ c. one-refused tt (λ g y. c .before .before .create-edge .ensures .1 g y) (c .before .if1 .taken) (c .unchanged .ensures))
     (λ c κs. accepted (c .before) .rows .1)
     (λ c κs. accepted (c .before .before .before) .rows .2)
-    (λ c. omega (arith, accepted (c .before .before .before .before) .rows .0))
-    (λ c κs. search needs)
+    (λ c. omega (arith, accepted (c .before .before .before .before) .rows .0)) (λ c κs. search needs)
     (λ c κs. let r = can-make (accepted (c .before .before .before .before .before .before .before .before)) (planned (c .before .before .before)) in (r .0 .0, r .0 .1, r .1))
-    (λ c. search needs)
-    (λ c. search needs)
-    (λ c. search needs)
-    (λ c. one-tried (accepted (c .before .before .before .before .before .before .before .before .before .before .before .before .before .before .before)) (tries-by (planned (c .before .before .before .before .before .before .before .before .before .before)) (c .before .before .before .before .before .before .insert-edge .ensures))))
+    (λ c. search needs) (λ c. search needs) (λ c. search needs)
+    (λ c. one-tried (accepted (c .before .before .before .before .before .before .before .before .before .before .before .before .before .before .before))
+    (tries-by (planned (c .before .before .before .before .before .before .before .before .before .before)) (c .before .before .before .before .before .before .insert-edge .ensures))))

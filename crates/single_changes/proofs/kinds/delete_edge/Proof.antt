@@ -28,19 +28,14 @@ remove-edge-requires c κs =
 returns-2 : tie.Need-returns-2
 returns-2 c =
     let a = c .before .before .before .before .before .before .before .before .before .before .before .before .before .before .before .before .before .before .args in
-    λ types. one-tried (accepted types (c .before .before .before .before .before .before .before .before .before .before .before .before)) (tries-by (ap (removalOf (a .n)) (c .before .before .before .before .before .before .before .before .before .before .edge-words .ensures)) (c .before .before .before .before .before .before .remove-edge .ensures))
+    λ types. one-tried (accepted types (c .before .before .before .before .before .before .before .before .before .before .before .before))
+    (tries-by (ap (removalOf (a .n)) (c .before .before .before .before .before .before .before .before .before .before .edge-words .ensures))
+    (c .before .before .before .before .before .before .remove-edge .ensures))
 
 pub delete-edge-spec : {M : Type 1} → statement M
 delete-edge-spec =
     tie.close
-    (tie.spec
-    (λ c κs. search needs)
-    (λ c κs. search needs)
-    (λ c. search needs)
+    (tie.spec (λ c κs. search needs) (λ c κs. search needs) (λ c. search needs)
     (λ c types. one-refused tt (λ g y. c .before .before .edge-code .ensures .1 g (_, y)) (c .before .if1 .taken) (c .unchanged .ensures))
     (λ c κs. accepted 0 (c .before) .rows)
-    remove-edge-requires
-    (λ c. search needs)
-    (λ c. search needs)
-    (λ c. search needs)
-    returns-2)
+    remove-edge-requires (λ c. search needs) (λ c. search needs) (λ c. search needs) returns-2)

@@ -20,20 +20,19 @@ set-edge-requires c κs =
 returns-2 : tie.Need-returns-2
 returns-2 c =
     let a = c .before .before .before .before .before .before .before .before .before .before .before .before .before .before .before .before .before .before .before .args in
-    one-tried (accepted (c .before .before .before .before .before .before .before .before .before .before .before .before .before)) (tries-by (set-edge-by (a .a) (c .before .before .before .before .before .before .before .before .before .before .before .edge-type .ensures) (c .before .before .before .before .before .before .before .before .before .reading-kind .ensures) (c .before .before .before .before .before .before .before .reading-decimetres .ensures) refl (c .before .before .before .before .before .before .before .before .before .reading-kind .ensures) (c .before .before .before .before .before .before .before .reading-decimetres .ensures)) (c .before .before .before .before .set-edge .ensures))
+    one-tried (accepted (c .before .before .before .before .before .before .before .before .before .before .before .before .before))
+    (tries-by (set-edge-by (a .a) (c .before .before .before .before .before .before .before .before .before .before .before .edge-type .ensures)
+    (c .before .before .before .before .before .before .before .before .before .reading-kind .ensures)
+    (c .before .before .before .before .before .before .before .reading-decimetres .ensures) refl
+    (c .before .before .before .before .before .before .before .before .before .reading-kind .ensures)
+    (c .before .before .before .before .before .before .before .reading-decimetres .ensures)) (c .before .before .before .before .set-edge .ensures))
 
 pub retype-edge-spec : {M : Type 1} → statement M
 retype-edge-spec =
     tie.close
-    (tie.spec
-    (λ c κs. search needs)
-    (λ c κs. search needs)
-    (λ c. search needs)
+    (tie.spec (λ c κs. search needs) (λ c κs. search needs) (λ c. search needs)
     (λ c. one-refused tt (λ g y. c .before .before .retype-edge .ensures .1 g (_, y)) (c .before .if1 .taken) (c .unchanged .ensures))
     (λ c κs. accepted (c .before) .rows)
     (λ c κs. accepted (c .before .before .before) .rows)
     (λ c κs. accepted (c .before .before .before .before .before) .rows)
-    set-edge-requires
-    (λ c. search needs)
-    (λ c. search needs)
-    returns-2)
+    set-edge-requires (λ c. search needs) (λ c. search needs) returns-2)

@@ -19,19 +19,17 @@ set-vertex-requires c κs =
 returns-2 : tie.Need-returns-2
 returns-2 c =
     let a = c .before .before .before .before .before .before .before .before .before .before .before .before .before .before .before .before .before .args in
-    one-tried (accepted (c .before .before .before .before .before .before .before .before .before .before .before)) (tries-by (set-vertex-by (a .a) (c .before .before .before .before .before .before .before .before .before .vertex-type .ensures) (c .before .before .before .before .before .before .before .vertex-value .ensures) refl (c .before .before .before .before .before .before .before .vertex-value .ensures)) (c .before .before .before .before .set-vertex .ensures))
+    one-tried (accepted (c .before .before .before .before .before .before .before .before .before .before .before))
+    (tries-by
+    (set-vertex-by (a .a) (c .before .before .before .before .before .before .before .before .before .vertex-type .ensures)
+    (c .before .before .before .before .before .before .before .vertex-value .ensures) refl (c .before .before .before .before .before .before .before .vertex-value .ensures))
+    (c .before .before .before .before .set-vertex .ensures))
 
 pub retype-vertex-spec : {M : Type 1} → statement M
 retype-vertex-spec =
     tie.close
-    (tie.spec
-    (λ c κs. search needs)
-    (λ c κs. search needs)
-    (λ c. search needs)
+    (tie.spec (λ c κs. search needs) (λ c κs. search needs) (λ c. search needs)
     (λ c. one-refused tt (λ g y. c .before .before .retype-vertex .ensures .1 g (_, y)) (c .before .if1 .taken) (c .unchanged .ensures))
     (λ c κs. accepted (c .before) .rows)
     (λ c κs. accepted (c .before .before .before) .rows)
-    set-vertex-requires
-    (λ c. search needs)
-    (λ c. search needs)
-    returns-2)
+    set-vertex-requires (λ c. search needs) (λ c. search needs) returns-2)

@@ -11,7 +11,8 @@ use Rattle.single_changes.proofs.kinds.set_value.Tie as tie
 
 accepted : (types : ℕ) (c : tie.Else1) → let a = c .before .before .before .before .before .before .args in
     Accepted (SetValue (a .a) (a .value2)) types (a .row) (a .free) (state (a .head) (a .vertices .now) (a .edges .now)) (a .journal .now)
-accepted types c = accept (omega (arith, c .before .before .before .before .before .before .fits .value2)) (λ g y. c .before .vertex-code .ensures .1 g (_, y)) (c .if1 .left) tt (c .before .before .before .before .before .before .pre)
+accepted types c = accept (omega (arith, c .before .before .before .before .before .before .fits .value2)) (λ g y. c .before .vertex-code .ensures .1 g (_, y)) (c .if1 .left) tt
+    (c .before .before .before .before .before .before .pre)
 
 set-vertex-requires : tie.Need-set-vertex-requires
 set-vertex-requires c κs =
@@ -21,19 +22,18 @@ set-vertex-requires c κs =
 returns-2 : tie.Need-returns-2
 returns-2 c =
     let a = c .before .before .before .before .before .before .before .before .before .before .before .before .before .before .before .before .before .args in
-    λ types. one-tried (accepted types (c .before .before .before .before .before .before .before .before .before .before .before)) (tries-by (set-vertex-by (a .a) (c .before .before .before .before .before .before .before .before .before .vertex-type .ensures) (c .before .before .before .before .before .before .before .vertex-value .ensures) (c .before .before .before .before .before .before .before .before .before .vertex-type .ensures) refl) (c .before .before .before .before .set-vertex .ensures))
+    λ types. one-tried (accepted types (c .before .before .before .before .before .before .before .before .before .before .before))
+    (tries-by
+    (set-vertex-by (a .a) (c .before .before .before .before .before .before .before .before .before .vertex-type .ensures)
+    (c .before .before .before .before .before .before .before .vertex-value .ensures) (c .before .before .before .before .before .before .before .before .before .vertex-type .ensures)
+    refl) (c .before .before .before .before .set-vertex .ensures))
 
 pub set-value-spec : {M : Type 1} → statement M
 set-value-spec =
     tie.close
-    (tie.spec
-    (λ c κs. search needs)
-    (λ c κs. search needs)
-    (λ c. search needs)
-    (λ c types. one-refused (omega (arith, c .before .before .before .before .before .before .before .fits .value2)) (λ g y. c .before .before .vertex-code .ensures .1 g (_, y)) (c .before .if1 .taken) (c .unchanged .ensures))
+    (tie.spec (λ c κs. search needs) (λ c κs. search needs) (λ c. search needs)
+    (λ c types. one-refused (omega (arith, c .before .before .before .before .before .before .before .fits .value2)) (λ g y. c .before .before .vertex-code .ensures .1 g (_, y))
+    (c .before .if1 .taken) (c .unchanged .ensures))
     (λ c κs. accepted 0 (c .before) .rows)
     (λ c κs. accepted 0 (c .before .before .before) .rows)
-    set-vertex-requires
-    (λ c. search needs)
-    (λ c. search needs)
-    returns-2)
+    set-vertex-requires (λ c. search needs) (λ c. search needs) returns-2)

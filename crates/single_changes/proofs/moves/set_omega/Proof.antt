@@ -12,24 +12,12 @@ accepted : (types : ℕ) (c : tie.Else1) → let a = c .before .before .before .
     Accepted (SetOmega (a .a) (a .u)) types (a .row) (a .free) (state (a .head) (a .vertices .now) (a .edges .now)) (a .journal .now)
 accepted types c = accept tt (λ g y. c .before .set-end .ensures .1 g y) (c .if1 .left) tt (c .before .before .before .before .before .before .before .pre)
 
-word-last-requires : tie.Need-word-last-requires
-word-last-requires c κs =
-    let k = accepted 0 (c .before .before .before) in
-    ((omega (arith, k .rows .1 .0), omega (arith, k .rows .1 .1)), k .rows .2, k .can, k .room)
-
 pub set-omega-spec : {M : Type 1} → statement M
 set-omega-spec =
     tie.close
-    (tie.spec
-    (λ c κs. search needs)
-    (λ c κs. search needs)
-    (λ c. search needs)
-    (λ c. search needs)
+    (tie.spec (λ c κs. search needs) (λ c κs. search needs) (λ c. search needs) (λ c. search needs)
     (λ c types. one-refused tt (λ g y. c .before .before .set-end .ensures .1 g y) (c .before .if1 .taken) (c .unchanged .ensures))
-    (λ c. omega (arith, accepted 0 (c .before .before .before) .rows .0))
-    (λ c. omega (arith, accepted 0 (c .before .before .before) .rows .0))
-    word-last-requires
-    (λ c. search needs)
-    (λ c. search needs)
-    (λ c. search needs)
+    (λ c. omega (arith, accepted 0 (c .before .before .before) .rows .0)) (λ c. omega (arith, accepted 0 (c .before .before .before) .rows .0))
+    (λ c κs. let k = accepted 0 (c .before .before .before) in ((omega (arith, k .rows .1 .0), omega (arith, k .rows .1 .1)), k .rows .2, k .can, k .room))
+    (λ c. search needs) (λ c. search needs) (λ c. search needs)
     (λ c types. one-tried (accepted types (c .before .before .before .before .before .before .before .before .before .before)) (c .before .before .before .before .before .before .word-last .ensures)))

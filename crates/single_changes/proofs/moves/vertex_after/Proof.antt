@@ -12,26 +12,13 @@ accepted : (types : ℕ) (c : tie.Else1) → let a = c .before .before .before .
     Accepted (VertexAfter (a .a) (a .b)) types (a .row) (a .free) (state (a .head) (a .vertices .now) (a .edges .now)) (a .journal .now)
 accepted types c = accept tt (λ g y. c .before .order-vertices .ensures .1 g (_, y)) (c .if1 .left) tt (c .before .before .before .before .before .before .pre)
 
-move-vertex-requires : tie.Need-move-vertex-requires
-move-vertex-requires c κs =
-    let k = accepted 0 (c .before .before .before .before) in
-    (k .can, k .room)
-
-returns-2 : tie.Need-returns-2
-returns-2 c =
-    let a = c .before .before .before .before .before .before .before .before .before .before .before .before .before .before .before .args in
-    λ types. one-tried (accepted types (c .before .before .before .before .before .before .before .before .before)) (tries-by (move-vertex-by (a .a) (c .before .before .before .before .before .before .before .vertex-prev .ensures) refl) (c .before .before .before .before .move-vertex .ensures))
-
 pub vertex-after-spec : {M : Type 1} → statement M
 vertex-after-spec =
     tie.close
-    (tie.spec
-    (λ c κs. search needs)
-    (λ c κs. search needs)
-    (λ c. search needs)
+    (tie.spec (λ c κs. search needs) (λ c κs. search needs) (λ c. search needs)
     (λ c types. one-refused tt (λ g y. c .before .before .order-vertices .ensures .1 g (_, y)) (c .before .if1 .taken) (c .unchanged .ensures))
     (λ c κs. accepted 0 (c .before) .rows)
-    move-vertex-requires
-    (λ c. search needs)
-    (λ c. search needs)
-    returns-2)
+    (λ c κs. let k = accepted 0 (c .before .before .before .before) in (k .can, k .room))
+    (λ c. search needs) (λ c. search needs)
+    (λ c types. one-tried (accepted types (c .before .before .before .before .before .before .before .before .before))
+    (tries-by (move-vertex-by _ (c .before .before .before .before .before .before .before .vertex-prev .ensures) refl) (c .before .before .before .before .move-vertex .ensures))))

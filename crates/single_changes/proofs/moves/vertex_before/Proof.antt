@@ -24,15 +24,12 @@ planned c =
 pub vertex-before-spec : {M : Type 1} → statement M
 vertex-before-spec =
     tie.close
-    (tie.spec
-    (λ c κs. search needs)
-    (λ c κs. search needs)
-    (λ c. search needs)
+    (tie.spec (λ c κs. search needs) (λ c κs. search needs) (λ c. search needs)
     (λ c types. one-refused tt (λ g y. c .before .before .order-vertices .ensures .1 g (_, y)) (c .before .if1 .taken) (c .unchanged .ensures))
     (λ c κs. accepted 0 (c .before) .rows .0)
     (λ c κs. accepted 0 (c .before .before .before) .rows .1)
     (λ c κs. search needs)
     (λ c κs. can-make (accepted 0 (c .before .before .before .before .before .before .before)) (planned (c .before .before)))
-    (λ c. search needs)
-    (λ c. search needs)
-    (λ c types. one-tried (accepted types (c .before .before .before .before .before .before .before .before .before .before .before .before)) (tries-by (planned (c .before .before .before .before .before .before .before)) (c .before .before .before .before .move-vertex .ensures))))
+    (λ c. search needs) (λ c. search needs)
+    (λ c types. one-tried (accepted types (c .before .before .before .before .before .before .before .before .before .before .before .before))
+    (tries-by (planned (c .before .before .before .before .before .before .before)) (c .before .before .before .before .move-vertex .ensures))))

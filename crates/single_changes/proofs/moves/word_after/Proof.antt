@@ -16,26 +16,27 @@ accepted types c = accept tt (λ g y. c .before .order-words .ensures .1 g (_, y
 move-word-requires : tie.Need-move-word-requires
 move-word-requires c κs =
     let a = c .before .before .before .before .before .before .before .before .before .before .before .before .before .args in
-    let k = accepted 0 (c .before .before .before .before .before .before .before) in
-    (can-by (state (a .head) (a .vertices .now) (a .edges .now)) (sym (move-word-by (a .a) (c .before .before .before .before .before .this .ensures) (c .before .before .before .word-prev .ensures) (c .before .before .before .before .before .this .ensures) refl)) (k .can), k .room)
+    let k = accepted 0 (c .before .before .before .before .before .before .before) in (
+      can-by (state (a .head) (a .vertices .now) (a .edges .now))
+          (sym (move-word-by (a .a) (c .before .before .before .before .before .this .ensures) (c .before .before .before .word-prev .ensures)
+          (c .before .before .before .before .before .this .ensures) refl)) (k .can),
+      k .room,
+    )
 
 returns-2 : tie.Need-returns-2
 returns-2 c =
     let a = c .before .before .before .before .before .before .before .before .before .before .before .before .before .before .before .before .before .before .before .before .args in
-    λ types. one-tried (accepted types (c .before .before .before .before .before .before .before .before .before .before .before .before .before .before)) (tries-by (move-word-by (a .a) (c .before .before .before .before .before .before .before .before .before .before .before .before .this .ensures) (c .before .before .before .before .before .before .before .before .before .before .word-prev .ensures) (c .before .before .before .before .before .before .before .before .before .before .before .before .this .ensures) refl) (c .before .before .before .before .before .before .move-word .ensures))
+    λ types. one-tried (accepted types (c .before .before .before .before .before .before .before .before .before .before .before .before .before .before))
+    (tries-by (move-word-by (a .a) (c .before .before .before .before .before .before .before .before .before .before .before .before .this .ensures)
+    (c .before .before .before .before .before .before .before .before .before .before .word-prev .ensures)
+    (c .before .before .before .before .before .before .before .before .before .before .before .before .this .ensures) refl)
+    (c .before .before .before .before .before .before .move-word .ensures))
 
 pub word-after-spec : {M : Type 1} → statement M
 word-after-spec =
     tie.close
-    (tie.spec
-    (λ c κs. search needs)
-    (λ c κs. search needs)
-    (λ c. search needs)
+    (tie.spec (λ c κs. search needs) (λ c κs. search needs) (λ c. search needs)
     (λ c types. one-refused tt (λ g y. c .before .before .order-words .ensures .1 g (_, y)) (c .before .if1 .taken) (c .unchanged .ensures))
     (λ c κs. accepted 0 (c .before) .rows)
     (λ c κs. accepted 0 (c .before .before .before) .rows)
-    move-word-requires
-    (λ c. search needs)
-    (λ c. search needs)
-    (λ c. search needs)
-    returns-2)
+    move-word-requires (λ c. search needs) (λ c. search needs) (λ c. search needs) returns-2)

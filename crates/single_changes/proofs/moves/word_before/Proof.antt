@@ -16,25 +16,23 @@ accepted : (types : ℕ) (c : tie.Else1) → let a = c .before .before .before .
 accepted types c = accept tt (λ g y. c .before .order-words .ensures .1 g (_, y)) (c .if1 .left) tt (c .before .before .before .before .before .before .pre)
 
 planned : (c : tie.After-choose) → let a = c .before .before .before .before .before .before .before .before .before .before .before .before .before .args in
-    MoveWord (a .a) (c .before .before .before .before .before .this .result) (c .before .before .before .word-prev .result) (c .before .before .before .before .before .this .result) (c .choose .result) ≡ planS (WordBefore (a .a) (a .b)) (state (a .head) (a .vertices .now) (a .edges .now))
+    MoveWord (a .a) (c .before .before .before .before .before .this .result) (c .before .before .before .word-prev .result) (c .before .before .before .before .before .this .result)
+    (c .choose .result) ≡ planS (WordBefore (a .a) (a .b)) (state (a .head) (a .vertices .now) (a .edges .now))
 planned c =
     let a = c .before .before .before .before .before .before .before .before .before .before .before .before .before .args in
-    move-word-by (a .a) (c .before .before .before .before .before .this .ensures) (c .before .before .before .word-prev .ensures) (c .before .before .before .before .before .this .ensures) (chosen (a .a) (c .before .before .before .word-prev .ensures) (c .before .word-prev2 .ensures) (c .choose .ensures))
+    move-word-by (a .a) (c .before .before .before .before .before .this .ensures) (c .before .before .before .word-prev .ensures) (c .before .before .before .before .before .this .ensures)
+    (chosen (a .a) (c .before .before .before .word-prev .ensures) (c .before .word-prev2 .ensures) (c .choose .ensures))
 
 pub word-before-spec : {M : Type 1} → statement M
 word-before-spec =
     tie.close
-    (tie.spec
-    (λ c κs. search needs)
-    (λ c κs. search needs)
-    (λ c. search needs)
+    (tie.spec (λ c κs. search needs) (λ c κs. search needs) (λ c. search needs)
     (λ c types. one-refused tt (λ g y. c .before .before .order-words .ensures .1 g (_, y)) (c .before .if1 .taken) (c .unchanged .ensures))
     (λ c κs. accepted 0 (c .before) .rows .0)
     (λ c κs. accepted 0 (c .before .before .before) .rows .0)
     (λ c κs. accepted 0 (c .before .before .before .before .before) .rows .1)
     (λ c κs. search needs)
     (λ c κs. can-make (accepted 0 (c .before .before .before .before .before .before .before .before .before .before)) (planned (c .before .before .before)))
-    (λ c. search needs)
-    (λ c. search needs)
-    (λ c. search needs)
-    (λ c types. one-tried (accepted types (c .before .before .before .before .before .before .before .before .before .before .before .before .before .before .before .before .before)) (tries-by (planned (c .before .before .before .before .before .before .before .before .before .before)) (c .before .before .before .before .before .before .move-word .ensures))))
+    (λ c. search needs) (λ c. search needs) (λ c. search needs)
+    (λ c types. one-tried (accepted types (c .before .before .before .before .before .before .before .before .before .before .before .before .before .before .before .before .before))
+    (tries-by (planned (c .before .before .before .before .before .before .before .before .before .before)) (c .before .before .before .before .before .before .move-word .ensures))))

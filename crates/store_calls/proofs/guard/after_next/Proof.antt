@@ -8,11 +8,8 @@ use Rattle.store_calls.proofs.guard.after_next.Tie as tie
 returns : tie.Need-returns
 returns c = rw (eq-eqb _ _ (c .if1 .taken))
 
-add-result : tie.Need-add-result
-add-result c = omega (arith, c .if1 .left, c .before .pre, c .before .fits .steps .fits)
-
 returns-2 : tie.Need-returns-2
 returns-2 c = rw (ne-eqb _ _ (c .if1 .left))
 
 pub after-next-spec : {M : Type 1} → statement M
-after-next-spec = tie.close (tie.spec returns add-result returns-2)
+after-next-spec = tie.close (tie.spec returns (λ c. omega (arith, c .if1 .left, c .before .pre, c .before .fits .steps .fits)) returns-2)

@@ -10,18 +10,6 @@ use Rattle.store_calls.proofs.guard.goes_on.Tie as tie
 short : (c : tie.Start) → length (c .args .calls .now) * 4 < 9223372036854775808
 short c = c .good .0 .1
 
-mul-if1 : tie.Need-mul-if1
-mul-if1 c = omega (arith, c .before .pre, c .before .good .0 .1)
-
-mul-if1-2 : tie.Need-mul-if1-2
-mul-if1-2 c = omega (arith, c .before .pre, c .before .good .0 .1)
-
-shared-slice-read-if1 : tie.Need-shared-slice-read-if1
-shared-slice-read-if1 c = omega (arith, c .before .before .pre)
-
-shared-slice-read-if1-2 : tie.Need-shared-slice-read-if1-2
-shared-slice-read-if1-2 c = omega (arith, c .before .before .before .pre)
-
 returns : tie.Need-returns
 returns c = rw (ne-eqb _ _ (c .if1 .taken))
 
@@ -37,25 +25,12 @@ add-may-redo c = omega (arith, c .before .before .before .before .before .pre, c
 mul-may-redo-2 : tie.Need-mul-may-redo-2
 mul-may-redo-2 c = omega (arith, c .before .before .before .before .before .pre, c .before .before .before .before .before .good .0 .1)
 
-shared-slice-read-may-redo : tie.Need-shared-slice-read-may-redo
-shared-slice-read-may-redo c = omega (arith, c .before .before .before .before .before .before .pre)
-
 returns-3 : tie.Need-returns-3
 returns-3 c = rw (eq-eqb _ _ (c .before .before .before .if1 .left), c .before .before .if2 .left, ← c .may-redo .ensures)
 
 pub goes-on-spec : {M : Type 1} → statement M
 goes-on-spec =
     tie.close
-    (tie.spec
-    mul-if1
-    mul-if1-2
-    shared-slice-read-if1
-    shared-slice-read-if1-2
-    returns
-    returns-2
-    mul-may-redo
-    add-may-redo
-    mul-may-redo-2
-    shared-slice-read-may-redo
-    (λ c κs. search needs)
-    returns-3)
+    (tie.spec (λ c. omega (arith, c .before .pre, c .before .good .0 .1)) (λ c. omega (arith, c .before .pre, c .before .good .0 .1)) (λ c. omega (arith, c .before .before .pre))
+    (λ c. omega (arith, c .before .before .before .pre)) returns returns-2 mul-may-redo add-may-redo mul-may-redo-2
+    (λ c. omega (arith, c .before .before .before .before .before .before .pre)) (λ c κs. search needs) returns-3)

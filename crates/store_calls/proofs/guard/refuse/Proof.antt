@@ -14,9 +14,6 @@ two [] x h = absurd (omega (arith, h))
 two (a ∷ []) x h = absurd (omega (arith, h))
 two (a ∷ b ∷ l) x h = refl
 
-slice-write-answers : tie.Need-slice-write-answers
-slice-write-answers c = omega (arith, c .pre)
-
 slice-write-answers-2 : tie.Need-slice-write-answers-2
 slice-write-answers-2 c = simp length-set (omega (arith, c .pre))
 
@@ -25,4 +22,4 @@ returns c = two (c .args .answers .now) (c .args .code) (c .pre)
 
 pub refuse-spec : {M : Type 1} → statement M
 refuse-spec =
-    tie.close (tie.spec slice-write-answers slice-write-answers-2 (λ c. simp length-set refl) returns)
+    tie.close (tie.spec (λ c. omega (arith, c .pre)) slice-write-answers-2 (λ c. simp length-set refl) returns)

@@ -20,9 +20,6 @@ abbrev μ-loop : tie.MeasureT-loop
 loop-holds : tie.Need-loop-holds Inv-loop μ-loop
 loop-holds c = (omega arith, omega (arith, c .before .pre), λ j h l. absurd (omega (arith, h, l)))
 
-goes-on-requires : tie.Need-goes-on-requires Inv-loop μ-loop
-goes-on-requires c κs = omega (arith, c .loop-test)
-
 returns : tie.Need-returns Inv-loop μ-loop
 returns c = let i = c .before .before .before .loop .inv in record { some = i .0; there = omega (arith, i .1); going = i .2 }
 
@@ -39,7 +36,8 @@ loop-again c =
       omega arith,
       omega (arith, c .before .before .loop-test),
       λ j h l. elim (same? j k) [
-        | same f g ↦ subst (λ (q : ℕ). goesOn (c .before .before .before .before .before .args .ample) q (c .before .before .before .before .before .args .calls .now) ≡ true) g (sym (c .before .goes-on .ensures) ∙ not-false _ (c .if1 .left))
+        | same f g ↦ subst (λ (q : ℕ). goesOn (c .before .before .before .before .before .args .ample) q (c .before .before .before .before .before .args .calls .now) ≡ true) g
+            (sym (c .before .goes-on .ensures) ∙ not-false _ (c .if1 .left))
         | differ f g ↦ i .2 j h (omega (arith, l, f))
       ],
     )
@@ -50,13 +48,4 @@ returns-2 c = let i = c .before .loop .inv in record { some = i .0; there = omeg
 pub stretch-length-spec : {M : Type 1} → statement M
 stretch-length-spec =
     tie.close
-    (tie.spec
-    Inv-loop
-    μ-loop
-    loop-holds
-    goes-on-requires
-    returns
-    add-k
-    loop-less
-    loop-again
-    returns-2)
+    (tie.spec Inv-loop μ-loop loop-holds (λ c κs. omega (arith, c .loop-test)) returns add-k loop-less loop-again returns-2)

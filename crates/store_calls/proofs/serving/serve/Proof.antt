@@ -48,7 +48,10 @@ record Facts (v e t i stores : ℕ) (vertices edges journal : List ℕ) (used ro
   short : used + room < 2 ^ 32
   words : t < 2 ^ 32
 
-facts : (c : tie.After-slot Inv-loop μ-loop) → Facts (c .before .before .before .before .before .before .before .before .before .before .args .v) (c .before .before .before .before .before .before .before .before .before .before .args .e) (c .before .before .before .before .before .before .before .before .before .before .args .t) (c .slot .result) (c .before .before .before .before .before .before .before .before .before .before .args .stores) (c .before .before .before .before .loop .vertices) (c .before .before .before .before .loop .edges) (c .before .before .before .before .loop .journal)
+facts : (c : tie.After-slot Inv-loop μ-loop) → Facts (c .before .before .before .before .before .before .before .before .before .before .args .v)
+    (c .before .before .before .before .before .before .before .before .before .before .args .e) (c .before .before .before .before .before .before .before .before .before .before .args .t)
+    (c .slot .result) (c .before .before .before .before .before .before .before .before .before .before .args .stores) (c .before .before .before .before .loop .vertices)
+    (c .before .before .before .before .loop .edges) (c .before .before .before .before .loop .journal)
     (storeAt (c .before .before .before .before .loop .all) (c .slot .result) .current .position .used) (c .before .before .before .before .loop .room)
 facts c =
     let a = c .before .before .before .before .before .before .before .before .before .before .args in
@@ -87,14 +90,8 @@ mul-number c = omega (arith, c .loop-test, c .before .before .before .before .be
 mul-number-2 : tie.Need-mul-number-2 Inv-loop μ-loop
 mul-number-2 c = omega (arith, c .loop-test, c .before .before .before .before .before .before .before .good .1 .1 .1 .1 .1 .1 .1 .0 .1)
 
-shared-slice-read-number : tie.Need-shared-slice-read-number Inv-loop μ-loop
-shared-slice-read-number c = omega (arith, c .before .loop-test)
-
 slot-requires : tie.Need-slot-requires Inv-loop μ-loop
 slot-requires c κs = let p = c .before .before .before .before .before .before .before .before .before .pre .0 in omega (arith, p .2, p .4 .some)
-
-mul-x : tie.Need-mul-x Inv-loop μ-loop
-mul-x c = omega (arith, facts (c) .eight)
 
 array-copy-out-x : tie.Need-array-copy-out-x Inv-loop μ-loop
 array-copy-out-x c = facts (c) .eight
@@ -172,50 +169,74 @@ index-1-answer : tie.Need-index-1-answer Inv-loop μ-loop
 index-1-answer c = facts (c .before .before .before .before .before) .eight
 
 -- the lists are as long as slices can be
-lists-short : (c : tie.In-loop Inv-loop μ-loop) → (length (c .before .before .before .before .before .before .before .args .calls .now) * 4 < 9223372036854775808) × (length (c .before .loop .answers) * 4 < 9223372036854775808) × (2 * (length (c .before .before .before .before .before .before .before .args .calls .now) / 6) ≤ length (c .before .loop .answers))
-lists-short c = (c .before .before .before .before .before .before .before .good .1 .1 .1 .1 .1 .1 .1 .0 .1, omega (arith, c .before .loop .inv .4, c .before .before .before .before .before .before .before .good .1 .1 .1 .1 .1 .1 .1 .1 .0 .1), omega (arith, c .before .loop .inv .4, c .before .before .before .before .before .before .before .pre .1))
+lists-short : (c : tie.In-loop Inv-loop μ-loop) → (length (c .before .before .before .before .before .before .before .args .calls .now) * 4 < 9223372036854775808)
+    × (length (c .before .loop .answers) * 4 < 9223372036854775808)
+    × (2 * (length (c .before .before .before .before .before .before .before .args .calls .now) / 6) ≤ length (c .before .loop .answers))
+lists-short c = (
+  c .before .before .before .before .before .before .before .good .1 .1 .1 .1 .1 .1 .1 .0 .1,
+  omega (arith, c .before .loop .inv .4, c .before .before .before .before .before .before .before .good .1 .1 .1 .1 .1 .1 .1 .1 .0 .1),
+  omega (arith, c .before .loop .inv .4, c .before .before .before .before .before .before .before .pre .1),
+)
 
 mul-answer-11 : tie.Need-mul-answer-11 Inv-loop μ-loop
-mul-answer-11 c = let s = lists-short (c .before .before .before .before .before .before .before .before .before) in omega (arith, c .before .before .before .before .before .before .before .before .before .loop-test, s .0, s .1, s .2)
+mul-answer-11 c = let s = lists-short (c .before .before .before .before .before .before .before .before .before) in
+    omega (arith, c .before .before .before .before .before .before .before .before .before .loop-test, s .0, s .1, s .2)
 
 mul-answer-12 : tie.Need-mul-answer-12 Inv-loop μ-loop
-mul-answer-12 c = let s = lists-short (c .before .before .before .before .before .before .before .before .before) in omega (arith, c .before .before .before .before .before .before .before .before .before .loop-test, s .0, s .1, s .2)
+mul-answer-12 c = let s = lists-short (c .before .before .before .before .before .before .before .before .before) in
+    omega (arith, c .before .before .before .before .before .before .before .before .before .loop-test, s .0, s .1, s .2)
 
 mul-answer-13 : tie.Need-mul-answer-13 Inv-loop μ-loop
-mul-answer-13 c = let s = lists-short (c .before .before .before .before .before .before .before .before .before) in omega (arith, c .before .before .before .before .before .before .before .before .before .loop-test, s .0, s .1, s .2)
+mul-answer-13 c = let s = lists-short (c .before .before .before .before .before .before .before .before .before) in
+    omega (arith, c .before .before .before .before .before .before .before .before .before .loop-test, s .0, s .1, s .2)
 
 sub-answer-4 : tie.Need-sub-answer-4 Inv-loop μ-loop
-sub-answer-4 c = let s = lists-short (c .before .before .before .before .before .before .before .before .before) in omega (arith, c .before .before .before .before .before .before .before .before .before .loop-test, s .0, s .1, s .2)
+sub-answer-4 c = let s = lists-short (c .before .before .before .before .before .before .before .before .before) in
+    omega (arith, c .before .before .before .before .before .before .before .before .before .loop-test, s .0, s .1, s .2)
 
 part-answer-start-4 : tie.Need-part-answer-start-4 Inv-loop μ-loop
-part-answer-start-4 c = let s = lists-short (c .before .before .before .before .before .before .before .before .before) in omega (arith, c .before .before .before .before .before .before .before .before .before .loop-test, s .0, s .1, s .2)
+part-answer-start-4 c = let s = lists-short (c .before .before .before .before .before .before .before .before .before) in
+    omega (arith, c .before .before .before .before .before .before .before .before .before .loop-test, s .0, s .1, s .2)
 
 part-answer-end-4 : tie.Need-part-answer-end-4 Inv-loop μ-loop
-part-answer-end-4 c = let s = lists-short (c .before .before .before .before .before .before .before .before .before) in omega (arith, c .before .before .before .before .before .before .before .before .before .loop-test, s .0, s .1, s .2)
+part-answer-end-4 c = let s = lists-short (c .before .before .before .before .before .before .before .before .before) in
+    omega (arith, c .before .before .before .before .before .before .before .before .before .loop-test, s .0, s .1, s .2)
 
 mul-answer-14 : tie.Need-mul-answer-14 Inv-loop μ-loop
-mul-answer-14 c = let s = lists-short (c .before .before .before .before .before .before .before .before .before .before) in omega (arith, c .before .before .before .before .before .before .before .before .before .before .loop-test, s .0, s .1, s .2)
+mul-answer-14 c = let s = lists-short (c .before .before .before .before .before .before .before .before .before .before) in
+    omega (arith, c .before .before .before .before .before .before .before .before .before .before .loop-test, s .0, s .1, s .2)
 
 mul-answer-15 : tie.Need-mul-answer-15 Inv-loop μ-loop
-mul-answer-15 c = let s = lists-short (c .before .before .before .before .before .before .before .before .before .before) in omega (arith, c .before .before .before .before .before .before .before .before .before .before .loop-test, s .0, s .1, s .2)
+mul-answer-15 c = let s = lists-short (c .before .before .before .before .before .before .before .before .before .before) in
+    omega (arith, c .before .before .before .before .before .before .before .before .before .before .loop-test, s .0, s .1, s .2)
 
 mul-answer-16 : tie.Need-mul-answer-16 Inv-loop μ-loop
-mul-answer-16 c = let s = lists-short (c .before .before .before .before .before .before .before .before .before .before) in omega (arith, c .before .before .before .before .before .before .before .before .before .before .loop-test, s .0, s .1, s .2)
+mul-answer-16 c = let s = lists-short (c .before .before .before .before .before .before .before .before .before .before) in
+    omega (arith, c .before .before .before .before .before .before .before .before .before .before .loop-test, s .0, s .1, s .2)
 
 sub-answer-5 : tie.Need-sub-answer-5 Inv-loop μ-loop
-sub-answer-5 c = let s = lists-short (c .before .before .before .before .before .before .before .before .before .before) in omega (arith, c .before .before .before .before .before .before .before .before .before .before .loop-test, s .0, s .1, s .2)
+sub-answer-5 c = let s = lists-short (c .before .before .before .before .before .before .before .before .before .before) in
+    omega (arith, c .before .before .before .before .before .before .before .before .before .before .loop-test, s .0, s .1, s .2)
 
 part-answer-start-5 : tie.Need-part-answer-start-5 Inv-loop μ-loop
-part-answer-start-5 c = let s = lists-short (c .before .before .before .before .before .before .before .before .before .before) in omega (arith, c .before .before .before .before .before .before .before .before .before .before .loop-test, s .0, s .1, s .2)
+part-answer-start-5 c = let s = lists-short (c .before .before .before .before .before .before .before .before .before .before) in
+    omega (arith, c .before .before .before .before .before .before .before .before .before .before .loop-test, s .0, s .1, s .2)
 
 part-answer-end-5 : tie.Need-part-answer-end-5 Inv-loop μ-loop
-part-answer-end-5 c = let s = lists-short (c .before .before .before .before .before .before .before .before .before .before) in omega (arith, c .before .before .before .before .before .before .before .before .before .before .loop-test, s .0, s .1, s .2)
+part-answer-end-5 c = let s = lists-short (c .before .before .before .before .before .before .before .before .before .before) in
+    omega (arith, c .before .before .before .before .before .before .before .before .before .before .loop-test, s .0, s .1, s .2)
 
 -- the calls and answers that are lent to it
-rest-long : (c : tie.In-loop Inv-loop μ-loop) → length (take (6 * (length (c .before .before .before .before .before .before .before .args .calls .now) / 6) - 6 * c .before .loop .k) (drop (6 * c .before .loop .k) (c .before .before .before .before .before .before .before .args .calls .now))) ≡ 6 * (length (c .before .before .before .before .before .before .before .args .calls .now) / 6) - 6 * c .before .loop .k
-rest-long c = length-take-le _ (drop (6 * c .before .loop .k) (c .before .before .before .before .before .before .before .args .calls .now)) (rw (length-drop (6 * c .before .loop .k) (c .before .before .before .before .before .before .before .args .calls .now)) (omega (arith, c .loop-test)))
+rest-long : (c : tie.In-loop Inv-loop μ-loop)
+    → length (take (6 * (length (c .before .before .before .before .before .before .before .args .calls .now) / 6) - 6 * c .before .loop .k)
+    (drop (6 * c .before .loop .k) (c .before .before .before .before .before .before .before .args .calls .now)))
+    ≡ 6 * (length (c .before .before .before .before .before .before .before .args .calls .now) / 6) - 6 * c .before .loop .k
+rest-long c = length-take-le _ (drop (6 * c .before .loop .k) (c .before .before .before .before .before .before .before .args .calls .now))
+    (rw (length-drop (6 * c .before .loop .k) (c .before .before .before .before .before .before .before .args .calls .now)) (omega (arith, c .loop-test)))
 
-room-long : (c : tie.In-loop Inv-loop μ-loop) → length (take (2 * (length (c .before .before .before .before .before .before .before .args .calls .now) / 6) - 2 * c .before .loop .k) (drop (2 * c .before .loop .k) (c .before .loop .answers))) ≡ 2 * (length (c .before .before .before .before .before .before .before .args .calls .now) / 6) - 2 * c .before .loop .k
+room-long : (c : tie.In-loop Inv-loop μ-loop)
+    → length (take (2 * (length (c .before .before .before .before .before .before .before .args .calls .now) / 6) - 2 * c .before .loop .k)
+    (drop (2 * c .before .loop .k) (c .before .loop .answers))) ≡ 2 * (length (c .before .before .before .before .before .before .before .args .calls .now) / 6) - 2 * c .before .loop .k
 room-long c = length-take-le _ (drop (2 * c .before .loop .k) (c .before .loop .answers)) (rw (length-drop (2 * c .before .loop .k) (c .before .loop .answers)) (omega (arith, lists-short c .2)))
 
 answer-requires : tie.Need-answer-requires Inv-loop μ-loop
@@ -233,7 +254,15 @@ answer-requires c κs =
         (p .0, _, g .0 .after .each (i .result) (omega (arith, i .ensures .1, q .0, p .2))),
         (omega (arith, r, f .fits), omega (arith, r, part-length (a .t) (i .result) (l .journal) (f .tend))),
       ),
-      (omega (arith, long, c .before .before .before .before .before .before .before .before .before .before .before .loop-test), omega (arith, long, room-long (c .before .before .before .before .before .before .before .before .before .before .before), c .before .before .before .before .before .before .before .before .before .before .before .loop-test)),
+      (
+        omega (arith, long, c .before .before .before .before .before .before .before .before .before .before .before .loop-test),
+        omega (
+          arith,
+          long,
+          room-long (c .before .before .before .before .before .before .before .before .before .before .before),
+          c .before .before .before .before .before .before .before .before .before .before .before .loop-test,
+        ),
+      ),
     )
 
 mul-all : tie.Need-mul-all Inv-loop μ-loop
@@ -243,14 +272,34 @@ array-set-from-all : tie.Need-array-set-from-all Inv-loop μ-loop
 array-set-from-all c = facts (c .before .before .before .before .before .before .before .before .before .before .before .before .before .before .before .before .before .before) .eight
 
 add-room : tie.Need-add-room Inv-loop μ-loop
-add-room c = let f = facts (c .before .before .before .before .before .before .before .before .before .before .before .before .before .before .before .before .before .before) .short in omega (arith, f)
+add-room c = let f =
+    facts (c .before .before .before .before .before .before .before .before .before .before .before .before .before .before .before .before .before .before) .short in omega (arith, f)
 
 -- how many calls were taken
-taken-in : (c : tie.After-answer Inv-loop μ-loop) → (1 ≤ c .answer .result .calls) × (c .before .before .before .before .before .before .before .before .before .before .before .before .before .loop .k + c .answer .result .calls ≤ length (c .before .before .before .before .before .before .before .before .before .before .before .before .before .before .before .before .before .before .before .args .calls .now) / 6)
-taken-in c = let t = c .answer .ensures .0 in (t .some, omega (arith, t .there, rest-long (c .before .before .before .before .before .before .before .before .before .before .before .before), c .before .before .before .before .before .before .before .before .before .before .before .before .loop-test))
+taken-in : (c : tie.After-answer Inv-loop μ-loop) → (1 ≤ c .answer .result .calls)
+    × (c .before .before .before .before .before .before .before .before .before .before .before .before .before .loop .k + c .answer .result .calls ≤ length
+    (c .before .before .before .before .before .before .before .before .before .before .before .before .before .before .before .before .before .before .before .args .calls .now) / 6)
+taken-in c = let t = c .answer .ensures .0 in (
+  t .some,
+  omega (
+    arith,
+    t .there,
+    rest-long (c .before .before .before .before .before .before .before .before .before .before .before .before),
+    c .before .before .before .before .before .before .before .before .before .before .before .before .loop-test,
+  ),
+)
 
 -- they are of one store
-one-store : (c : tie.After-answer Inv-loop μ-loop) → OfStore (getD (c .before .before .before .before .before .before .before .before .before .before .before .before .before .before .before .before .before .before .before .args .calls .now) (6 * c .before .before .before .before .before .before .before .before .before .before .before .before .before .loop .k) 0) (take (c .answer .result .calls) (storeCallsOf (take (6 * (length (c .before .before .before .before .before .before .before .before .before .before .before .before .before .before .before .before .before .before .before .args .calls .now) / 6) - 6 * c .before .before .before .before .before .before .before .before .before .before .before .before .before .loop .k) (drop (6 * c .before .before .before .before .before .before .before .before .before .before .before .before .before .loop .k) (c .before .before .before .before .before .before .before .before .before .before .before .before .before .before .before .before .before .before .before .args .calls .now)))))
+one-store : (c : tie.After-answer Inv-loop μ-loop)
+    → OfStore
+    (getD (c .before .before .before .before .before .before .before .before .before .before .before .before .before .before .before .before .before .before .before .args .calls .now)
+    (6 * c .before .before .before .before .before .before .before .before .before .before .before .before .before .loop .k) 0) (take (c .answer .result .calls)
+    (storeCallsOf
+    (take (6 * (length
+    (c .before .before .before .before .before .before .before .before .before .before .before .before .before .before .before .before .before .before .before .args .calls .now) / 6) - 6 *
+    c .before .before .before .before .before .before .before .before .before .before .before .before .before .loop .k) (drop
+    (6 * c .before .before .before .before .before .before .before .before .before .before .before .before .before .loop .k)
+    (c .before .before .before .before .before .before .before .before .before .before .before .before .before .before .before .before .before .before .before .args .calls .now)))))
 one-store c =
     let t = c .answer .ensures .0 in
     let ws = c .before .before .before .before .before .before .before .before .before .before .before .before .before .before .before .before .before .before .before .args .calls .now in
@@ -261,24 +310,104 @@ one-store c =
     of-store (getD ws from 0) (take n (storeCallsOf rest)) (six 0 0 []) (λ j h.
     let i : j < n = omega (arith, h, first-length n rest (t .there)) in
     ap (λ (x : StoreCall). x .store) (first-at n j rest (six 0 0 []) i (t .there)) ∙ t .alike j i
-    ∙ getD-take (6 * (length ws / 6) - from) (drop from ws) 0 0 (omega (arith, c .before .before .before .before .before .before .before .before .before .before .before .before .loop-test)) ∙ getD-drop from ws 0 0 ∙ ap (λ (m : ℕ). getD ws m 0) zero-at)
+    ∙ getD-take (6 * (length ws / 6) - from) (drop from ws) 0 0 (omega (arith, c .before .before .before .before .before .before .before .before .before .before .before .before .loop-test))
+    ∙ getD-drop from ws 0 0 ∙ ap (λ (m : ℕ). getD ws m 0) zero-at)
 
 -- what they leave
-record Left (w : Parameters) (s : Stores) (v e t k c n : ℕ) (calls : List ℕ) (all : List Store) (vertices edges journal : List ℕ) (marks : List (List ℕ)) (closed : List ℕ) (types : ℕ) (used room : ℕ) (part part′ : List ℕ) : Type 0 where
-  serving : Serving w (sizes v e t) all (whole vertices edges journal marks) closed types (lastIn w (lastIn w s (take k (storeCallsOf calls))) (take c (storeCallsOf (take (6 * n - 6 * k) (drop (6 * k) calls)))))
+record Left (w : Parameters) (s : Stores) (v e t k c n : ℕ) (calls : List ℕ) (all : List Store) (vertices edges journal : List ℕ) (marks : List (List ℕ)) (closed : List ℕ) (types : ℕ)
+    (used room : ℕ) (part part′ : List ℕ) : Type 0 where
+  serving : Serving w (sizes v e t) all (whole vertices edges journal marks) closed types
+      (lastIn w (lastIn w s (take k (storeCallsOf calls))) (take c (storeCallsOf (take (6 * n - 6 * k) (drop (6 * k) calls)))))
   enough : used ≤ room
   rest : room - used ≡ jointRoom (lastIn w (lastIn w s (take k (storeCallsOf calls))) (take c (storeCallsOf (take (6 * n - 6 * k) (drop (6 * k) calls)))))
   written : part′ ≡ overwritten (answerWords (answersIn w (lastIn w s (take k (storeCallsOf calls))) (take c (storeCallsOf (take (6 * n - 6 * k) (drop (6 * k) calls)))))) part
 
-after : (c : tie.After-same Inv-loop μ-loop) (w : Parameters) (s : Stores) → s .count ≡ c .before .before .before .before .before .before .before .before .before .before .before .before .before .before .before .before .before .before .before .before .before .before .before .before .before .before .before .before .args .stores → c .before .before .before .before .before .before .before .before .before .before .before .before .before .before .before .before .before .before .before .before .before .before .before .before .before .before .before .before .args .joint ≡ jointRoom s
-    → Serving w (sizes (c .before .before .before .before .before .before .before .before .before .before .before .before .before .before .before .before .before .before .before .before .before .before .before .before .before .before .before .before .args .v) (c .before .before .before .before .before .before .before .before .before .before .before .before .before .before .before .before .before .before .before .before .before .before .before .before .before .before .before .before .args .e) (c .before .before .before .before .before .before .before .before .before .before .before .before .before .before .before .before .before .before .before .before .before .before .before .before .before .before .before .before .args .t)) (c .before .before .before .before .before .before .before .before .before .before .before .before .before .before .before .before .before .before .before .before .before .before .before .before .before .before .before .before .args .first) (whole (c .before .before .before .before .before .before .before .before .before .before .before .before .before .before .before .before .before .before .before .before .before .before .before .before .before .before .before .before .args .vertices .now) (c .before .before .before .before .before .before .before .before .before .before .before .before .before .before .before .before .before .before .before .before .before .before .before .before .before .before .before .before .args .edges .now) (c .before .before .before .before .before .before .before .before .before .before .before .before .before .before .before .before .before .before .before .before .before .before .before .before .before .before .before .before .args .journal .now) (c .before .before .before .before .before .before .before .before .before .before .before .before .before .before .before .before .before .before .before .before .before .before .before .before .before .before .before .before .args .marks .now)) (c .before .before .before .before .before .before .before .before .before .before .before .before .before .before .before .before .before .before .before .before .before .before .before .before .before .before .before .before .args .closed .now) (c .before .before .before .before .before .before .before .before .before .before .before .before .before .before .before .before .before .before .before .before .before .before .before .before .before .before .before .before .args .types) s
-    → Left w s (c .before .before .before .before .before .before .before .before .before .before .before .before .before .before .before .before .before .before .before .before .before .before .before .before .before .before .before .before .args .v) (c .before .before .before .before .before .before .before .before .before .before .before .before .before .before .before .before .before .before .before .before .before .before .before .before .before .before .before .before .args .e) (c .before .before .before .before .before .before .before .before .before .before .before .before .before .before .before .before .before .before .before .before .before .before .before .before .before .before .before .before .args .t) (c .before .before .before .before .before .before .before .before .before .before .before .before .before .before .before .before .before .before .before .before .before .before .loop .k) (c .before .before .before .before .before .before .before .before .before .answer .result .calls) (length (c .before .before .before .before .before .before .before .before .before .before .before .before .before .before .before .before .before .before .before .before .before .before .before .before .before .before .before .before .args .calls .now) / 6) (c .before .before .before .before .before .before .before .before .before .before .before .before .before .before .before .before .before .before .before .before .before .before .before .before .before .before .before .before .args .calls .now) (set (c .before .before .before .before .before .before .before .before .before .before .before .before .before .before .before .before .before .before .before .before .before .before .loop .all) (c .before .before .before .before .before .before .before .before .before .before .before .before .before .before .before .before .before .before .slot .result) (c .same .result))
-    (withPart (c .before .before .before .before .before .before .before .before .before .before .before .before .before .before .before .before .before .before .before .before .before .before .before .before .before .before .before .before .args .v) (c .before .before .before .before .before .before .before .before .before .before .before .before .before .before .before .before .before .before .slot .result) (c .before .before .before .before .before .before .before .before .before .answer .last .1 .0) (c .before .before .before .before .before .before .before .before .before .before .before .before .before .before .before .before .before .before .before .before .before .before .loop .vertices)) (withPart (c .before .before .before .before .before .before .before .before .before .before .before .before .before .before .before .before .before .before .before .before .before .before .before .before .before .before .before .before .args .e) (c .before .before .before .before .before .before .before .before .before .before .before .before .before .before .before .before .before .before .slot .result) (c .before .before .before .before .before .before .before .before .before .answer .last .1 .1 .0) (c .before .before .before .before .before .before .before .before .before .before .before .before .before .before .before .before .before .before .before .before .before .before .loop .edges))
-    (withPart (c .before .before .before .before .before .before .before .before .before .before .before .before .before .before .before .before .before .before .before .before .before .before .before .before .before .before .before .before .args .t) (c .before .before .before .before .before .before .before .before .before .before .before .before .before .before .before .before .before .before .slot .result) (c .before .before .before .before .before .before .before .before .before .answer .last .1 .1 .1 .0) (c .before .before .before .before .before .before .before .before .before .before .before .before .before .before .before .before .before .before .before .before .before .before .loop .journal)) (set (c .before .before .before .before .before .before .before .before .before .before .before .before .before .before .before .before .before .before .before .before .before .before .loop .marks) (c .before .before .before .before .before .before .before .before .before .before .before .before .before .before .before .before .before .before .slot .result) (c .before .before .before .before .before .before .before .before .before .answer .last .1 .1 .1 .1 .0)) (c .before .before .before .before .before .before .before .before .before .before .before .before .before .before .before .before .before .before .before .before .before .before .before .before .before .before .before .before .args .closed .now) (c .before .before .before .before .before .before .before .before .before .before .before .before .before .before .before .before .before .before .before .before .before .before .before .before .before .before .before .before .args .types)
-    (c .same .result .current .position .used) (c .before .before .before .before .before .before .before .before .before .before .before .before .before .before .before .before .before .before .before .before .before .before .loop .room + storeAt (c .before .before .before .before .before .before .before .before .before .before .before .before .before .before .before .before .before .before .before .before .before .before .loop .all) (c .before .before .before .before .before .before .before .before .before .before .before .before .before .before .before .before .before .before .slot .result) .current .position .used)
-    (take (2 * (length (c .before .before .before .before .before .before .before .before .before .before .before .before .before .before .before .before .before .before .before .before .before .before .before .before .before .before .before .before .args .calls .now) / 6) - 2 * c .before .before .before .before .before .before .before .before .before .before .before .before .before .before .before .before .before .before .before .before .before .before .loop .k) (drop (2 * c .before .before .before .before .before .before .before .before .before .before .before .before .before .before .before .before .before .before .before .before .before .before .loop .k) (c .before .before .before .before .before .before .before .before .before .before .before .before .before .before .before .before .before .before .before .before .before .before .loop .answers))) (c .before .before .before .before .before .before .before .before .before .answer .last .1 .1 .1 .1 .1 .1 .1 .1 .1 .0)
+after : (c : tie.After-same Inv-loop μ-loop) (w : Parameters) (s : Stores)
+    → s .count
+    ≡ c .before .before .before .before .before .before .before .before .before .before .before .before .before .before .before .before .before .before .before .before .before .before
+    .before .before .before .before .before .before .args .stores
+    → c .before .before .before .before .before .before .before .before .before .before .before .before .before .before .before .before .before .before .before .before .before .before
+    .before .before .before .before .before .before .args .joint ≡ jointRoom s
+    → Serving w (sizes
+    (c .before .before .before .before .before .before .before .before .before .before .before .before .before .before .before .before .before .before .before .before .before .before
+    .before .before .before .before .before .before .args .v)
+    (c .before .before .before .before .before .before .before .before .before .before .before .before .before .before .before .before .before .before .before .before .before .before
+    .before .before .before .before .before .before .args .e)
+    (c .before .before .before .before .before .before .before .before .before .before .before .before .before .before .before .before .before .before .before .before .before .before
+    .before .before .before .before .before .before .args .t))
+    (c .before .before .before .before .before .before .before .before .before .before .before .before .before .before .before .before .before .before .before .before .before .before
+    .before .before .before .before .before .before .args .first) (whole
+    (c .before .before .before .before .before .before .before .before .before .before .before .before .before .before .before .before .before .before .before .before .before .before
+    .before .before .before .before .before .before .args .vertices .now)
+    (c .before .before .before .before .before .before .before .before .before .before .before .before .before .before .before .before .before .before .before .before .before .before
+    .before .before .before .before .before .before .args .edges .now)
+    (c .before .before .before .before .before .before .before .before .before .before .before .before .before .before .before .before .before .before .before .before .before .before
+    .before .before .before .before .before .before .args .journal .now)
+    (c .before .before .before .before .before .before .before .before .before .before .before .before .before .before .before .before .before .before .before .before .before .before
+    .before .before .before .before .before .before .args .marks .now))
+    (c .before .before .before .before .before .before .before .before .before .before .before .before .before .before .before .before .before .before .before .before .before .before
+    .before .before .before .before .before .before .args .closed .now)
+    (c .before .before .before .before .before .before .before .before .before .before .before .before .before .before .before .before .before .before .before .before .before .before
+    .before .before .before .before .before .before .args .types) s
+    → Left w s (c .before .before .before .before .before .before .before .before .before .before .before .before .before .before .before .before .before .before .before .before .before
+    .before .before .before .before .before .before .before .args .v)
+    (c .before .before .before .before .before .before .before .before .before .before .before .before .before .before .before .before .before .before .before .before .before .before
+    .before .before .before .before .before .before .args .e)
+    (c .before .before .before .before .before .before .before .before .before .before .before .before .before .before .before .before .before .before .before .before .before .before
+    .before .before .before .before .before .before .args .t)
+    (c .before .before .before .before .before .before .before .before .before .before .before .before .before .before .before .before .before .before .before .before .before .before
+    .loop .k) (c .before .before .before .before .before .before .before .before .before .answer .result .calls) (length
+    (c .before .before .before .before .before .before .before .before .before .before .before .before .before .before .before .before .before .before .before .before .before .before
+    .before .before .before .before .before .before .args .calls .now) / 6)
+    (c .before .before .before .before .before .before .before .before .before .before .before .before .before .before .before .before .before .before .before .before .before .before
+    .before .before .before .before .before .before .args .calls .now) (set
+    (c .before .before .before .before .before .before .before .before .before .before .before .before .before .before .before .before .before .before .before .before .before .before
+    .loop .all) (c .before .before .before .before .before .before .before .before .before .before .before .before .before .before .before .before .before .before .slot .result)
+    (c .same .result))
+    (withPart (c .before .before .before .before .before .before .before .before .before .before .before .before .before .before .before .before .before .before .before .before .before
+    .before .before .before .before .before .before .before .args .v)
+    (c .before .before .before .before .before .before .before .before .before .before .before .before .before .before .before .before .before .before .slot .result)
+    (c .before .before .before .before .before .before .before .before .before .answer .last .1 .0)
+    (c .before .before .before .before .before .before .before .before .before .before .before .before .before .before .before .before .before .before .before .before .before .before
+    .loop .vertices)) (withPart
+    (c .before .before .before .before .before .before .before .before .before .before .before .before .before .before .before .before .before .before .before .before .before .before
+    .before .before .before .before .before .before .args .e)
+    (c .before .before .before .before .before .before .before .before .before .before .before .before .before .before .before .before .before .before .slot .result)
+    (c .before .before .before .before .before .before .before .before .before .answer .last .1 .1 .0)
+    (c .before .before .before .before .before .before .before .before .before .before .before .before .before .before .before .before .before .before .before .before .before .before
+    .loop .edges))
+    (withPart (c .before .before .before .before .before .before .before .before .before .before .before .before .before .before .before .before .before .before .before .before .before
+    .before .before .before .before .before .before .before .args .t)
+    (c .before .before .before .before .before .before .before .before .before .before .before .before .before .before .before .before .before .before .slot .result)
+    (c .before .before .before .before .before .before .before .before .before .answer .last .1 .1 .1 .0)
+    (c .before .before .before .before .before .before .before .before .before .before .before .before .before .before .before .before .before .before .before .before .before .before
+    .loop .journal)) (set
+    (c .before .before .before .before .before .before .before .before .before .before .before .before .before .before .before .before .before .before .before .before .before .before
+    .loop .marks) (c .before .before .before .before .before .before .before .before .before .before .before .before .before .before .before .before .before .before .slot .result)
+    (c .before .before .before .before .before .before .before .before .before .answer .last .1 .1 .1 .1 .0))
+    (c .before .before .before .before .before .before .before .before .before .before .before .before .before .before .before .before .before .before .before .before .before .before
+    .before .before .before .before .before .before .args .closed .now)
+    (c .before .before .before .before .before .before .before .before .before .before .before .before .before .before .before .before .before .before .before .before .before .before
+    .before .before .before .before .before .before .args .types)
+    (c .same .result .current .position .used)
+    (c .before .before .before .before .before .before .before .before .before .before .before .before .before .before .before .before .before .before .before .before .before .before
+    .loop .room + storeAt
+    (c .before .before .before .before .before .before .before .before .before .before .before .before .before .before .before .before .before .before .before .before .before .before
+    .loop .all)
+    (c .before .before .before .before .before .before .before .before .before .before .before .before .before .before .before .before .before .before .slot .result) .current .position
+    .used)
+    (take (2 * (length
+    (c .before .before .before .before .before .before .before .before .before .before .before .before .before .before .before .before .before .before .before .before .before .before
+    .before .before .before .before .before .before .args .calls .now) / 6) - 2 *
+    c .before .before .before .before .before .before .before .before .before .before .before .before .before .before .before .before .before .before .before .before .before .before
+    .loop .k) (drop
+    (2 * c .before .before .before .before .before .before .before .before .before .before .before .before .before .before .before .before .before .before .before .before .before .before
+    .loop .k)
+    (c .before .before .before .before .before .before .before .before .before .before .before .before .before .before .before .before .before .before .before .before .before .before
+    .loop .answers))) (c .before .before .before .before .before .before .before .before .before .answer .last .1 .1 .1 .1 .1 .1 .1 .1 .1 .0)
 after c w s e f h₀ =
-    let A = c .before .before .before .before .before .before .before .before .before .before .before .before .before .before .before .before .before .before .before .before .before .before .before .before .before .before .before .before .args in
+    let A = c .before .before .before .before .before .before .before .before .before .before .before .before .before .before .before .before .before .before .before .before .before .before
+    .before .before .before .before .before .before .args in
     let l = c .before .before .before .before .before .before .before .before .before .before .before .before .before .before .before .before .before .before .before .before .before .before .loop in
     let st = c .before .before .before .before .before .before .before .before .before .answer in
     let i = c .before .before .before .before .before .before .before .before .before .before .before .before .before .before .before .before .before .before .slot .result in
@@ -289,13 +418,24 @@ after c w s e f h₀ =
     let m = whole (l .vertices) (l .edges) (l .journal) (l .marks) in
     let h = g .0 .after in
     let q : S .count ≡ A .stores = limits-last w s (take (l .k) (storeCallsOf (A .calls .now))) .0 ∙ e in
-    let inside : i < S .count = omega (arith, c .before .before .before .before .before .before .before .before .before .before .before .before .before .before .before .before .before .before .slot .ensures .1, q) in
+    let inside : i < S .count =
+    omega (
+      arith,
+      c .before .before .before .before .before .before .before .before .before .before .before .before .before .before .before .before .before .before .slot .ensures .1,
+      q,
+    ) in
     let number = getD (A .calls .now) (6 * l .k) 0 in
-    let slot : i ≡ slotOf number (S .count) = c .before .before .before .before .before .before .before .before .before .before .before .before .before .before .before .before .before .before .slot .ensures .0 ∙ ap (slotOf number) (sym q) in
+    let slot : i ≡ slotOf number (S .count) =
+    c .before .before .before .before .before .before .before .before .before .before .before .before .before .before .before .before .before .before .slot .ensures .0
+    ∙ ap (slotOf number) (sym q) in
     let there = c .before .before .before .before .before .before .before .before .before .before .before .before .before .before .before .before .before .before .before .is-store .result in
-    let th : there ≡ within 1 (S .count) number = c .before .before .before .before .before .before .before .before .before .before .before .before .before .before .before .before .before .before .before .is-store .ensures ∙ ap (λ (j : ℕ). within 1 j number) (sym q) in
+    let th : there ≡ within 1 (S .count) number =
+    c .before .before .before .before .before .before .before .before .before .before .before .before .before .before .before .before .before .before .before .is-store .ensures
+    ∙ ap (λ (j : ℕ). within 1 j number) (sym q) in
     let n = c .before .before .before .before .before .before .before .before .before .before .before .before .before .before .before .before .smaller .result in
-    let ne : n ≡ min (A .t / 12) (storeAt (l .all) i .current .position .used + jointRoom S) = c .before .before .before .before .before .before .before .before .before .before .before .before .before .before .before .before .smaller .ensures ∙ ap (λ (r : ℕ). min (A .t / 12) (storeAt (l .all) i .current .position .used + r)) (g .1) in
+    let ne : n ≡ min (A .t / 12) (storeAt (l .all) i .current .position .used + jointRoom S) =
+    c .before .before .before .before .before .before .before .before .before .before .before .before .before .before .before .before .smaller .ensures
+    ∙ ap (λ (r : ℕ). min (A .t / 12) (storeAt (l .all) i .current .position .used + r)) (g .1) in
     let an = st .ensures .1 w (S .machine (suc i)) (h .each i inside) in
     let xs = take (st .result .calls) (storeCallsOf (take (6 * (length (A .calls .now) / 6) - 6 * l .k) (drop (6 * l .k) (A .calls .now)))) in
     let of = one-store (c .before .before .before .before .before .before .before .before .before) in
@@ -312,22 +452,39 @@ after c w s e f h₀ =
       serving = rw sm sa;
       enough = omega (arith, us, re, g .1);
       rest = omega (arith, us, ra, g .1);
-      written = an .answered ∙ ap (λ (b : List Rattle.commands.specs.declared.Answer.Answer). overwritten (answerWords b) (take (2 * (length (A .calls .now) / 6) - 2 * l .k) (drop (2 * l .k) (l .answers)))) (sym to);
+      written = an .answered
+          ∙ ap (λ (b : List Rattle.commands.specs.declared.Answer.Answer). overwritten (answerWords b) (take (2 * (length (A .calls .now) / 6) - 2 * l .k) (drop (2 * l .k) (l .answers))))
+          (sym to);
     }
 
 sub-room : tie.Need-sub-room Inv-loop μ-loop
-sub-room c = let p = c .before .before .before .before .before .before .before .before .before .before .before .before .before .before .before .before .before .before .before .before .before .before .before .before .before .before .before .before .pre .0 in after (c) (p .0) (p .1) (p .2) (p .3) (p .4) .enough
+sub-room c = let p =
+    c .before .before .before .before .before .before .before .before .before .before .before .before .before .before .before .before .before .before .before .before .before .before .before
+    .before .before .before .before .before .pre .0 in after (c) (p .0) (p .1) (p .2) (p .3) (p .4) .enough
 
 add-k : tie.Need-add-k Inv-loop μ-loop
-add-k c = omega (arith, taken-in (c .before .before .before .before .before .before .before .before .before .before), lists-short (c .before .before .before .before .before .before .before .before .before .before .before .before .before .before .before .before .before .before .before .before .before .before) .0)
+add-k c = omega (
+  arith,
+  taken-in (c .before .before .before .before .before .before .before .before .before .before),
+  lists-short
+      (c .before .before .before .before .before .before .before .before .before .before .before .before .before .before .before .before .before .before .before .before .before .before) .0,
+)
 
 loop-less : tie.Need-loop-less Inv-loop μ-loop
-loop-less c = omega (arith, taken-in (c .before .before .before .before .before .before .before .before .before .before), c .before .before .before .before .before .before .before .before .before .before .before .before .before .before .before .before .before .before .before .before .before .before .loop-test)
+loop-less c =
+    omega (
+      arith,
+      taken-in (c .before .before .before .before .before .before .before .before .before .before),
+      c .before .before .before .before .before .before .before .before .before .before .before .before .before .before .before .before .before .before .before .before .before .before
+          .loop-test,
+    )
 
 loop-again : tie.Need-loop-again Inv-loop μ-loop
 loop-again c =
-    let a = c .before .before .before .before .before .before .before .before .before .before .before .before .before .before .before .before .before .before .before .before .before .before .before .before .before .before .before .before .before .args in
-    let l = c .before .before .before .before .before .before .before .before .before .before .before .before .before .before .before .before .before .before .before .before .before .before .before .loop in
+    let a = c .before .before .before .before .before .before .before .before .before .before .before .before .before .before .before .before .before .before .before .before .before .before
+    .before .before .before .before .before .before .before .args in
+    let l = c .before .before .before .before .before .before .before .before .before .before .before .before .before .before .before .before .before .before .before .before .before .before
+    .before .loop in
     let st = c .before .before .before .before .before .before .before .before .before .before .answer in
     let F = facts (c .before .before .before .before .before .before .before .before .before .before .before .before .before .before .before .before .before .before .before) in
     let i = c .before .before .before .before .before .before .before .before .before .before .before .before .before .before .before .before .before .before .before .slot .result in
@@ -346,14 +503,25 @@ loop-again c =
           let g = l .inv .5 w s e f h in
           let m = stores-more w s (a .calls .now) (l .k) (st .result .calls) n (omega arith) (t .1) in (
             record {
-              after = subst (λ (S : Stores). Serving w (sizes (a .v) (a .e) (a .t)) (set (l .all) i (c .before .same .result)) (whole (withPart (a .v) i (st .last .1 .0) (l .vertices)) (withPart (a .e) i (st .last .1 .1 .0) (l .edges)) (withPart (a .t) i (st .last .1 .1 .1 .0) (l .journal)) (set (l .marks) i (st .last .1 .1 .1 .1 .0))) (a .closed .now) (a .types) S) (sym m) (r .serving);
-              answered = written-more w s (a .calls .now) (l .k) (st .result .calls) n (omega arith) (t .1) (a .answers .now) (l .answers) (g .0 .answered) (c .before .before .before .before .before .before .before .before .before .before .before .before .before .before .before .before .before .before .before .before .before .before .before .before .before .before .before .before .before .pre .1) _ (r .written);
+              after = subst
+                  (λ (S : Stores). Serving w (sizes (a .v) (a .e) (a .t)) (set (l .all) i (c .before .same .result))
+                  (whole (withPart (a .v) i (st .last .1 .0) (l .vertices)) (withPart (a .e) i (st .last .1 .1 .0) (l .edges)) (withPart (a .t) i (st .last .1 .1 .1 .0) (l .journal))
+                  (set (l .marks) i (st .last .1 .1 .1 .1 .0))) (a .closed .now) (a .types) S) (sym m) (r .serving);
+              answered = written-more w s (a .calls .now) (l .k) (st .result .calls) n (omega arith) (t .1) (a .answers .now) (l .answers) (g .0 .answered)
+                  (c .before .before .before .before .before .before .before .before .before .before .before .before .before .before .before .before .before .before .before .before .before
+                  .before .before .before .before .before .before .before .before .pre .1) _ (r .written);
             },
             r .rest ∙ ap jointRoom (sym m),
           )),
-      behind-with (a .v) i (st .last .1 .0) (l .vertices) vl (F .vend) (a .stores) (c .before .before .before .before .before .before .before .before .before .before .before .before .before .before .before .before .before .before .before .slot .ensures .1) ∙ l .inv .6,
-      behind-with (a .e) i (st .last .1 .1 .0) (l .edges) el (F .eend) (a .stores) (c .before .before .before .before .before .before .before .before .before .before .before .before .before .before .before .before .before .before .before .slot .ensures .1) ∙ l .inv .7,
-      behind-with (a .t) i (st .last .1 .1 .1 .0) (l .journal) tl (F .tend) (a .stores) (c .before .before .before .before .before .before .before .before .before .before .before .before .before .before .before .before .before .before .before .slot .ensures .1) ∙ l .inv .8,
+      behind-with (a .v) i (st .last .1 .0) (l .vertices) vl (F .vend) (a .stores)
+          (c .before .before .before .before .before .before .before .before .before .before .before .before .before .before .before .before .before .before .before .slot .ensures .1)
+          ∙ l .inv .6,
+      behind-with (a .e) i (st .last .1 .1 .0) (l .edges) el (F .eend) (a .stores)
+          (c .before .before .before .before .before .before .before .before .before .before .before .before .before .before .before .before .before .before .before .slot .ensures .1)
+          ∙ l .inv .7,
+      behind-with (a .t) i (st .last .1 .1 .1 .0) (l .journal) tl (F .tend) (a .stores)
+          (c .before .before .before .before .before .before .before .before .before .before .before .before .before .before .before .before .before .before .before .slot .ensures .1)
+          ∙ l .inv .8,
     )
 
 same-length : tie.Need-same-length Inv-loop μ-loop
@@ -375,73 +543,17 @@ returns c =
       (λ w s e f h.
           let g = l .inv .5 w s e f h .0 in
           let d = all-done (a .calls .now) (l .k) (omega (arith, c .loop-test)) in
-          subst (λ (xs : List StoreCall). AfterAll w (sizes (a .v) (a .e) (a .t)) s xs (l .all) (whole (l .vertices) (l .edges) (l .journal) (l .marks)) (a .closed .now) (a .types) (a .answers .now) (l .answers)) d g),
+          subst (λ (xs : List StoreCall). AfterAll w (sizes (a .v) (a .e) (a .t)) s xs (l .all) (whole (l .vertices) (l .edges) (l .journal) (l .marks)) (a .closed .now) (a .types)
+          (a .answers .now) (l .answers)) d g),
       (l .inv .6, l .inv .7, l .inv .8),
     )
 
 pub serve-spec : {M : Type 1} → statement M
 serve-spec =
     tie.close
-    (tie.spec
-    Inv-loop
-    μ-loop
-    cast-capacity
-    loop-holds
-    mul-number
-    mul-number-2
-    shared-slice-read-number
-    (λ c κs. search needs)
-    slot-requires
-    mul-x
-    array-copy-out-x
-    add-smaller
-    (λ c κs. search needs)
-    mul-answer
-    mul-answer-2
-    add-answer
-    mul-answer-3
-    sub-answer
-    part-answer-start
-    part-answer-end
-    mul-answer-4
-    mul-answer-5
-    add-answer-2
-    mul-answer-6
-    sub-answer-2
-    part-answer-start-2
-    part-answer-end-2
-    mul-answer-7
-    mul-answer-8
-    add-answer-3
-    mul-answer-9
-    sub-answer-3
-    part-answer-start-3
-    part-answer-end-3
-    mul-answer-10
-    index-1-answer
-    mul-answer-11
-    mul-answer-12
-    mul-answer-13
-    sub-answer-4
-    part-answer-start-4
-    part-answer-end-4
-    mul-answer-14
-    mul-answer-15
-    mul-answer-16
-    sub-answer-5
-    part-answer-start-5
-    part-answer-end-5
-    answer-requires
-    (λ c κs. search needs)
-    mul-all
-    array-set-from-all
-    add-room
-    sub-room
-    add-k
-    loop-less
-    loop-again
-    same-length
-    same-length-2
-    same-length-3
-    same-length-4
-    returns)
+    (tie.spec Inv-loop μ-loop cast-capacity loop-holds mul-number mul-number-2 (λ c. omega (arith, c .before .loop-test)) (λ c κs. search needs) slot-requires (λ c. omega (arith, facts (c) .eight))
+    array-copy-out-x add-smaller (λ c κs. search needs) mul-answer mul-answer-2 add-answer mul-answer-3 sub-answer part-answer-start part-answer-end
+    mul-answer-4 mul-answer-5 add-answer-2 mul-answer-6 sub-answer-2 part-answer-start-2 part-answer-end-2 mul-answer-7 mul-answer-8 add-answer-3 mul-answer-9
+    sub-answer-3 part-answer-start-3 part-answer-end-3 mul-answer-10 index-1-answer mul-answer-11 mul-answer-12 mul-answer-13 sub-answer-4 part-answer-start-4
+    part-answer-end-4 mul-answer-14 mul-answer-15 mul-answer-16 sub-answer-5 part-answer-start-5 part-answer-end-5 answer-requires (λ c κs. search needs)
+    mul-all array-set-from-all add-room sub-room add-k loop-less loop-again same-length same-length-2 same-length-3 same-length-4 returns)

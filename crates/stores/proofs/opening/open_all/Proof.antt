@@ -27,88 +27,32 @@ abbrev μ-loop : tie.MeasureT-loop
 
 -- ---- where the parts end
 
-image-end : (c : tie.After-first-length Inv-loop μ-loop) → c .before .before .before .loop .at + c .first-length .result ≤ length (c .before .before .before .before .before .before .before .before .args .start .now)
+image-end : (c : tie.After-first-length Inv-loop μ-loop)
+    → c .before .before .before .loop .at + c .first-length .result ≤ length (c .before .before .before .before .before .before .before .before .args .start .now)
 image-end c = omega (arith, c .first-length .ensures .1, length-drop (c .before .before .before .loop .at) (c .before .before .before .before .before .before .before .before .args .start .now))
 
-vertices-end : (c : tie.In-loop Inv-loop μ-loop) → c .before .loop .i * c .before .before .before .before .before .before .args .v + c .before .before .before .before .before .before .args .v ≤ length (c .before .loop .vertices)
-vertices-end c = omega (arith, part-end (c .before .before .before .before .before .before .args .v) (c .before .loop .i) (c .before .before .before .before .before .before .args .stores) (length (c .before .before .before .before .before .before .args .vertices .now)) (c .loop-test .taken) (c .before .before .before .before .before .before .pre .vertices-fit))
+vertices-end : (c : tie.In-loop Inv-loop μ-loop)
+    → c .before .loop .i * c .before .before .before .before .before .before .args .v + c .before .before .before .before .before .before .args .v ≤ length (c .before .loop .vertices)
+vertices-end c =
+    omega (
+      arith,
+      part-end (c .before .before .before .before .before .before .args .v) (c .before .loop .i) (c .before .before .before .before .before .before .args .stores)
+          (length (c .before .before .before .before .before .before .args .vertices .now)) (c .loop-test .taken) (c .before .before .before .before .before .before .pre .vertices-fit),
+    )
 
-edges-end : (c : tie.In-loop Inv-loop μ-loop) → c .before .loop .i * c .before .before .before .before .before .before .args .e + c .before .before .before .before .before .before .args .e ≤ length (c .before .loop .edges)
-edges-end c = omega (arith, part-end (c .before .before .before .before .before .before .args .e) (c .before .loop .i) (c .before .before .before .before .before .before .args .stores) (length (c .before .before .before .before .before .before .args .edges .now)) (c .loop-test .taken) (c .before .before .before .before .before .before .pre .edges-fit))
+edges-end : (c : tie.In-loop Inv-loop μ-loop)
+    → c .before .loop .i * c .before .before .before .before .before .before .args .e + c .before .before .before .before .before .before .args .e ≤ length (c .before .loop .edges)
+edges-end c =
+    omega (
+      arith,
+      part-end (c .before .before .before .before .before .before .args .e) (c .before .loop .i) (c .before .before .before .before .before .before .args .stores)
+          (length (c .before .before .before .before .before .before .args .edges .now)) (c .loop-test .taken) (c .before .before .before .before .before .before .pre .edges-fit),
+    )
 
 -- ---- the needs
 
 loop-holds : tie.Need-loop-holds Inv-loop μ-loop
 loop-holds c = (omega arith, omega arith, refl, refl, refl, refl, (λ j h. absurd (omega (arith, h))), refl, refl)
-
-mul-first-length : tie.Need-mul-first-length Inv-loop μ-loop
-mul-first-length c = omega arith
-
-sub-first-length : tie.Need-sub-first-length Inv-loop μ-loop
-sub-first-length c = omega arith
-
-part-first-length-start : tie.Need-part-first-length-start Inv-loop μ-loop
-part-first-length-start c = omega arith
-
-part-first-length-end : tie.Need-part-first-length-end Inv-loop μ-loop
-part-first-length-end c = omega arith
-
-add-begin : tie.Need-add-begin Inv-loop μ-loop
-add-begin c = omega (arith, image-end c)
-
-mul-begin : tie.Need-mul-begin Inv-loop μ-loop
-mul-begin c = omega (arith, image-end c)
-
-sub-begin : tie.Need-sub-begin Inv-loop μ-loop
-sub-begin c = omega (arith, image-end c)
-
-part-begin-start : tie.Need-part-begin-start Inv-loop μ-loop
-part-begin-start c = omega (arith, image-end c)
-
-part-begin-end : tie.Need-part-begin-end Inv-loop μ-loop
-part-begin-end c = omega (arith, image-end c)
-
-mul-begin-2 : tie.Need-mul-begin-2 Inv-loop μ-loop
-mul-begin-2 c = omega (arith, vertices-end (c .before .before .before))
-
-mul-begin-3 : tie.Need-mul-begin-3 Inv-loop μ-loop
-mul-begin-3 c = omega (arith, vertices-end (c .before .before .before))
-
-add-begin-2 : tie.Need-add-begin-2 Inv-loop μ-loop
-add-begin-2 c = omega (arith, vertices-end (c .before .before .before))
-
-mul-begin-4 : tie.Need-mul-begin-4 Inv-loop μ-loop
-mul-begin-4 c = omega (arith, vertices-end (c .before .before .before))
-
-sub-begin-2 : tie.Need-sub-begin-2 Inv-loop μ-loop
-sub-begin-2 c = omega (arith, vertices-end (c .before .before .before))
-
-part-begin-start-2 : tie.Need-part-begin-start-2 Inv-loop μ-loop
-part-begin-start-2 c = omega (arith, vertices-end (c .before .before .before))
-
-part-begin-end-2 : tie.Need-part-begin-end-2 Inv-loop μ-loop
-part-begin-end-2 c = omega (arith, vertices-end (c .before .before .before))
-
-mul-begin-5 : tie.Need-mul-begin-5 Inv-loop μ-loop
-mul-begin-5 c = omega (arith, edges-end (c .before .before .before .before))
-
-mul-begin-6 : tie.Need-mul-begin-6 Inv-loop μ-loop
-mul-begin-6 c = omega (arith, edges-end (c .before .before .before .before))
-
-add-begin-3 : tie.Need-add-begin-3 Inv-loop μ-loop
-add-begin-3 c = omega (arith, edges-end (c .before .before .before .before))
-
-mul-begin-7 : tie.Need-mul-begin-7 Inv-loop μ-loop
-mul-begin-7 c = omega (arith, edges-end (c .before .before .before .before))
-
-sub-begin-3 : tie.Need-sub-begin-3 Inv-loop μ-loop
-sub-begin-3 c = omega (arith, edges-end (c .before .before .before .before))
-
-part-begin-start-3 : tie.Need-part-begin-start-3 Inv-loop μ-loop
-part-begin-start-3 c = omega (arith, edges-end (c .before .before .before .before))
-
-part-begin-end-3 : tie.Need-part-begin-end-3 Inv-loop μ-loop
-part-begin-end-3 c = omega (arith, edges-end (c .before .before .before .before))
 
 begin-requires : tie.Need-begin-requires Inv-loop μ-loop
 begin-requires c κs =
@@ -124,20 +68,40 @@ begin-requires c κs =
         fewVertices = p .few-vertices;
         fewEdges = p .few-edges;
       };
-      sound = ap (loadable (p .bounds)) (image-at (a .start .now) (l .at) (n .result) (first-is (a .start .now) (l .at) (n .result) (l .inv .1) (n .ensures .0)) (l .i) (l .inv .5)) ∙ p .sound (l .i) (c .before .before .before .before .before .loop-test .taken);
+      sound = ap (loadable (p .bounds)) (image-at (a .start .now) (l .at) (n .result) (first-is (a .start .now) (l .at) (n .result) (l .inv .1) (n .ensures .0)) (l .i) (l .inv .5))
+          ∙ p .sound (l .i) (c .before .before .before .before .before .loop-test .taken);
     }
 
 mul-all : tie.Need-mul-all Inv-loop μ-loop
-mul-all c = omega (arith, c .before .before .before .before .before .before .before .before .before .before .loop-test, c .before .before .before .before .before .before .before .before .before .before .before .before .before .before .before .before .pre .few, c .before .before .before .before .before .before .before .before .before .before .before .loop .inv .4)
+mul-all c = omega (
+  arith,
+  c .before .before .before .before .before .before .before .before .before .before .loop-test,
+  c .before .before .before .before .before .before .before .before .before .before .before .before .before .before .before .before .pre .few,
+  c .before .before .before .before .before .before .before .before .before .before .before .loop .inv .4,
+)
 
 array-set-from-all : tie.Need-array-set-from-all Inv-loop μ-loop
-array-set-from-all c = omega (arith, c .before .before .before .before .before .before .before .before .before .before .loop-test, c .before .before .before .before .before .before .before .before .before .before .before .before .before .before .before .before .pre .few, c .before .before .before .before .before .before .before .before .before .before .before .loop .inv .4)
+array-set-from-all c =
+    omega (
+      arith,
+      c .before .before .before .before .before .before .before .before .before .before .loop-test,
+      c .before .before .before .before .before .before .before .before .before .before .before .before .before .before .before .before .pre .few,
+      c .before .before .before .before .before .before .before .before .before .before .before .loop .inv .4,
+    )
 
 add-at : tie.Need-add-at Inv-loop μ-loop
-add-at c = omega (arith, image-end (c .before .before .before .before .before .before .before .before), c .before .before .before .before .before .before .before .before .before .before .before .before .before .before .before .before .good)
+add-at c = omega (
+  arith,
+  image-end (c .before .before .before .before .before .before .before .before),
+  c .before .before .before .before .before .before .before .before .before .before .before .before .before .before .before .before .good,
+)
 
 add-i : tie.Need-add-i Inv-loop μ-loop
-add-i c = omega (arith, c .before .before .before .before .before .before .before .before .before .before .loop-test, c .before .before .before .before .before .before .before .before .before .before .before .before .before .before .before .before .pre .few)
+add-i c = omega (
+  arith,
+  c .before .before .before .before .before .before .before .before .before .before .loop-test,
+  c .before .before .before .before .before .before .before .before .before .before .before .before .before .before .before .before .pre .few,
+)
 
 loop-less : tie.Need-loop-less Inv-loop μ-loop
 loop-less c = omega (arith, c .before .before .before .before .before .before .before .before .before .before .loop-test)
@@ -160,7 +124,9 @@ loop-again c =
       length-with (a .e) (l .i) (b .last .1 .1 .0) (l .edges) el eend ∙ l .inv .3,
       length-set (l .all) (l .i) (b .result) ∙ l .inv .4,
       images-on (a .start .now) (l .at) (n .result) is (l .i) (l .inv .5),
-      begun-more (a .start .now) (l .all) (l .vertices) (l .edges) (a .v) (a .e) (l .i) (omega (arith, t, c .before .before .before .before .before .before .before .before .before .before .before .before .before .before .before .before .pre .few, l .inv .4)) vend eend (b .result) (b .last .1 .0) (b .last .1 .1 .0) _ vl el
+      begun-more (a .start .now) (l .all) (l .vertices) (l .edges) (a .v) (a .e) (l .i)
+          (omega (arith, t, c .before .before .before .before .before .before .before .before .before .before .before .before .before .before .before .before .pre .few, l .inv .4)) vend eend
+          (b .result) (b .last .1 .0) (b .last .1 .1 .0) _ vl el
           (image-at (a .start .now) (l .at) (n .result) is (l .i) (l .inv .5)) (b .ensures) (l .inv .6),
       behind-with (a .v) (l .i) (b .last .1 .0) (l .vertices) vl vend (a .stores) t ∙ l .inv .7,
       behind-with (a .e) (l .i) (b .last .1 .1 .0) (l .edges) el eend (a .stores) t ∙ l .inv .8,
@@ -185,42 +151,14 @@ returns c =
 pub open-all-spec : {M : Type 1} → statement M
 open-all-spec =
     tie.close
-    (tie.spec
-    Inv-loop
-    μ-loop
-    (λ c κs. search needs)
-    loop-holds
-    mul-first-length
-    sub-first-length
-    part-first-length-start
-    part-first-length-end
-    (λ c κs. search needs)
-    add-begin
-    mul-begin
-    sub-begin
-    part-begin-start
-    part-begin-end
-    mul-begin-2
-    mul-begin-3
-    add-begin-2
-    mul-begin-4
-    sub-begin-2
-    part-begin-start-2
-    part-begin-end-2
-    mul-begin-5
-    mul-begin-6
-    add-begin-3
-    mul-begin-7
-    sub-begin-3
-    part-begin-start-3
-    part-begin-end-3
-    begin-requires
-    mul-all
-    array-set-from-all
-    add-at
-    add-i
-    loop-less
-    loop-again
-    same-length
-    same-length-2
-    returns)
+    (tie.spec Inv-loop μ-loop (λ c κs. search needs) loop-holds (λ c. omega arith) (λ c. omega arith) (λ c. omega arith) (λ c. omega arith)
+    (λ c κs. search needs) (λ c. omega (arith, image-end c)) (λ c. omega (arith, image-end c)) (λ c. omega (arith, image-end c)) (λ c. omega (arith, image-end c))
+    (λ c. omega (arith, image-end c)) (λ c. omega (arith, vertices-end (c .before .before .before))) (λ c. omega (arith, vertices-end (c .before .before .before)))
+    (λ c. omega (arith, vertices-end (c .before .before .before))) (λ c. omega (arith, vertices-end (c .before .before .before)))
+    (λ c. omega (arith, vertices-end (c .before .before .before)))
+    (λ c. omega (arith, vertices-end (c .before .before .before))) (λ c. omega (arith, vertices-end (c .before .before .before)))
+    (λ c. omega (arith, edges-end (c .before .before .before .before))) (λ c. omega (arith, edges-end (c .before .before .before .before)))
+    (λ c. omega (arith, edges-end (c .before .before .before .before))) (λ c. omega (arith, edges-end (c .before .before .before .before)))
+    (λ c. omega (arith, edges-end (c .before .before .before .before))) (λ c. omega (arith, edges-end (c .before .before .before .before)))
+    (λ c. omega (arith, edges-end (c .before .before .before .before))) begin-requires mul-all
+    array-set-from-all add-at add-i loop-less loop-again same-length same-length-2 returns)

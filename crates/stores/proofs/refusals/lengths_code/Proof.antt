@@ -50,7 +50,8 @@ returns-4 : tie.Need-returns-4
 returns-4 c =
     rw (
       eq-eqb (c .before .before .before .before .before .before .args .calls % 6) 0 (c .before .before .before .before .before .if1 .left),
-      le-ltb (c .before .before .before .before .before .before .args .answers) (2 * (c .before .before .before .before .before .before .args .calls / 6)) (omega (arith, c .before .before .before .before .if2 .left)),
+      le-ltb (c .before .before .before .before .before .before .args .answers) (2 * (c .before .before .before .before .before .before .args .calls / 6))
+          (omega (arith, c .before .before .before .before .if2 .left)),
       in-limits (c .before) ∙ c .if4 .taken,
     )
 
@@ -58,7 +59,8 @@ returns-5 : tie.Need-returns-5
 returns-5 c =
     rw (
       eq-eqb (c .before .before .before .before .before .before .args .calls % 6) 0 (c .before .before .before .before .before .if1 .left),
-      le-ltb (c .before .before .before .before .before .before .args .answers) (2 * (c .before .before .before .before .before .before .args .calls / 6)) (omega (arith, c .before .before .before .before .if2 .left)),
+      le-ltb (c .before .before .before .before .before .before .args .answers) (2 * (c .before .before .before .before .before .before .args .calls / 6))
+          (omega (arith, c .before .before .before .before .if2 .left)),
       in-limits (c .before) ∙ c .if4 .left,
     )
 

@@ -34,18 +34,6 @@ returns-2 : tie.Need-returns-2
 returns-2 c =
     λ l h. rows-refused l _ _ _ _ _ _ _ _ _ h (lengths-pass (c .before .before .before)) (verdict-bad _ _ (c .before .before .check-rows .ensures) (c .enum-told2 .given .1))
 
-div-v : tie.Need-div-v
-div-v c = omega (arith, limits (c .before .before .before) .0)
-
-div-e : tie.Need-div-e
-div-e c = omega (arith, limits (c .before .before .before) .0)
-
-cast-v : tie.Need-cast-v
-cast-v c = omega (arith, limits (c .before .before .before) .1)
-
-cast-e : tie.Need-cast-e
-cast-e c = omega (arith, limits (c .before .before .before) .2)
-
 cast-starts : tie.Need-cast-starts
 cast-starts c = omega (arith, good-facts (c .before .before .before .before .before .before .before .args .rows .now) (rows-good c) .few)
 
@@ -57,9 +45,6 @@ returns-3 c =
     let s = c .before .before in
     let e = s .before in
     λ l h. start-refused l _ _ _ _ _ _ _ _ _ h (lengths-pass (e .before .before .before)) (rows-good e) _ _ (s .starts .ensures .0) (s .starts .ensures .1) (c .if2 .taken)
-
-div-if3 : tie.Need-div-if3
-div-if3 c = omega (arith, limits (c .before .before .before .before .before .before) .0)
 
 returns-4 : tie.Need-returns-4
 returns-4 c =
@@ -80,21 +65,7 @@ returns-5 c =
 pub refusal-spec : {M : Type 1} → statement M
 refusal-spec =
     tie.close
-    (tie.spec
-    (λ c κs. search needs)
-    returns
-    (λ c κs. search needs)
-    (λ c. search needs)
-    (λ c. search needs)
-    returns-2
-    div-v
-    cast-v
-    div-e
-    cast-e
+    (tie.spec (λ c κs. search needs) returns (λ c κs. search needs) (λ c. search needs) (λ c. search needs) returns-2 (λ c. omega (arith, limits (c .before .before .before) .0))
+    (λ c. omega (arith, limits (c .before .before .before) .1)) (λ c. omega (arith, limits (c .before .before .before) .0)) (λ c. omega (arith, limits (c .before .before .before) .2))
     cast-starts
-    starts-requires
-    returns-3
-    div-if3
-    (λ c κs. search needs)
-    returns-4
-    returns-5)
+    starts-requires returns-3 (λ c. omega (arith, limits (c .before .before .before .before .before .before) .0)) (λ c κs. search needs) returns-4 returns-5)

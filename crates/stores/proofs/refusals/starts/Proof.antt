@@ -27,8 +27,11 @@ abbrev μ-loop : tie.MeasureT-loop
 image-end : (c : tie.After-first-length Inv-loop μ-loop) → c .before .before .before .loop .at + c .first-length .result ≤ length (c .before .before .before .before .before .args .start .now)
 image-end c = omega (arith, c .first-length .ensures .1, length-drop (c .before .before .before .loop .at) (c .before .before .before .before .before .args .start .now))
 
-is-first : (c : tie.After-first-length Inv-loop μ-loop) → c .first-length .result ≡ min (statedLength (drop (c .before .before .before .loop .at) (c .before .before .before .before .before .args .start .now))) (length (drop (c .before .before .before .loop .at) (c .before .before .before .before .before .args .start .now)))
-is-first c = first-is (c .before .before .before .before .before .args .start .now) (c .before .before .before .loop .at) (c .first-length .result) (c .before .before .before .loop .inv .1) (c .first-length .ensures .0)
+is-first : (c : tie.After-first-length Inv-loop μ-loop)
+    → c .first-length .result ≡ min (statedLength (drop (c .before .before .before .loop .at) (c .before .before .before .before .before .args .start .now)))
+    (length (drop (c .before .before .before .loop .at) (c .before .before .before .before .before .args .start .now)))
+is-first c = first-is (c .before .before .before .before .before .args .start .now) (c .before .before .before .loop .at) (c .first-length .result) (c .before .before .before .loop .inv .1)
+    (c .first-length .ensures .0)
 
 -- capacities within the limits are checked as they are
 found : (c : tie.After-check Inv-loop μ-loop) → let l = c .before .before .before .before .before .loop in let a = c .before .before .before .before .before .before .before .args in
@@ -37,7 +40,9 @@ found c =
     let l = c .before .before .before .before .before .loop in
     let a = c .before .before .before .before .before .before .before .args in
     c .check .ensures
-    ∙ ap (λ (b : Bounds). verdict b (take (l .at + c .before .before .first-length .result - l .at) (drop (l .at) (a .start .now)))) (checked-same (a .vertices) (a .edges) (a .types) (c .before .before .before .before .before .before .before .pre .0) (c .before .before .before .before .before .before .before .pre .1))
+    ∙ ap (λ (b : Bounds). verdict b (take (l .at + c .before .before .first-length .result - l .at) (drop (l .at) (a .start .now))))
+    (checked-same (a .vertices) (a .edges) (a .types) (c .before .before .before .before .before .before .before .pre .0)
+    (c .before .before .before .before .before .before .before .pre .1))
 
 -- ---- the needs
 
@@ -47,33 +52,6 @@ loop-holds c =
     let b = bounds (a .vertices) (a .edges) (a .types) in
     let z : a .stores ≡ a .stores - 0 = omega arith in
     (omega arith, omega arith, ap (λ (j : ℕ). startsCode b j (a .start .now)) z, ap (λ (j : ℕ). startsOffset b 0 j (a .start .now)) z)
-
-mul-first-length : tie.Need-mul-first-length Inv-loop μ-loop
-mul-first-length c = omega arith
-
-sub-first-length : tie.Need-sub-first-length Inv-loop μ-loop
-sub-first-length c = omega arith
-
-part-first-length-start : tie.Need-part-first-length-start Inv-loop μ-loop
-part-first-length-start c = omega arith
-
-part-first-length-end : tie.Need-part-first-length-end Inv-loop μ-loop
-part-first-length-end c = omega arith
-
-add-check : tie.Need-add-check Inv-loop μ-loop
-add-check c = omega (arith, image-end c)
-
-mul-check : tie.Need-mul-check Inv-loop μ-loop
-mul-check c = omega (arith, image-end c)
-
-sub-check : tie.Need-sub-check Inv-loop μ-loop
-sub-check c = omega (arith, image-end c)
-
-part-check-start : tie.Need-part-check-start Inv-loop μ-loop
-part-check-start c = omega (arith, image-end c)
-
-part-check-end : tie.Need-part-check-end Inv-loop μ-loop
-part-check-end c = omega (arith, image-end c)
 
 number-at-requires : tie.Need-number-at-requires Inv-loop μ-loop
 number-at-requires c κs = omega (arith, c .before .before .before .before .before .before .before .loop .inv .1, c .before .before .before .before .before .before .before .before .before .good)
@@ -87,17 +65,16 @@ returns c =
     let f = found (c .before .before .before) in
     let code = c .before .before .code-of .ensures ∙ ap codeOf f in
     let bad : codeOf (verdict b (take (l .at + n - l .at) (drop (l .at) (a .start .now)))) ≡ 0 → ⊥ = λ e. c .before .if1 .taken (code ∙ e) in
-    let e = l .inv .2 ∙ code-here (a .start .now) (l .at) n (is-first (c .before .before .before .before .before)) b bad (a .stores) (l .k) (c .before .before .before .before .before .before .before .loop-test .taken) in
-    let o = l .inv .3 ∙ offset-here (a .start .now) (l .at) n (is-first (c .before .before .before .before .before)) b bad (a .stores) (l .k) (c .before .before .before .before .before .before .before .loop-test .taken) in (
+    let e = l .inv .2 ∙ code-here (a .start .now) (l .at) n (is-first (c .before .before .before .before .before)) b bad (a .stores) (l .k)
+    (c .before .before .before .before .before .before .before .loop-test .taken) in
+    let o = l .inv .3 ∙ offset-here (a .start .now) (l .at) n (is-first (c .before .before .before .before .before)) b bad (a .stores) (l .k)
+    (c .before .before .before .before .before .before .before .loop-test .taken) in (
       code ∙ sym e,
       c .number-at .ensures ∙ number-is (l .at) (c .before .before .before .check .result) ∙ (λ i. numberBeside (codeOf (f i)) (l .at + offsetOf (f i))) ∙ (λ i. numberBeside (sym e i) (sym o i)),
     )
 
 add-at : tie.Need-add-at Inv-loop μ-loop
 add-at c = omega (arith, image-end (c .before .before .before .before), c .before .before .before .before .before .before .before .before .before .good)
-
-add-k : tie.Need-add-k Inv-loop μ-loop
-add-k c = omega (arith, c .before .before .before .before .before .before .loop-test)
 
 loop-less : tie.Need-loop-less Inv-loop μ-loop
 loop-less c = omega (arith, c .before .before .before .before .before .before .loop-test)
@@ -139,27 +116,7 @@ returns-3 c =
 pub starts-spec : {M : Type 1} → statement M
 starts-spec =
     tie.close
-    (tie.spec
-    Inv-loop
-    μ-loop
-    loop-holds
-    mul-first-length
-    sub-first-length
-    part-first-length-start
-    part-first-length-end
-    (λ c κs. search needs)
-    add-check
-    mul-check
-    sub-check
-    part-check-start
-    part-check-end
-    (λ c κs. search needs)
-    (λ c κs. search needs)
-    number-at-requires
-    returns
-    add-at
-    add-k
-    loop-less
-    loop-again
-    returns-2
-    returns-3)
+    (tie.spec Inv-loop μ-loop loop-holds (λ c. omega arith) (λ c. omega arith) (λ c. omega arith) (λ c. omega arith) (λ c κs. search needs) (λ c. omega (arith, image-end c))
+    (λ c. omega (arith, image-end c)) (λ c. omega (arith, image-end c)) (λ c. omega (arith, image-end c)) (λ c. omega (arith, image-end c)) (λ c κs. search needs)
+    (λ c κs. search needs) number-at-requires returns add-at (λ c. omega (arith, c .before .before .before .before .before .before .loop-test)) loop-less
+    loop-again returns-2 returns-3)

@@ -25,7 +25,8 @@ passed : (s : tie.Start) → PassedIn (given s)
 passed s = passed-in (given s) (s .pre)
 
 closed : (c : tie.After-closure) → c .closure .result ≡ closureWords (c .before .before .before .before .before .before .before .before .before .args .rows .now)
-closed c = c .closure .ensures ∙ closure-good (c .before .before .before .before .before .before .before .before .before .args .rows .now) (passed (c .before .before .before .before .before .before .before .before .before) .rows-good)
+closed c = c .closure .ensures ∙ closure-good (c .before .before .before .before .before .before .before .before .before .args .rows .now)
+    (passed (c .before .before .before .before .before .before .before .before .before) .rows-good)
 
 -- before the first call
 begun : (c : tie.After-open-all) → let s = c .before .before .before .before .before .before .before .before .before .before .before .before in let a = s .args in
@@ -56,23 +57,34 @@ div-n : tie.Need-div-n
 div-n c = omega (arith, passed (c .before .before .before .before .before .before .before .before .before) .some)
 
 open-all-requires : tie.Need-open-all-requires
-open-all-requires c κs = let s = c .before .before .before .before .before .before .before .before .before .before .before in can-open (given s) (s .pre) (s .args .vertices .now) (s .args .edges .now) refl refl
+open-all-requires c κs = let s =
+    c .before .before .before .before .before .before .before .before .before .before .before in can-open (given s) (s .pre) (s .args .vertices .now) (s .args .edges .now) refl refl
 
 serve-requires : tie.Need-serve-requires
-serve-requires c κs = let s = c .before .before .before .before .before .before .before .before .before .before .before .before .before .before .before .before .before .before .before .before .before .before in ((_, _, refl, room-is (given s) (s .pre), begun (c .before .before .before .before .before .before .before .before .before .before)), passed s .answers-room)
+serve-requires c κs = let s =
+    c .before .before .before .before .before .before .before .before .before .before .before .before .before .before .before .before .before .before .before .before .before .before in
+    ((_, _, refl, room-is (given s) (s .pre), begun (c .before .before .before .before .before .before .before .before .before .before)), passed s .answers-room)
 
 save-all-requires : tie.Need-save-all-requires
 save-all-requires c κs =
-    let s = c .before .before .before .before .before .before .before .before .before .before .before .before .before .before .before .before .before .before .before .before .before .before .before .before .before .before .before .before .before .before .before .before .before .before in
-    let d = c .before .before .before .before .before .before .before .before .before .before .before .before .before .before .before .before .before .before .before .before .before .before .before .before .before in
+    let s = c .before .before .before .before .before .before .before .before .before .before .before .before .before .before .before .before .before .before .before .before .before .before
+    .before .before .before .before .before .before .before .before .before .before .before .before in
+    let d = c .before .before .before .before .before .before .before .before .before .before .before .before .before .before .before .before .before .before .before .before .before .before
+    .before .before .before in
     let k = c .before .before .before .before .before .before .before .before .before .before .before .serve in
-    can-save-all (given s) (s .pre) (d .closure .result) _ (closed d) refl (k .result) _ _ (k .ensures .0 _ _ refl (room-is (given s) (s .pre)) (begun (c .before .before .before .before .before .before .before .before .before .before .before .before .before .before .before .before .before .before .before .before .before .before)))
+    can-save-all (given s) (s .pre) (d .closure .result) _ (closed d) refl (k .result) _ _
+    (k .ensures .0 _ _ refl (room-is (given s) (s .pre))
+    (begun (c .before .before .before .before .before .before .before .before .before .before .before .before .before .before .before .before .before .before .before .before .before
+    .before)))
 
 returns : tie.Need-returns
 returns c =
-    let s = c .before .before .before .before .before .before .before .before .before .before .before .before .before .before .before .before .before .before .before .before .before .before .before .before .before .before .before .before .before .before .before .before .before .before .before .before .before in
-    let d = c .before .before .before .before .before .before .before .before .before .before .before .before .before .before .before .before .before .before .before .before .before .before .before .before .before .before .before .before in
-    let o = c .before .before .before .before .before .before .before .before .before .before .before .before .before .before .before .before .before .before .before .before .before .before .before .before .before in
+    let s = c .before .before .before .before .before .before .before .before .before .before .before .before .before .before .before .before .before .before .before .before .before .before
+    .before .before .before .before .before .before .before .before .before .before .before .before .before .before .before in
+    let d = c .before .before .before .before .before .before .before .before .before .before .before .before .before .before .before .before .before .before .before .before .before .before
+    .before .before .before .before .before .before in
+    let o = c .before .before .before .before .before .before .before .before .before .before .before .before .before .before .before .before .before .before .before .before .before .before
+    .before .before .before in
     let k = c .before .before .before .before .before .before .before .before .before .before .before .before .before .before .serve in
     let all = k .ensures .0 _ _ refl (room-is (given s) (s .pre)) (begun o) in
     let behind = k .ensures .1 in (
@@ -83,19 +95,5 @@ returns c =
 pub accepted-spec : {M : Type 1} → statement M
 accepted-spec =
     tie.close
-    (tie.spec
-    (λ c κs. search needs)
-    cast-types
-    div-v
-    div-e
-    div-t
-    div-n
-    open-all-requires
-    serve-requires
-    save-all-requires
-    (λ c. search needs)
-    (λ c. search needs)
-    (λ c. search needs)
-    (λ c. search needs)
-    (λ c. search needs)
-    returns)
+    (tie.spec (λ c κs. search needs) cast-types div-v div-e div-t div-n open-all-requires serve-requires save-all-requires (λ c. search needs)
+    (λ c. search needs) (λ c. search needs) (λ c. search needs) (λ c. search needs) returns)

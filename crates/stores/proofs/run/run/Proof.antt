@@ -23,7 +23,8 @@ given s =
     let a = s .args in
     several (lent (a .start .now) (a .rows .now) (a .calls .now) (a .vertices .now) (a .edges .now) (a .journal .now) (a .answers .now) (a .image .now)) (a .stores) (a .limit)
 
-told : (c : tie.After-refusal) → (c .refusal .result .code ≡ storesRefusal (given (c .before .before .before .before .before .before .before .before .before))) × (c .refusal .result .number ≡ storesNumber (given (c .before .before .before .before .before .before .before .before .before)))
+told : (c : tie.After-refusal) → (c .refusal .result .code ≡ storesRefusal (given (c .before .before .before .before .before .before .before .before .before)))
+    × (c .refusal .result .number ≡ storesNumber (given (c .before .before .before .before .before .before .before .before .before)))
 told c =
     let a = c .before .before .before .before .before .before .before .before .before .args in
     c .refusal .ensures (given (c .before .before .before .before .before .before .before .before .before))
@@ -60,21 +61,29 @@ accepted-requires c κs = sym (told (c .before .before .before .before .before .
 
 returns-2 : tie.Need-returns-2
 returns-2 c =
-    let l = given (c .before .before .before .before .before .before .before .before .before .before .before .before .before .before .before .before .before .before .before .before .before .before .before .before .before .before .before) in
-    let e = sym (told (c .before .before .before .before .before .before .before .before .before .before .before .before .before .before .before .before .before .before) .0) ∙ c .before .before .before .before .before .before .before .before .before .before .before .before .before .before .before .before .if1 .left in
-    let ran-as = run-accepted l _ e (c .before .before .before .before .before .before .before .before .before .before .accepted .ensures .0) in
-    (ran-as, (λ n. absurd (n e), (c .before .before .before .before .before .before .before .before .before .before .accepted .ensures .1, (meets-1 l _ ran-as _ (λ n. absurd (n e)), (meets-2 l _ ran-as (words (c .before .before .before .before .before .before .before .before .before .before .before .before .before .before .before .before .before .before)), λ z. meets-3 l _ ran-as e)))))
+    let l = given (c .before .before .before .before .before .before .before .before .before .before .before .before .before .before .before .before .before .before .before .before .before
+    .before .before .before .before .before .before) in
+    let e = sym (told (c .before .before .before .before .before .before .before .before .before .before .before .before .before .before .before .before .before .before) .0)
+    ∙ c .before .before .before .before .before .before .before .before .before .before .before .before .before .before .before .before .if1 .left in
+    let ran-as = run-accepted l _ e (c .before .before .before .before .before .before .before .before .before .before .accepted .ensures .0) in (
+      ran-as,
+      (
+        λ n. absurd (n e),
+        (
+          c .before .before .before .before .before .before .before .before .before .before .accepted .ensures .1,
+          (
+            meets-1 l _ ran-as _ (λ n. absurd (n e)),
+            (
+              meets-2 l _ ran-as (words (c .before .before .before .before .before .before .before .before .before .before .before .before .before .before .before .before .before .before)),
+              λ z. meets-3 l _ ran-as e,
+            ),
+          ),
+        ),
+      ),
+    )
 
 pub run-spec : {M : Type 1} → statement M
 run-spec =
     tie.close
-    (tie.spec
-    (λ c κs. search needs)
-    returns
-    accepted-requires
-    (λ c. search needs)
-    (λ c. search needs)
-    (λ c. search needs)
-    (λ c. search needs)
-    (λ c. search needs)
-    returns-2)
+    (tie.spec (λ c κs. search needs) returns accepted-requires (λ c. search needs) (λ c. search needs) (λ c. search needs) (λ c. search needs)
+    (λ c. search needs) returns-2)

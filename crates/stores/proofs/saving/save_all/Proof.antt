@@ -29,17 +29,28 @@ abbrev μ-loop : tie.MeasureT-loop
 
 -- ---- where the parts end
 
-vertices-end : (c : tie.In-loop Inv-loop μ-loop) → c .before .loop .i * c .before .before .before .before .before .args .v + c .before .before .before .before .before .args .v ≤ length (c .before .before .before .before .before .args .vertices .now)
-vertices-end c = part-end (c .before .before .before .before .before .args .v) (c .before .loop .i) (c .before .before .before .before .before .args .stores) (length (c .before .before .before .before .before .args .vertices .now)) (c .loop-test .taken) (c .before .before .before .before .before .pre .vertices-fit)
+vertices-end : (c : tie.In-loop Inv-loop μ-loop) → c .before .loop .i * c .before .before .before .before .before .args .v + c .before .before .before .before .before .args .v ≤ length
+    (c .before .before .before .before .before .args .vertices .now)
+vertices-end c = part-end (c .before .before .before .before .before .args .v) (c .before .loop .i) (c .before .before .before .before .before .args .stores)
+    (length (c .before .before .before .before .before .args .vertices .now)) (c .loop-test .taken) (c .before .before .before .before .before .pre .vertices-fit)
 
-edges-end : (c : tie.In-loop Inv-loop μ-loop) → c .before .loop .i * c .before .before .before .before .before .args .e + c .before .before .before .before .before .args .e ≤ length (c .before .before .before .before .before .args .edges .now)
-edges-end c = part-end (c .before .before .before .before .before .args .e) (c .before .loop .i) (c .before .before .before .before .before .args .stores) (length (c .before .before .before .before .before .args .edges .now)) (c .loop-test .taken) (c .before .before .before .before .before .pre .edges-fit)
+edges-end : (c : tie.In-loop Inv-loop μ-loop) → c .before .loop .i * c .before .before .before .before .before .args .e + c .before .before .before .before .before .args .e ≤ length
+    (c .before .before .before .before .before .args .edges .now)
+edges-end c = part-end (c .before .before .before .before .before .args .e) (c .before .loop .i) (c .before .before .before .before .before .args .stores)
+    (length (c .before .before .before .before .before .args .edges .now)) (c .loop-test .taken) (c .before .before .before .before .before .pre .edges-fit)
 
-image-end : (c : tie.In-loop Inv-loop μ-loop) → c .before .loop .i * c .before .before .before .before .before .args .n + c .before .before .before .before .before .args .n ≤ length (c .before .loop .image)
-image-end c = omega (arith, part-end (c .before .before .before .before .before .args .n) (c .before .loop .i) (c .before .before .before .before .before .args .stores) (length (c .before .before .before .before .before .args .image .now)) (c .loop-test .taken) (c .before .before .before .before .before .pre .image-fits))
+image-end : (c : tie.In-loop Inv-loop μ-loop) → c .before .loop .i * c .before .before .before .before .before .args .n + c .before .before .before .before .before .args .n ≤ length
+    (c .before .loop .image)
+image-end c =
+    omega (
+      arith,
+      part-end (c .before .before .before .before .before .args .n) (c .before .loop .i) (c .before .before .before .before .before .args .stores)
+          (length (c .before .before .before .before .before .args .image .now)) (c .loop-test .taken) (c .before .before .before .before .before .pre .image-fits),
+    )
 
 -- the image of any graph that the tables hold fits into the part
-short : (c : tie.After-save Inv-loop μ-loop) → let l = c .before .before .before .before .before .before .before .loop in let a = c .before .before .before .before .before .before .before .before .before .before .before .args in
+short : (c : tie.After-save Inv-loop μ-loop) → let l = c .before .before .before .before .before .before .before .loop in let a =
+    c .before .before .before .before .before .before .before .before .before .before .before .args in
     (g : Graph) → Holds (tablesAt (a .t1) (a .vertices .now) (a .edges .now) (a .v) (a .e) (l .i)) g → length (save g) ≤ a .n
 short c g h =
     let l = c .before .before .before .before .before .before .before .loop in
@@ -49,7 +60,8 @@ short c g h =
 
 -- and so many words it has
 few : (c : tie.After-save Inv-loop μ-loop) → c .save .result ≤ c .before .before .before .before .before .before .before .before .before .before .before .args .n
-few c = let w = c .before .before .before .before .before .before .before .before .before .before .before .pre .each (c .before .before .before .before .before .before .before .loop .i) (c .before .before .before .before .before .before .loop-test .taken) in omega (arith, short c (w .graph) (w .holds), c .save .ensures (w .graph) (w .holds) .1)
+few c = let w = c .before .before .before .before .before .before .before .before .before .before .before .pre .each (c .before .before .before .before .before .before .before .loop .i)
+    (c .before .before .before .before .before .before .loop-test .taken) in omega (arith, short c (w .graph) (w .holds), c .save .ensures (w .graph) (w .holds) .1)
 
 -- ---- the needs
 
@@ -62,81 +74,31 @@ mul-x c = omega (arith, c .loop-test, c .before .before .before .before .before 
 array-copy-out-x : tie.Need-array-copy-out-x Inv-loop μ-loop
 array-copy-out-x c = omega (arith, c .loop-test, c .before .before .before .before .before .pre .few, c .before .before .before .before .before .pre .many)
 
-mul-save : tie.Need-mul-save Inv-loop μ-loop
-mul-save c = omega (arith, vertices-end (c .before .before))
-
-mul-save-2 : tie.Need-mul-save-2 Inv-loop μ-loop
-mul-save-2 c = omega (arith, vertices-end (c .before .before))
-
-add-save : tie.Need-add-save Inv-loop μ-loop
-add-save c = omega (arith, vertices-end (c .before .before))
-
-mul-save-3 : tie.Need-mul-save-3 Inv-loop μ-loop
-mul-save-3 c = omega (arith, vertices-end (c .before .before))
-
-sub-save : tie.Need-sub-save Inv-loop μ-loop
-sub-save c = omega (arith, vertices-end (c .before .before))
-
-part-save-start : tie.Need-part-save-start Inv-loop μ-loop
-part-save-start c = omega (arith, vertices-end (c .before .before))
-
-part-save-end : tie.Need-part-save-end Inv-loop μ-loop
-part-save-end c = omega (arith, vertices-end (c .before .before))
-
-mul-save-4 : tie.Need-mul-save-4 Inv-loop μ-loop
-mul-save-4 c = omega (arith, edges-end (c .before .before .before))
-
-mul-save-5 : tie.Need-mul-save-5 Inv-loop μ-loop
-mul-save-5 c = omega (arith, edges-end (c .before .before .before))
-
-add-save-2 : tie.Need-add-save-2 Inv-loop μ-loop
-add-save-2 c = omega (arith, edges-end (c .before .before .before))
-
-mul-save-6 : tie.Need-mul-save-6 Inv-loop μ-loop
-mul-save-6 c = omega (arith, edges-end (c .before .before .before))
-
-sub-save-2 : tie.Need-sub-save-2 Inv-loop μ-loop
-sub-save-2 c = omega (arith, edges-end (c .before .before .before))
-
-part-save-start-2 : tie.Need-part-save-start-2 Inv-loop μ-loop
-part-save-start-2 c = omega (arith, edges-end (c .before .before .before))
-
-part-save-end-2 : tie.Need-part-save-end-2 Inv-loop μ-loop
-part-save-end-2 c = omega (arith, edges-end (c .before .before .before))
-
-mul-save-7 : tie.Need-mul-save-7 Inv-loop μ-loop
-mul-save-7 c = omega (arith, image-end (c .before .before .before .before))
-
-mul-save-8 : tie.Need-mul-save-8 Inv-loop μ-loop
-mul-save-8 c = omega (arith, image-end (c .before .before .before .before))
-
-add-save-3 : tie.Need-add-save-3 Inv-loop μ-loop
-add-save-3 c = omega (arith, image-end (c .before .before .before .before))
-
-mul-save-9 : tie.Need-mul-save-9 Inv-loop μ-loop
-mul-save-9 c = omega (arith, image-end (c .before .before .before .before))
-
-sub-save-3 : tie.Need-sub-save-3 Inv-loop μ-loop
-sub-save-3 c = omega (arith, image-end (c .before .before .before .before))
-
-part-save-start-3 : tie.Need-part-save-start-3 Inv-loop μ-loop
-part-save-start-3 c = omega (arith, image-end (c .before .before .before .before))
-
-part-save-end-3 : tie.Need-part-save-end-3 Inv-loop μ-loop
-part-save-end-3 c = omega (arith, image-end (c .before .before .before .before))
-
 save-requires : tie.Need-save-requires Inv-loop μ-loop
 save-requires c κs =
     let l = c .before .before .before .before .before .before .loop in
     let a = c .before .before .before .before .before .before .before .before .before .before .args in
     subst (λ (k : ℕ). CanSave (tablesAt (a .t1) (a .vertices .now) (a .edges .now) (a .v) (a .e) (l .i)) k)
-    (sym (part-length (a .n) (l .i) (l .image) (image-end (c .before .before .before .before .before)))) (c .before .before .before .before .before .before .before .before .before .before .pre .each (l .i) (c .before .before .before .before .before .loop-test .taken))
+    (sym (part-length (a .n) (l .i) (l .image) (image-end (c .before .before .before .before .before))))
+    (c .before .before .before .before .before .before .before .before .before .before .pre .each (l .i) (c .before .before .before .before .before .loop-test .taken))
 
 add-words : tie.Need-add-words Inv-loop μ-loop
-add-words c = omega (arith, image-end (c .before .before .before .before .before .before .before .before), few (c .before .before), c .before .before .before .before .before .before .before .before .before .loop .inv .1, c .before .before .before .before .before .before .before .before .before .loop .inv .2, c .before .before .before .before .before .before .before .before .before .before .before .before .before .good)
+add-words c =
+    omega (
+      arith,
+      image-end (c .before .before .before .before .before .before .before .before),
+      few (c .before .before),
+      c .before .before .before .before .before .before .before .before .before .loop .inv .1,
+      c .before .before .before .before .before .before .before .before .before .loop .inv .2,
+      c .before .before .before .before .before .before .before .before .before .before .before .before .before .good,
+    )
 
 add-i : tie.Need-add-i Inv-loop μ-loop
-add-i c = omega (arith, c .before .before .before .before .before .before .before .before .loop-test, c .before .before .before .before .before .before .before .before .before .before .before .before .before .pre .few)
+add-i c = omega (
+  arith,
+  c .before .before .before .before .before .before .before .before .loop-test,
+  c .before .before .before .before .before .before .before .before .before .before .before .before .before .pre .few,
+)
 
 loop-less : tie.Need-loop-less Inv-loop μ-loop
 loop-less c = omega (arith, c .before .before .before .before .before .before .before .before .loop-test)
@@ -177,37 +139,12 @@ returns c =
 pub save-all-spec : {M : Type 1} → statement M
 save-all-spec =
     tie.close
-    (tie.spec
-    Inv-loop
-    μ-loop
-    loop-holds
-    mul-x
-    array-copy-out-x
-    mul-save
-    mul-save-2
-    add-save
-    mul-save-3
-    sub-save
-    part-save-start
-    part-save-end
-    mul-save-4
-    mul-save-5
-    add-save-2
-    mul-save-6
-    sub-save-2
-    part-save-start-2
-    part-save-end-2
-    mul-save-7
-    mul-save-8
-    add-save-3
-    mul-save-9
-    sub-save-3
-    part-save-start-3
-    part-save-end-3
-    save-requires
-    add-words
-    add-i
-    loop-less
-    loop-again
-    same-length
-    returns)
+    (tie.spec Inv-loop μ-loop loop-holds mul-x array-copy-out-x (λ c. omega (arith, vertices-end (c .before .before))) (λ c. omega (arith, vertices-end (c .before .before)))
+    (λ c. omega (arith, vertices-end (c .before .before))) (λ c. omega (arith, vertices-end (c .before .before))) (λ c. omega (arith, vertices-end (c .before .before)))
+    (λ c. omega (arith, vertices-end (c .before .before))) (λ c. omega (arith, vertices-end (c .before .before))) (λ c. omega (arith, edges-end (c .before .before .before)))
+    (λ c. omega (arith, edges-end (c .before .before .before))) (λ c. omega (arith, edges-end (c .before .before .before))) (λ c. omega (arith, edges-end (c .before .before .before)))
+    (λ c. omega (arith, edges-end (c .before .before .before))) (λ c. omega (arith, edges-end (c .before .before .before))) (λ c. omega (arith, edges-end (c .before .before .before)))
+    (λ c. omega (arith, image-end (c .before .before .before .before))) (λ c. omega (arith, image-end (c .before .before .before .before)))
+    (λ c. omega (arith, image-end (c .before .before .before .before))) (λ c. omega (arith, image-end (c .before .before .before .before)))
+    (λ c. omega (arith, image-end (c .before .before .before .before))) (λ c. omega (arith, image-end (c .before .before .before .before)))
+    (λ c. omega (arith, image-end (c .before .before .before .before))) save-requires add-words add-i loop-less loop-again same-length returns)

@@ -28,7 +28,9 @@ returns-3 c =
     let a = c .before .before .before .before .before .before .before .args in
     let s = c .before .before .before .before .check-lines in
     let w = c .words in
-    accepted (readText (a .bytes .now)) (wordsFrom Empty (a .bytes .now)) (a .calls .now) (w .last .1 .0) (w .result) (readable (a .bytes .now) (s .result) (c .before .before .before .before .before .if1 .left) (s .ensures) (c .before .before .before .if2 .left) (c .before .before .if3 .taken)) (w .ensures .0) (w .ensures .1)
+    accepted (readText (a .bytes .now)) (wordsFrom Empty (a .bytes .now)) (a .calls .now) (w .last .1 .0) (w .result)
+    (readable (a .bytes .now) (s .result) (c .before .before .before .before .before .if1 .left) (s .ensures) (c .before .before .before .if2 .left) (c .before .before .if3 .taken))
+    (w .ensures .0) (w .ensures .1)
 
 returns-4 : tie.Need-returns-4
 returns-4 c =

@@ -21,12 +21,4 @@ returns-2 c = simp (sym (c .before .ends .ensures), c .if1 .left) (omega arith, 
 pub word-at-spec : {M : Type 1} → statement M
 word-at-spec =
     tie.close
-    (tie.spec
-    (λ c κs. search needs)
-    (λ c κs. search needs)
-    (λ c. search needs)
-    slice-write-calls
-    (λ c. search needs)
-    (λ c. search needs)
-    returns
-    returns-2)
+    (tie.spec (λ c κs. search needs) (λ c κs. search needs) (λ c. search needs) slice-write-calls (λ c. search needs) (λ c. search needs) returns returns-2)

@@ -13,7 +13,8 @@ use Rattle.text.proofs.reading.words.Statement.{statement}
 use Rattle.text.proofs.reading.words.Tie as tie
 
 abbrev Inv-loop : tie.InvT-loop
-Inv-loop bytes calls₀ n₀ k₀ i₀ calls n k i = (i ≤ length bytes) × (length calls ≡ length calls₀) × (k + length (wordsFrom n (drop i bytes)) ≡ length (wordsFrom n₀ bytes)) × (sets calls k (wordsFrom n (drop i bytes)) ≡ sets calls₀ k₀ (wordsFrom n₀ bytes))
+Inv-loop bytes calls₀ n₀ k₀ i₀ calls n k i = (i ≤ length bytes) × (length calls ≡ length calls₀) × (k + length (wordsFrom n (drop i bytes)) ≡ length (wordsFrom n₀ bytes))
+    × (sets calls k (wordsFrom n (drop i bytes)) ≡ sets calls₀ k₀ (wordsFrom n₀ bytes))
 
 abbrev μ-loop : tie.MeasureT-loop
 μ-loop bytes calls₀ n₀ k₀ i₀ calls n k i = length bytes - i
@@ -49,15 +50,5 @@ returns c =
 pub words-spec : {M : Type 1} → statement M
 words-spec =
     tie.close
-    (tie.spec
-    Inv-loop
-    μ-loop
-    loop-holds
-    (λ c. search needs)
-    word-at-requires
-    (λ c κs. search needs)
-    (λ c. search needs)
-    (λ c. search needs)
-    loop-again
-    (λ c. search needs)
-    returns)
+    (tie.spec Inv-loop μ-loop loop-holds (λ c. search needs) word-at-requires (λ c κs. search needs) (λ c. search needs) (λ c. search needs) loop-again
+    (λ c. search needs) returns)

@@ -12,7 +12,8 @@ use Rattle.text.proofs.writing.answers.Statement.{statement}
 use Rattle.text.proofs.writing.answers.Tie as tie
 
 abbrev Inv-loop : tie.InvT-loop
-Inv-loop out₀ words at₀ k₀ out at k = (k ≤ length words) × (length out ≡ length out₀) × (at + length (answerLines (drop k words)) ≡ length (answerLines words)) × (sets out at (answerLines (drop k words)) ≡ sets out₀ at₀ (answerLines words))
+Inv-loop out₀ words at₀ k₀ out at k = (k ≤ length words) × (length out ≡ length out₀) × (at + length (answerLines (drop k words)) ≡ length (answerLines words))
+    × (sets out at (answerLines (drop k words)) ≡ sets out₀ at₀ (answerLines words))
 
 abbrev μ-loop : tie.MeasureT-loop
 μ-loop out₀ words at₀ k₀ out at k = length words - k
@@ -48,19 +49,5 @@ returns c =
 pub answers-spec : {M : Type 1} → statement M
 answers-spec =
     tie.close
-    (tie.spec
-    Inv-loop
-    μ-loop
-    loop-holds
-    (λ c. search needs)
-    (λ c. search needs)
-    (λ c. search needs)
-    (λ c. search needs)
-    (λ c. search needs)
-    (λ c. search needs)
-    answer-requires
-    (λ c. search needs)
-    (λ c. search needs)
-    loop-again
-    (λ c. search needs)
-    returns)
+    (tie.spec Inv-loop μ-loop loop-holds (λ c. search needs) (λ c. search needs) (λ c. search needs) (λ c. search needs) (λ c. search needs) (λ c. search needs)
+    answer-requires (λ c. search needs) (λ c. search needs) loop-again (λ c. search needs) returns)

@@ -13,7 +13,8 @@ use Rattle.text.proofs.writing.numbers.Statement.{statement}
 use Rattle.text.proofs.writing.numbers.Tie as tie
 
 abbrev Inv-loop : tie.InvT-loop
-Inv-loop out₀ at words p₀ k₀ out p k = (k ≤ length words) × (length out ≡ length out₀) × (p + length (concatMap spaced (drop k words)) ≡ at + length (concatMap spaced words)) × (sets out p (concatMap spaced (drop k words)) ≡ sets out₀ at (concatMap spaced words))
+Inv-loop out₀ at words p₀ k₀ out p k = (k ≤ length words) × (length out ≡ length out₀) × (p + length (concatMap spaced (drop k words)) ≡ at + length (concatMap spaced words))
+    × (sets out p (concatMap spaced (drop k words)) ≡ sets out₀ at (concatMap spaced words))
 
 abbrev μ-loop : tie.MeasureT-loop
 μ-loop out₀ at words p₀ k₀ out p k = length words - k
@@ -49,15 +50,5 @@ returns c =
 pub numbers-spec : {M : Type 1} → statement M
 numbers-spec =
     tie.close
-    (tie.spec
-    Inv-loop
-    μ-loop
-    loop-holds
-    (λ c. search needs)
-    (λ c. search needs)
-    spaced-requires
-    (λ c. search needs)
-    (λ c. search needs)
-    loop-again
-    (λ c. search needs)
-    returns)
+    (tie.spec Inv-loop μ-loop loop-holds (λ c. search needs) (λ c. search needs) spaced-requires (λ c. search needs) (λ c. search needs) loop-again
+    (λ c. search needs) returns)

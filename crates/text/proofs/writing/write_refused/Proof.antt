@@ -15,7 +15,8 @@ returns : tie.Need-returns
 returns c =
     let a = c .before .before .before .before .before .args in
     let l = c .line in
-    written-as _ _ (l .result) _ _ (refused-alone (a .code) (a .offset) (c .before .before .before .before .if1 .taken)) (stored-over (omega (arith, line-most refusedWord (a .code ∷ []))) (l .ensures))
+    written-as _ _ (l .result) _ _ (refused-alone (a .code) (a .offset) (c .before .before .before .before .if1 .taken))
+    (stored-over (omega (arith, line-most refusedWord (a .code ∷ []))) (l .ensures))
 
 line-requires-2 : tie.Need-line-requires-2
 line-requires-2 c κs = let a = c .before .before .before .before .args in omega (arith, line-most refusedWord (a .code ∷ a .offset ∷ []))
@@ -24,17 +25,10 @@ returns-2 : tie.Need-returns-2
 returns-2 c =
     let a = c .before .before .before .before .before .args in
     let l = c .line2 in
-    written-as _ _ (l .result) _ _ (refused-offset (a .code) (a .offset) (c .before .before .before .before .if1 .left)) (stored-over (omega (arith, line-most refusedWord (a .code ∷ a .offset ∷ []))) (l .ensures))
+    written-as _ _ (l .result) _ _ (refused-offset (a .code) (a .offset) (c .before .before .before .before .if1 .left))
+    (stored-over (omega (arith, line-most refusedWord (a .code ∷ a .offset ∷ []))) (l .ensures))
 
 pub write-refused-spec : {M : Type 1} → statement M
 write-refused-spec =
     tie.close
-    (tie.spec
-    (λ c. search needs)
-    (λ c. search needs)
-    line-requires
-    returns
-    (λ c. search needs)
-    (λ c. search needs)
-    line-requires-2
-    returns-2)
+    (tie.spec (λ c. search needs) (λ c. search needs) line-requires returns (λ c. search needs) (λ c. search needs) line-requires-2 returns-2)

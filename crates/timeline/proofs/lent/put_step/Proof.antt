@@ -1,4 +1,5 @@
--- `lent::put_step` meets its contract: a walk of its MIR, by hand. The borrow is opened, the position is read, `after_step` is called by value, the record that it returns is stored whole, and the borrow is closed at it.
+-- `lent::put_step` meets its contract: a walk of its MIR, by hand. The borrow is opened, the position is read, `after_step` is called by value, the record that it returns is stored whole,
+-- and the borrow is closed at it.
 -- All that the proof knows of `after_step` is that it meets its contract. The structs are plain data: what one owns is made anew from its facts (`owned`).
 use mathlib.Core.Path.{_≡_, refl}
 use Prim.Native.Nat.{ℕ, _+_, _<_, _^_}
@@ -68,7 +69,8 @@ module _ {M : Type 1} (𝓤 : URA M) (H : Heap 𝓤) (A : Atoms 𝓤) (at-mem : 
   abbrev AfterStep : Contract 𝓤
   AfterStep = tripleOf 𝓤 H A after-step.signature (after-step.spec 𝓤 H A at-mem run)
 
-module _ {M : Type 1} (𝓤 : URA M) (H : Heap 𝓤) (A : Atoms 𝓤) (W : Given 𝓤 H A) (at-mem : Memory → SProp 𝓤) (run : Routine → Fun 𝓤) (κ : Lft) (q : Share) (b o : ℕ) (γ : GName) (h : Current) (d : Head) (n : ℕ) (d-is : Is D.the-row d (D′.lowered d ∷ [])) (n-fits : n < 2 ^ 32) (ok : Ok h n) where
+module _ {M : Type 1} (𝓤 : URA M) (H : Heap 𝓤) (A : Atoms 𝓤) (W : Given 𝓤 H A) (at-mem : Memory → SProp 𝓤) (run : Routine → Fun 𝓤) (κ : Lft) (q : Share) (b o : ℕ) (γ : GName) (h : Current)
+    (d : Head) (n : ℕ) (d-is : Is D.the-row d (D′.lowered d ∷ [])) (n-fits : n < 2 ^ 32) (ok : Ok h n) where
   abbrev x : RefT Current × (Head × (ℕ × Unit {0}))
   x = (record { ptr = (b, o); name = γ; now = h }, (d, (n, tt)))
 
@@ -87,7 +89,8 @@ module _ {M : Type 1} (𝓤 : URA M) (H : Heap 𝓤) (A : Atoms 𝓤) (W : Given
 
   asked : Is P.the-row (h .position) (P′.lowered (h .position) ∷ []) → ent 𝓤 (emp 𝓤) (AfterStep 𝓤 H A at-mem run .pre to)
   asked p-is =
-      qed W [] ∵ says ! ok $ nothing ! $ owned ! u32 (Is u32) (uint-makes 𝓤 H A W w32) n _ (refl, n-fits) $ fjoin ! $ owned ! D.the-row (Is D.the-row) ((LL.makes D.the-type D′.the-plain) 𝓤 H A) d _ d-is $ fjoin ! $
+      qed W [] ∵ says ! ok $ nothing ! $ owned ! u32 (Is u32) (uint-makes 𝓤 H A W w32) n _ (refl, n-fits) $ fjoin ! $
+      owned ! D.the-row (Is D.the-row) ((LL.makes D.the-type D′.the-plain) 𝓤 H A) d _ d-is $ fjoin ! $
       owned ! P.the-row (Is P.the-row) ((LL.makes P.the-type P′.the-plain) 𝓤 H A) (h .position) _ p-is $ fjoin ! $ nothing ! $ frame ! $ done !
 
   said : (r : Current) → ent 𝓤 (ensured 𝓤 H A after-step.ended (after-step.clauses 𝓤 H A at-mem run) tt (h .position, (d, (n, tt))) tt r) (fact 𝓤 (r ≡ h′))
@@ -96,7 +99,8 @@ module _ {M : Type 1} (𝓤 : URA M) (H : Heap 𝓤) (A : Atoms 𝓤) (W : Given
   exits : ent 𝓤 (sep 𝓤 (A .obs γ (T.the-row .coded .code h′)) (sep 𝓤 (A .bor κ (Body (mem T.the-row) b o γ)) (A .lft κ q))) (Post vunit)
   exits =
       qed W (‵ (fobs γ (T.the-row .coded .code h′)) ∷ ‵ (fbor κ (Body (mem T.the-row) b o γ)) ∷ ‵ (flft κ q) ∷ []) ∵
-      suffices ! _ (ends-at 𝓤 H A f.ended stayed (f.clauses 𝓤 H A at-mem run) W (((κ, tt), (q, tt), tt, x, at), tt) vunit tt (h′, (tt, (tt, tt))) (tt, (tt, (tt, tt)))) $ says ! refl $ nothing ! $ move ! (3 ∷ 0 ∷ []) $ join ! $
+      suffices ! _ (ends-at 𝓤 H A f.ended stayed (f.clauses 𝓤 H A at-mem run) W (((κ, tt), (q, tt), tt, x, at), tt) vunit tt (h′, (tt, (tt, tt))) (tt, (tt, (tt, tt)))) $ says ! refl $
+      nothing ! $ move ! (3 ∷ 0 ∷ []) $ join ! $
       frame ! $ feqI ! (List Val) (vptr b o ∷ []) (vptr b o ∷ []) refl $ fjoin3 ! $ nothing ! $ owned ! u32 (Is u32) (uint-makes 𝓤 H A W w32) n _ (refl, n-fits) $ fjoin ! $
       owned ! D.the-row (Is D.the-row) ((LL.makes D.the-type D′.the-plain) 𝓤 H A) d _ d-is $ fjoin ! $ move ! (1 ∷ 0 ∷ []) $ fjoin ! $
       feqI ! (List Val) (vunit ∷ []) (vunit ∷ []) refl $ move ! (1 ∷ 0 ∷ []) $ done !
@@ -111,13 +115,16 @@ module _ {M : Type 1} (𝓤 : URA M) (H : Heap 𝓤) (A : Atoms 𝓤) (W : Given
         opens ! tt T.the-row {h = h} b o (λ vs. spelt ! T.the-row (Is T.the-row) (shows 𝓤 H A T.the-row) (LL.vals T.the-type T′.the-laws) (LL.tells T.the-type T′.the-laws) fullShare h vs b o $
         use1 W (‵ (fat fullShare T′.mir b o (T′.lowered h))) (W .laws .raw-at fullShare T′.mir b o (T′.lowered h)) $
         move ! (1 ∷ []) $ peeks ! T.the-row (Is T.the-row) (shows 𝓤 H A T.the-row) h (LL.vals T.the-type T′.the-laws h) (λ was. move ! (1 ∷ 0 ∷ []) $
-        let p-is = LL.owed T.the-type T′.the-laws h _ was .1 .0 in
+        let p-is = LL.owed T.the-type T′.the-laws h _ was .0 in
         -- [the record's cell; what a Current owns; the open borrow; obs; auth; true; what d and n own; _5; …; _4; …; _3; …; _2; …; _1; …; room for _0; …]
-        assigns ! (of-opd ! (load ! (from ! (hop ! (look ! 15 refl) (fld ! refl (stop !)))) (look-in ! 0 (sub ! 1 refl (whole !))))) (from ! (stop !)) (init ! 7 refl (LL.lawful P.the-type P′.the-laws 𝓤 H A W .typed (h .position) _ p-is .0)) $
+        assigns ! (of-opd ! (load ! (from ! (hop ! (look ! 15 refl) (fld ! refl (stop !)))) (look-in ! 0 (sub ! 0 refl (whole !))))) (from ! (stop !))
+        (init ! 7 refl (LL.lawful P.the-type P′.the-laws 𝓤 H A W .typed (h .position) _ p-is .0)) $
         use0 W (raw (AfterStep 𝓤 H A at-mem run .pre to)) (asked p-is) $
         -- [the callee's pre; the same]
-        calls-at ! fm (AfterStep 𝓤 H A at-mem run) known to (and-then ! (load ! (from ! (stop !)) (look ! 8 refl)) (and-then ! (load ! (from ! (stop !)) (look ! 14 refl)) (and-then ! (load ! (from ! (stop !)) (look ! 12 refl)) (no-more !)))) (λ v.
-        use1 W (later (some (λ (r : Current). (‵ ftrue ⊛ ‵ (T.the-row .own r (v ∷ []))) ⊛ raw (ensured 𝓤 H A after-step.ended (after-step.clauses 𝓤 H A at-mem run) tt (h .position, (d, (n, tt))) tt r)))) (id⊢ 𝓤 _) $ await ! tt $ pick ! (λ r.
+        calls-at ! fm (AfterStep 𝓤 H A at-mem run) known to (and-then ! (load ! (from ! (stop !)) (look ! 8 refl))
+        (and-then ! (load ! (from ! (stop !)) (look ! 14 refl)) (and-then ! (load ! (from ! (stop !)) (look ! 12 refl)) (no-more !)))) (λ v.
+        use1 W (later (some (λ (r : Current). (‵ ftrue ⊛ ‵ (T.the-row .own r (v ∷ []))) ⊛ raw
+        (ensured 𝓤 H A after-step.ended (after-step.clauses 𝓤 H A at-mem run) tt (h .position, (d, (n, tt))) tt r)))) (id⊢ 𝓤 _) $ await ! tt $ pick ! (λ r.
         split ! $ move ! (1 ∷ []) $ use1 W (raw (fact 𝓤 (r ≡ h′))) (said r) $ heard ! (r ≡ h′) (λ e. split ! $ drop ! $
         peeks ! T.the-row (Is T.the-row) (shows 𝓤 H A T.the-row) r (v ∷ []) (λ is.
         -- [the result; the record's cell; what h owns; the open borrow; obs; auth; true; what d and n own; _5; …; _4; …; _3; …; _2; …; _1; …; room for _0; …]
@@ -129,18 +136,26 @@ module _ {M : Type 1} (𝓤 : URA M) (H : Heap 𝓤) (A : Atoms 𝓤) (W : Given
         move ! (0 ∷ 1 ∷ 3 ∷ 4 ∷ 5 ∷ []) $ closes ! tt T.the-row h′ (v ∷ []) b o $
         -- [obs; the borrow; the token; what h owns; true; what d and n own; _5; …; _4; …; _3; …; _2; …; _1; …; _0; …]
         returns ! (look ! 16 refl) $ forget ! 6 refl $ forget ! 8 refl $ forget ! 10 refl $ forget ! 12 refl $ forget ! 14 refl $ forget ! 16 refl $
-        move ! (16 ∷ 17 ∷ []) $ free1 ! $ move ! (14 ∷ 15 ∷ []) $ free1 ! $ move ! (12 ∷ 13 ∷ []) $ free1 ! $ move ! (10 ∷ 11 ∷ []) $ free1 ! $ move ! (8 ∷ 9 ∷ []) $ free1 ! $ move ! (6 ∷ 7 ∷ []) $ free1 ! $ free0 ! $
+        move ! (16 ∷ 17 ∷ []) $ free1 ! $ move ! (14 ∷ 15 ∷ []) $ free1 ! $ move ! (12 ∷ 13 ∷ []) $ free1 ! $ move ! (10 ∷ 11 ∷ []) $ free1 ! $ move ! (8 ∷ 9 ∷ []) $ free1 ! $
+        move ! (6 ∷ 7 ∷ []) $ free1 ! $ free0 ! $
         keep ! (0 ∷ 1 ∷ 2 ∷ []) $ by ! exits))))))))))))
 
 module _ {M : Type 1} (𝓤 : URA M) (H : Heap 𝓤) (A : Atoms 𝓤) (W : Given 𝓤 H A) (at-mem : Memory → SProp 𝓤) (run : Routine → Fun 𝓤) where
-  put-step-walks : (C : Calls 𝓤 H) (Λ : Loops 𝓤 H) → FmC 𝓤 H (W .laws) C → Triple 𝓤 (C #after-step) (AfterStep 𝓤 H A at-mem run) → Walks 𝓤 H A f.ended stayed (WpFn 𝓤 H C Λ code.function) (f.clauses 𝓤 H A at-mem run)
-  put-step-walks C Λ fm known = walked 𝓤 H A f.ended stayed (f.clauses 𝓤 H A at-mem run) (WpFn 𝓤 H C Λ code.function) (λ κs. (ptr-vals, (LL.vals D.the-type D′.the-laws, (uint-vals w32, tt)))) (λ κs. (mut-tells (named 0) (κs .0) T.the-row, (LL.tells D.the-type D′.the-laws, (uint-tells w32, tt))))
-      (λ κs qs bounds a _ are. needs 𝓤 (Ok (a .0 .now) (a .1 .1 .0)) _ (λ ok. walk 𝓤 H A W at-mem run (κs .0) (qs .0) (a .0 .ptr .0) (a .0 .ptr .1) (a .0 .name) (a .0 .now) (a .1 .0) (a .1 .1 .0) (are .1 .0) (are .1 .1 .0 .1) ok C Λ fm known))
+  put-step-walks : (C : Calls 𝓤 H) (Λ : Loops 𝓤 H) → FmC 𝓤 H (W .laws) C → Triple 𝓤 (C #after-step) (AfterStep 𝓤 H A at-mem run)
+      → Walks 𝓤 H A f.ended stayed (WpFn 𝓤 H C Λ code.function) (f.clauses 𝓤 H A at-mem run)
+  put-step-walks C Λ fm known = walked 𝓤 H A f.ended stayed (f.clauses 𝓤 H A at-mem run) (WpFn 𝓤 H C Λ code.function)
+      (λ κs. (ptr-vals, (LL.vals D.the-type D′.the-laws, (uint-vals w32, tt)))) (λ κs. (mut-tells (named 0) (κs .0) T.the-row, (LL.tells D.the-type D′.the-laws, (uint-tells w32, tt))))
+      (λ κs qs bounds a _ are. needs 𝓤 (Ok (a .0 .now) (a .1 .1 .0)) _
+      (λ ok. walk 𝓤 H A W at-mem run (κs .0) (qs .0) (a .0 .ptr .0) (a .0 .ptr .1) (a .0 .name) (a .0 .now) (a .1 .0) (a .1 .1 .0) (are .1 .0) (are .1 .1 .0 .1) ok C Λ fm known))
 
-put-step-meets : {M : Type 1} (𝓤 : URA M) (H : Heap 𝓤) (A : Atoms 𝓤) (W : Given 𝓤 H A) (at-mem : Memory → SProp 𝓤) (run : Routine → Fun 𝓤) (𝓣 : Tables 𝓤 H) → Triple 𝓤 (𝓣 .C #after-step) (AfterStep 𝓤 H A at-mem run)
+put-step-meets : {M : Type 1} (𝓤 : URA M) (H : Heap 𝓤) (A : Atoms 𝓤) (W : Given 𝓤 H A) (at-mem : Memory → SProp 𝓤) (run : Routine → Fun 𝓤) (𝓣 : Tables 𝓤 H)
+    → Triple 𝓤 (𝓣 .C #after-step) (AfterStep 𝓤 H A at-mem run)
     → Meets 𝓤 H A f.signature (WpFn 𝓤 H (𝓣 .C) (𝓣 .Λ) code.function) (f.spec 𝓤 H A at-mem run)
 put-step-meets 𝓤 H A W at-mem run 𝓣 known =
-    walk-meets 𝓤 H A f.ended stayed W (goes-ref 𝓤 H A W 1 0 tt (plain (λ _. T.the-row)), (goes-none 𝓤 H A W 1 (λ _. D.the-row) yes (λ κs x f. refl), (goes-none 𝓤 H A W 1 (λ _. u32) yes (λ κs x f. refl), tt))) (f.clauses 𝓤 H A at-mem run)
+    walk-meets 𝓤 H A f.ended stayed W (
+      goes-ref 𝓤 H A W 1 0 tt (plain (λ _. T.the-row)),
+      (goes-none 𝓤 H A W 1 (λ _. D.the-row) yes (λ κs x f. refl), (goes-none 𝓤 H A W 1 (λ _. u32) yes (λ κs x f. refl), tt)),
+    ) (f.clauses 𝓤 H A at-mem run)
     (WpFn 𝓤 H (𝓣 .C) (𝓣 .Λ) code.function) (WpFn-mono 𝓤 H (W .laws) 𝓣 code.function) (put-step-walks 𝓤 H A W at-mem run (𝓣 .C) (𝓣 .Λ) (fmOf 𝓤 H (W .laws) 𝓣) known)
 
 pub put-step-spec : {M : Type 1} → stated.statement M
