@@ -17,8 +17,8 @@ use Rattle.graph.specs.WellFormed.{WellFormed, sameWords}
 use Rattle.graph.specs.Changes.{onVseq, onEseq, onList}
 use Rattle.graph.proofs.Facts.{to-facts}
 use Rattle.image.specs.Image.{load}
-use Rattle.image.specs.Checks.{savedBounds, loadCode}
-use Rattle.image.proofs.LoadCodes.{code-loads}
+use Rattle.image_check.specs.Checks.{savedBounds, loadCode}
+use Rattle.image_check.proofs.LoadCodes.{code-loads}
 use Rattle.image.proofs.Loads.{loaded}
 use Rattle.history.specs.Machine.{Machine, fresh, present}
 use Rattle.commands.specs.Calls.{Call, five, callsOf}

@@ -18,10 +18,10 @@ use Rattle.graph.proofs.Facts.{to-facts}
 use Rattle.graph.proofs.Incidence.{pick-le}
 use Rattle.graph.proofs.Lists.{ordered-list}
 use Rattle.graph.proofs.Words.{words-this}
-use Rattle.image.specs.Image.{recordSize, part, vertexCount, edgeCount, vertexPart, edgePart, edgesFrom, verticesFrom, load, loadable}
-use Rattle.image.specs.Checks.{savedBounds, loadCode, verdict, numbersIn}
-use Rattle.image.proofs.Verdicts.{zero-sound}
-use Rattle.image.proofs.LoadCodes.{code-loads}
+use Rattle.image.specs.Image.{recordSize, part, vertexCount, edgeCount, vertexPart, edgePart, edgesFrom, verticesFrom, load, loadable, numbersIn}
+use Rattle.image_check.specs.Checks.{savedBounds, loadCode, verdict}
+use Rattle.image_check.proofs.Verdicts.{zero-sound}
+use Rattle.image_check.proofs.LoadCodes.{code-loads}
 use Rattle.image.proofs.Loads.{loaded}
 use Rattle.image.proofs.Formed.{formed}
 use Rattle.image.proofs.Ends.{has-number}

@@ -15,7 +15,8 @@ use Rattle.lists.proofs.Picks.{pick-no, same, differ, same?, is-yes}
 use Rattle.lists.proofs.Counts.{count-any, count-by, count-same}
 use Rattle.lists.proofs.Places.{upd-agree, upd-same, upd-upd}
 use Rattle.lists.proofs.Sums.{same-alike}
-use Rattle.graph.specs.declared.Change.the-variants.{VertexAfter, EdgeAfter, WordAfter}
+use Rattle.graph.specs.declared.SingleChange.the-variants.{VertexAfter, EdgeAfter, WordAfter}
+use Rattle.graph.specs.declared.Change.the-variants.{Single}
 use Rattle.graph.specs.Graph.{Vertex, Edge, Graph, vertexNumber, edgeNumber, itself, noVertex, noEdge, vertex, vertexNumbers, edgeNumbers, edgeOf, thisIn, this, listOf}
 use Rattle.graph.specs.WellFormed.{WellFormed, sameWords}
 use Rattle.graph.specs.Changes.{onVseq, onEseq, onList, changed}
@@ -44,21 +45,21 @@ as-counts key ws xs l e f n = sym (count-same n ws) ∙ same-alike ws xs e n ∙
 -- ---- vertices
 
 module _ (w : Parameters) where
-  vertex-passes : (g : Graph) (a b : ℕ) → 1 ≤ countBy vertexNumber a (g .vseq) → 1 ≤ countBy vertexNumber b (g .vseq) → (a ≡ b → ⊥) → changeCode (boundsIn w) g (VertexAfter a b) ≡ 0
+  vertex-passes : (g : Graph) (a b : ℕ) → 1 ≤ countBy vertexNumber a (g .vseq) → 1 ≤ countBy vertexNumber b (g .vseq) → (a ≡ b → ⊥) → changeCode (boundsIn w) g (Single (VertexAfter a b)) ≡ 0
   vertex-passes g a b p q n = rw (count-vertex g a p, count-vertex g b q, ne-eqb a b n)
 
-  vertices-pass : (b : ℕ) (ws : List ℕ) (g : Graph) → Wanted vertexNumber b ws (g .vseq) → Passes w 12 VertexAfter b ws g
+  vertices-pass : (b : ℕ) (ws : List ℕ) (g : Graph) → Wanted vertexNumber b ws (g .vseq) → Passes w 12 (λ a b. Single (VertexAfter a b)) b ws g
   unfolding changed
   vertices-pass b [] g h = tt
   vertices-pass b (a ∷ ws) g h = (
     vertex-passes g a b (next-there vertexNumber noVertex b a ws (g .vseq) h) (h .first) (next-apart vertexNumber noVertex b a ws (g .vseq) h),
-    vertices-pass a ws (changed (VertexAfter a b) g) (next-wanted vertexNumber noVertex b a ws (g .vseq) h),
+    vertices-pass a ws (changed (Single (VertexAfter a b)) g) (next-wanted vertexNumber noVertex b a ws (g .vseq) h),
   )
 
-  vertices-moved : (b : ℕ) (ws : List ℕ) (g : Graph) → movedOn w 12 VertexAfter b ws g ≡ onVseq (putInTurn vertexNumber noVertex b ws) g
+  vertices-moved : (b : ℕ) (ws : List ℕ) (g : Graph) → movedOn w 12 (λ a b. Single (VertexAfter a b)) b ws g ≡ onVseq (putInTurn vertexNumber noVertex b ws) g
   unfolding changed
   vertices-moved b [] g = refl
-  vertices-moved b (a ∷ ws) g = vertices-moved a ws (changed (VertexAfter a b) g)
+  vertices-moved b (a ∷ ws) g = vertices-moved a ws (changed (Single (VertexAfter a b)) g)
 
   pub reach-vertices : (m : Machine) (wanted : List ℕ) → InPlace m → WellFormed (present m) → sameWords wanted (vertexNumbers (present m)) ≡ true → length wanted - 1 ≤ free w m →
       Reaches w m (arrangeCalls 12 wanted) (length wanted - 1) (onVseq (inOrder vertexNumber noVertex wanted) (present m))
@@ -72,27 +73,28 @@ module _ (w : Parameters) where
           Reaches w m (arrangeCalls 12 ws) (length ws - 1) (onVseq (inOrder vertexNumber noVertex ws) g)
       go [] c k = stays w m _ (ap (λ (l : List Vertex). onVseq (λ _. l) g) (arranged-is vertexNumber noVertex [] (g .vseq) (wf .vorder) c))
       go (b ∷ ws) c k =
-          let r = moves-reach w 12 VertexAfter (λ a b. refl) (λ a b g. refl) (λ a b g. refl) b ws m p (vertices-pass b ws g (all-wanted vertexNumber b ws (g .vseq) (wf .vorder) c)) (omega arith) in
+          let r = moves-reach w 12 (λ a b. Single (VertexAfter a b)) (λ a b. refl) (λ a b g. refl) (λ a b g. refl) b ws m p
+          (vertices-pass b ws g (all-wanted vertexNumber b ws (g .vseq) (wf .vorder) c)) (omega arith) in
           let q = vertices-moved b ws g ∙ ap (λ (l : List Vertex). onVseq (λ _. l) g) (arranged-is vertexNumber noVertex (b ∷ ws) (g .vseq) (wf .vorder) c) in
           record { accepted = r .accepted; reached = r .reached ∙ q; left = omega (arith, r .left) }
 
   -- ---- edges
 
-  edge-passes : (g : Graph) (a b : ℕ) → 1 ≤ countBy edgeNumber a (g .eseq) → 1 ≤ countBy edgeNumber b (g .eseq) → (a ≡ b → ⊥) → changeCode (boundsIn w) g (EdgeAfter a b) ≡ 0
+  edge-passes : (g : Graph) (a b : ℕ) → 1 ≤ countBy edgeNumber a (g .eseq) → 1 ≤ countBy edgeNumber b (g .eseq) → (a ≡ b → ⊥) → changeCode (boundsIn w) g (Single (EdgeAfter a b)) ≡ 0
   edge-passes g a b p q n = rw (count-any edgeNumber a (g .eseq) p, count-any edgeNumber b (g .eseq) q, ne-eqb a b n)
 
-  edges-pass : (b : ℕ) (ws : List ℕ) (g : Graph) → Wanted edgeNumber b ws (g .eseq) → Passes w 14 EdgeAfter b ws g
+  edges-pass : (b : ℕ) (ws : List ℕ) (g : Graph) → Wanted edgeNumber b ws (g .eseq) → Passes w 14 (λ a b. Single (EdgeAfter a b)) b ws g
   unfolding changed
   edges-pass b [] g h = tt
   edges-pass b (a ∷ ws) g h = (
     edge-passes g a b (next-there edgeNumber noEdge b a ws (g .eseq) h) (h .first) (next-apart edgeNumber noEdge b a ws (g .eseq) h),
-    edges-pass a ws (changed (EdgeAfter a b) g) (next-wanted edgeNumber noEdge b a ws (g .eseq) h),
+    edges-pass a ws (changed (Single (EdgeAfter a b)) g) (next-wanted edgeNumber noEdge b a ws (g .eseq) h),
   )
 
-  edges-moved : (b : ℕ) (ws : List ℕ) (g : Graph) → movedOn w 14 EdgeAfter b ws g ≡ onEseq (putInTurn edgeNumber noEdge b ws) g
+  edges-moved : (b : ℕ) (ws : List ℕ) (g : Graph) → movedOn w 14 (λ a b. Single (EdgeAfter a b)) b ws g ≡ onEseq (putInTurn edgeNumber noEdge b ws) g
   unfolding changed
   edges-moved b [] g = refl
-  edges-moved b (a ∷ ws) g = edges-moved a ws (changed (EdgeAfter a b) g)
+  edges-moved b (a ∷ ws) g = edges-moved a ws (changed (Single (EdgeAfter a b)) g)
 
   pub reach-edges : (m : Machine) (wanted : List ℕ) → InPlace m → WellFormed (present m) → sameWords wanted (edgeNumbers (present m)) ≡ true → length wanted - 1 ≤ free w m →
       Reaches w m (arrangeCalls 14 wanted) (length wanted - 1) (onEseq (inOrder edgeNumber noEdge wanted) (present m))
@@ -106,7 +108,8 @@ module _ (w : Parameters) where
           Reaches w m (arrangeCalls 14 ws) (length ws - 1) (onEseq (inOrder edgeNumber noEdge ws) g)
       go [] c k = stays w m _ (ap (λ (l : List Edge). onEseq (λ _. l) g) (arranged-is edgeNumber noEdge [] (g .eseq) (wf .eorder) c))
       go (b ∷ ws) c k =
-          let r = moves-reach w 14 EdgeAfter (λ a b. refl) (λ a b g. refl) (λ a b g. refl) b ws m p (edges-pass b ws g (all-wanted edgeNumber b ws (g .eseq) (wf .eorder) c)) (omega arith) in
+          let r = moves-reach w 14 (λ a b. Single (EdgeAfter a b)) (λ a b. refl) (λ a b g. refl) (λ a b g. refl) b ws m p
+          (edges-pass b ws g (all-wanted edgeNumber b ws (g .eseq) (wf .eorder) c)) (omega arith) in
           let q = edges-moved b ws g ∙ ap (λ (l : List Edge). onEseq (λ _. l) g) (arranged-is edgeNumber noEdge (b ∷ ws) (g .eseq) (wf .eorder) c) in
           record { accepted = r .accepted; reached = r .reached ∙ q; left = omega (arith, r .left) }
 
@@ -116,24 +119,24 @@ module _ (w : Parameters) where
   abbrev SeenFrom : List Edge → ℕ → ℕ → Type 0
   SeenFrom es v x = (1 ≤ countBy edgeNumber (edgeOf x) es) × (thisIn es x ≡ v)
 
-  word-passes : (g : Graph) (v a b : ℕ) → SeenFrom (g .eseq) v a → SeenFrom (g .eseq) v b → (a ≡ b → ⊥) → changeCode (boundsIn w) g (WordAfter a b) ≡ 0
+  word-passes : (g : Graph) (v a b : ℕ) → SeenFrom (g .eseq) v a → SeenFrom (g .eseq) v b → (a ≡ b → ⊥) → changeCode (boundsIn w) g (Single (WordAfter a b)) ≡ 0
   word-passes g v a b p q n =
       rw (count-any edgeNumber (edgeOf a) (g .eseq) (p .0), count-any edgeNumber (edgeOf b) (g .eseq) (q .0), eq-eqb (this g a) (this g b) (p .1 ∙ sym (q .1)), ne-eqb a b n)
 
-  words-pass : (v b : ℕ) (ws : List ℕ) (g : Graph) → ((n : ℕ) → 1 ≤ times n (b ∷ ws) → SeenFrom (g .eseq) v n) → ((n : ℕ) → times n (b ∷ ws) ≤ 1) → Passes w 16 WordAfter b ws g
+  words-pass : (v b : ℕ) (ws : List ℕ) (g : Graph) → ((n : ℕ) → 1 ≤ times n (b ∷ ws) → SeenFrom (g .eseq) v n) → ((n : ℕ) → times n (b ∷ ws) ≤ 1) → Passes w 16 (λ a b. Single (WordAfter a b)) b ws g
   unfolding changed
   words-pass v b [] g s o = tt
   words-pass v b (a ∷ ws) g s o = (
     word-passes g v a b (s a (omega (arith, is-yes a a refl))) (s b (omega (arith, is-yes b b refl))) (λ e. omega (arith, o a, is-yes a a refl, is-yes b a (sym e))),
-    words-pass v a ws (changed (WordAfter a b) g) (λ n h. s n (omega (arith, h))) (λ n. omega (arith, o n)),
+    words-pass v a ws (changed (Single (WordAfter a b)) g) (λ n h. s n (omega (arith, h))) (λ n. omega (arith, o n)),
   )
 
   words-moved : (v b : ℕ) (ws : List ℕ) (g : Graph) → ((n : ℕ) → 1 ≤ times n ws → thisIn (g .eseq) n ≡ v) →
-      movedOn w 16 WordAfter b ws g ≡ onVseq (updateBy vertexNumber v (onList (putInTurn itself 0 b ws))) g
+      movedOn w 16 (λ a b. Single (WordAfter a b)) b ws g ≡ onVseq (updateBy vertexNumber v (onList (putInTurn itself 0 b ws))) g
   unfolding changed
   words-moved v b [] g s = ap (λ (l : List Vertex). onVseq (λ _. l) g) (sym (upd-same vertexNumber v (g .vseq)))
   words-moved v b (a ∷ ws) g s =
-      words-moved v a ws (changed (WordAfter a b) g) (λ n h. s n (omega (arith, h)))
+      words-moved v a ws (changed (Single (WordAfter a b)) g) (λ n h. s n (omega (arith, h)))
       ∙ ap (λ (u : ℕ). onVseq (λ _. updateBy vertexNumber v (onList (putInTurn itself 0 a ws)) (updateBy vertexNumber u (onList (putAfter itself 0 a b)) (g .vseq))) g)
       (s a (omega (arith, is-yes a a refl)))
       ∙ ap (λ (l : List Vertex). onVseq (λ _. l) g) (upd-upd vertexNumber v (onList (putAfter itself 0 a b)) (onList (putInTurn itself 0 a ws)) (g .vseq) (λ y. refl))
@@ -164,7 +167,8 @@ module _ (w : Parameters) where
           (ap (λ (l : List Vertex). onVseq (λ _. l) g) (sym (upd-same vertexNumber v (g .vseq))) ∙ ordered [] (λ l. l) (arranged-is itself 0 [] (listOf g v) (ordered-list g wf v) c))
       go (b ∷ ws) c k =
           let s : (n : ℕ) → 1 ≤ times n (b ∷ ws) → SeenFrom (g .eseq) v n = λ n h. seen g wf v n (omega (arith, c n)) in
-          let r = moves-reach w 16 WordAfter (λ a b. refl) (λ a b g. refl) (λ a b g. refl) b ws m p (words-pass v b ws g s (λ n. omega (arith, c n, ordered-list g wf v n))) (omega arith) in
+          let r = moves-reach w 16 (λ a b. Single (WordAfter a b)) (λ a b. refl) (λ a b g. refl) (λ a b g. refl) b ws m p
+          (words-pass v b ws g s (λ n. omega (arith, c n, ordered-list g wf v n))) (omega arith) in
           let a = arranged-is itself 0 (b ∷ ws) (listOf g v) (ordered-list g wf v) c ∙ order-words (b ∷ ws) (listOf g v) (λ n. omega (arith, c n)) in
           let q = words-moved v b ws g (λ n h. s n (omega (arith, h)) .1) ∙ ordered (b ∷ ws) (putInTurn itself 0 b ws) a in
           record { accepted = r .accepted; reached = r .reached ∙ q; left = omega (arith, r .left) }

@@ -16,7 +16,7 @@ use Rattle.lists.proofs.Sums.{Alike, alike-length, same-alike, alike-same}
 use Rattle.graph.specs.Graph.{itself}
 use Rattle.graph.specs.WellFormed.{sameWords}
 use Rattle.image.proofs.Counts.{rem-count, rem-length, self-one}
-use Rattle.image.proofs.EdgePass.{inside}
+use Rattle.lists.proofs.WordLaws.{inside}
 use Rattle.arrangement.specs.Orders.{refusal, written, arrangement}
 use Rattle.arrangement.specs.Scratch.{marked, taken, settled}
 

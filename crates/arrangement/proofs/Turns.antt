@@ -4,27 +4,17 @@ use mathlib.Core.Path.{_≡_, refl, sym, ap, _∙_}
 use mathlib.Core.Bool.{true, false}
 use mathlib.Core.List.{List, [], _∷_, _++_}
 use native.Mathlib.Omega.{arith}
-use native.Mathlib.Numerals.{add-one}
 use lib.ListN.{length, getD, set, drop, length-append, drop-of-length-le}
-use lib.Seq.{sets, drop-cons, drop-drop, getD-drop}
+use lib.Seq.{sets, drop-drop}
 use borrow.Author.Tests.{eq-eqb, ne-eqb}
 use Rattle.lists.specs.Lists.{member}
 use Rattle.lists.proofs.Stores.{sets-append}
+use Rattle.lists.proofs.WordLaws.{word-at, first-at, one-drop}
 use Rattle.graph.specs.WellFormed.{wordsAt}
-use Rattle.image.specs.Image.{edgesFrom}
-use Rattle.image.specs.Checks.{numbersIn}
+use Rattle.image.specs.Image.{edgesFrom, numbersIn}
 use Rattle.arrangement.specs.Orders.{wordsFrom, callWords}
 use Rattle.arrangement.specs.Scratch.{marked, seenFrom, taken}
 use Rattle.arrangement.proofs.Taking.{marked-append}
-
-pub one-drop : (xs : List ℕ) (i : ℕ) → i < length xs → drop i xs ≡ getD xs i 0 ∷ drop (i + 1) xs
-one-drop xs i h = drop-cons xs i 0 h ∙ ap (λ (j : ℕ). getD xs i 0 ∷ drop j xs) (sym (add-one i))
-
-at-front : (at k : ℕ) (ws : List ℕ) → getD (drop at ws) k 0 ≡ getD ws (at + k) 0
-at-front at k ws = getD-drop at ws k 0
-
-front : (at : ℕ) (ws : List ℕ) → getD (drop at ws) 0 0 ≡ getD ws at 0
-front at ws = let e : at + 0 ≡ at = omega arith in at-front at 0 ws ∙ ap (λ (k : ℕ). getD ws k 0) e
 
 -- ---- records
 
@@ -34,7 +24,7 @@ module _ (size : ℕ) (ws : List ℕ) (count i at : ℕ) where
   numbers-turn h =
       let e : count - i ≡ suc (count - (i + 1)) = omega arith in
       ap (λ (k : ℕ). numbersIn size k (drop at ws)) e
-      ∙ ap (λ (x : ℕ). x ∷ numbersIn size (count - (i + 1)) (drop size (drop at ws))) (front at ws)
+      ∙ ap (λ (x : ℕ). x ∷ numbersIn size (count - (i + 1)) (drop size (drop at ws))) (first-at ws at)
       ∙ ap (λ (l : List ℕ). getD ws at 0 ∷ numbersIn size (count - (i + 1)) l) (drop-drop size at ws)
 
   pub marks-turn : i < count → (s s′ : List ℕ) (n : ℕ) → n ≡ getD ws at 0 → s′ ≡ set s n 1 →
@@ -63,7 +53,7 @@ module _ (v : ℕ) (ws : List ℕ) (count i at : ℕ) where
   words-turn h =
       let e : count - i ≡ suc (count - (i + 1)) = omega arith in
       ap (λ (k : ℕ). wordsAt (edgesFrom k (drop at ws)) v) e
-      ∙ (λ j. (seenFrom v (at-front at 1 ws j) (2 * front at ws j) ++ seenFrom v (at-front at 2 ws j) (2 * front at ws j + 1)) ++ wordsAt (edgesFrom (count - (i + 1)) (drop-drop 6 at ws j)) v)
+      ∙ (λ j. (seenFrom v (word-at ws at 1 j) (2 * first-at ws at j) ++ seenFrom v (word-at ws at 2 j) (2 * first-at ws at j + 1)) ++ wordsAt (edgesFrom (count - (i + 1)) (drop-drop 6 at ws j)) v)
 
   pub ends-turn : i < count → (s s′ s″ : List ℕ) (n a o : ℕ) → n ≡ 2 * getD ws at 0 → a ≡ getD ws (at + 1) 0 → o ≡ getD ws (at + 2) 0 →
       s′ ≡ marked (seenFrom v a n) s → s″ ≡ marked (seenFrom v o (n + 1)) s′ →

@@ -10,7 +10,7 @@ use Rattle.lists.specs.Lists.{overwritten}
 use Rattle.graph.specs.Graph.{hasVertex, vertexNumbers, edgeNumbers, listOf}
 use Rattle.graph.specs.WellFormed.{sameWords}
 use Rattle.image.specs.Image.{load}
-use Rattle.image.specs.Checks.{savedBounds, loadCode}
+use Rattle.image_check.specs.Checks.{savedBounds, loadCode}
 use Rattle.commands.specs.Calls.{Call, five}
 use Rattle.arrangement.specs.declared.Arrangement.{Arrangement}
 

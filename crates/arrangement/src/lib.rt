@@ -6,17 +6,17 @@ ghost use lib.ListN.{length, getD, set};
 ghost use lib.Seq.{sets};
 ghost use Rattle.lists.specs.Lists.{member};
 ghost use Rattle.graph.specs.WellFormed.{wordsAt};
-ghost use Rattle.image.specs.Image.{edgesFrom};
-ghost use Rattle.image.specs.Checks.{numbersIn};
+ghost use Rattle.image.specs.Image.{numbersIn, edgesFrom};
 ghost use Rattle.arrangement.specs.Orders.{callWords, outcome, vertexOrder, edgeOrder, wordOrder};
 ghost use Rattle.arrangement.specs.Scratch.{marked, seenFrom, taken, settled};
 use graph::MOST_EDGES;
-use image::check_saved;
-use image::code_of;
 use image::layout::EDGE;
 use image::layout::record_size;
 use image::part;
+use image_check::check_saved;
+use image_check::code_of;
 use lists::get;
+use lists::numbers::wide;
 
 // A code, and how many calls were written: with a code none.
 #[repr(C)]
@@ -32,12 +32,6 @@ fn refused(code: u32) -> Arrangement
     ensures { λ r. ⌜ (r .code ≡ code) × (r .calls ≡ 0) ⌝ }
 {
     Arrangement { code, calls: 0 }
-}
-
-fn wide(x: u32) -> usize
-    ensures { λ r. ⌜ (r ≡ x) × (r < 2 ^ 32) ⌝ }
-{
-    x as usize
 }
 
 // Past the end it is 0.

@@ -9,25 +9,27 @@ use borrow.Author.Tests.{ne-eqb, eqb-true, eqb-false, lt-ltb, le-ltb}
 use lib.Dec.{ltb}
 use lib.ListN.{length}
 use Rattle.lists.specs.Choice.{_⇒_else_, _==_}
+use Rattle.graph.specs.declared.SingleChange.{SingleChange}
 use Rattle.graph.specs.declared.Change.{Change}
-use Rattle.graph.specs.declared.Change.the-variants.{DeleteVertex}
+use Rattle.graph.specs.declared.Change.the-variants.{Single, DeleteVertex}
 use Rattle.graph.specs.declared.Edit.{Edit}
 use Rattle.graph.specs.Graph.{Graph, hasVertex}
 use Rattle.graph.specs.WellFormed.{Bounds, WellFormed}
-use Rattle.graph.specs.Changes.{Allowed, cost}
+use Rattle.graph.specs.Changes.{cost}
 use Rattle.graph.specs.Same.{idle, alters}
 use Rattle.graph.proofs.Alters.{alters-plan}
 use Rattle.history.specs.Machine.{Machine, present, freeOf, extended, stepOf}
 use Rattle.machine.specs.HistoryCodes.{tooDear}
 use Rattle.machine.specs.Rules.{firstCode, changeRule}
 use Rattle.machine.specs.Codes.{changeCode}
-use Rattle.machine.proofs.Allows.{allows}
+use Rattle.machine.proofs.Allows.{singly-allows}
 use Rattle.journal.specs.Rows.{signed}
 use Rattle.graph_tables.specs.Tables.{State}
 use Rattle.graph_tables.specs.Holds.{Holds}
 use Rattle.graph_tables.specs.Capacities.{boundsOf}
-use Rattle.queries.specs.Plans.{planS, OneEdit}
-use Rattle.queries.proofs.PlanLaws.{plan-is, one-edit}
+use Rattle.tried_edits.specs.Plans.{planS}
+use Rattle.tried_edits.proofs.PlanLaws.{plan-is}
+use Rattle.tried_edits.specs.Tried.{attempt, outcome}
 use Rattle.single_changes.specs.One.{HoldsGraph, One}
 use Rattle.single_changes.proofs.OneLaws.{withRoom, Told, one-told}
 use Rattle.timeline.specs.declared.Position.{Position}
@@ -111,58 +113,58 @@ module _ (types : ℕ) (j : Position) (s : State) (t : List ℕ) where
   module _ (code n : ℕ) (s′ : State) (t′ : List ℕ) where
     -- ---- a change of one edit
 
-    module _ (free : ℕ) (q : 12 * (j .used + free) ≤ length t) (c : Change) (o : OneEdit c) (y : HoldsGraph s) (r : One c types (j .used) free s t code n s′ t′) where
+    module _ (free : ℕ) (q : 12 * (j .used + free) ≤ length t) (c : SingleChange) (y : HoldsGraph s) (r : One c types (attempt (j .used) free s t) (outcome code n s′ t′)) where
       abbrev plan-now : Edit
       plan-now = planS c s
 
       module _ (b : Bounds) (m : Machine) (e : b .types ≡ types) (k : Journal b j s t (m .line)) where
-        tells : Told plan-now (changeCode b (present m) c) (j .used) free s t code n s′ t′
+        tells : Told plan-now (changeCode b (present m) (Single c)) (attempt (j .used) free s t) (outcome code n s′ t′)
         tells =
-            subst (λ (x : Bounds). Told plan-now (changeCode x (present m) c) (j .used) free s t code n s′ t′) (bounds-are b m e k)
-            (one-told o r (present m) (s .head, holds b m e k))
+            subst (λ (x : Bounds). Told plan-now (changeCode x (present m) (Single c)) (attempt (j .used) free s t) (outcome code n s′ t′)) (bounds-are b m e k)
+            (one-told r (present m) (s .head, holds b m e k))
 
         -- what the tables say of the edit is what the graph says of the change
-        alters-now : changeCode b (present m) c ≡ 0 → alters c (present m) ≡ not (idle plan-now)
+        alters-now : changeCode b (present m) (Single c) ≡ 0 → alters (Single c) (present m) ≡ not (idle plan-now)
         alters-now z =
-            let a = allows b (present m) (sound b m e k) c (r .fits) z in
-            alters-plan (present m) (sound b m e k) b c a (one-edit c o (present m) .0) ∙ ap (λ (y : Edit). not (idle y)) (sym (plan-is s (present m) (holds b m e k) b c a))
+            let a = singly-allows b (present m) (sound b m e k) c (r .fits) z in
+            alters-plan (present m) (sound b m e k) b c a ∙ ap (λ (y : Edit). not (idle y)) (sym (plan-is s (present m) (holds b m e k) b c a))
 
-        single-code : (capacity : ℕ) → free ≡ freeOf capacity (m .line) → code ≡ changeRule b capacity c .code m
-        single-code capacity f = tells .coded ∙ go (changeCode b (present m) c) refl
+        single-code : (capacity : ℕ) → free ≡ freeOf capacity (m .line) → code ≡ changeRule b capacity (Single c) .code m
+        single-code capacity f = tells .coded ∙ go (changeCode b (present m) (Single c)) refl
           where
-            dear : (free == 0) ≡ ltb (freeOf capacity (m .line)) (cost c (present m))
-            dear = room-test free _ (cost c (present m)) (sym f) (one-edit c o (present m) .1)
+            dear : (free == 0) ≡ ltb (freeOf capacity (m .line)) (cost (Single c) (present m))
+            dear = room-test free _ (cost (Single c) (present m)) (sym f) refl
 
-            go : (i : ℕ) → changeCode b (present m) c ≡ i → withRoom (idle plan-now) free i ≡ firstCode i (tooDear capacity m c ⇒ 10 else 0)
+            go : (i : ℕ) → changeCode b (present m) (Single c) ≡ i → withRoom (idle plan-now) free i ≡ firstCode i (tooDear capacity m (Single c) ⇒ 10 else 0)
             go zero z =
                 tried-code (idle plan-now) free _ dear
-                ∙ ap (λ (p : Bool). (ltb (freeOf capacity (m .line)) (cost c (present m)) && p) ⇒ 10 else 0) (sym (alters-now z))
+                ∙ ap (λ (p : Bool). (ltb (freeOf capacity (m .line)) (cost (Single c) (present m)) && p) ⇒ 10 else 0) (sym (alters-now z))
             go (suc i) z = let f : (suc i == 0) ≡ false = ne-eqb (suc i) 0 (omega arith) in rw f
 
-        single-comes : Comes c b m j free code n s′ t′
+        single-comes : Comes (Single c) b m j free code n s′ t′
         single-comes = record {
           coded = single-code;
           idle = λ z d. let p = tells .keeps z d in alters-now (p .0) ∙ ap not (p .1);
           made = λ z.
               let d = tells .made z in
-              let a = allows b (present m) (sound b m e k) c (r .fits) (d .uncoded) in
+              let a = singly-allows b (present m) (sound b m e k) c (r .fits) (d .uncoded) in
               record {
                 alters-graph = alters-now (d .uncoded) ∙ ap not (d .alters);
-                costs = d .costs ∙ sym (one-edit c o (present m) .1);
-                steps = single-step c b j s t (m .line) k a o (omega (arith, q, d .room)) s′ t′ (d .writes) (afterStep j (s′ .head) n .position) refl refl (omega (arith, d .costs));
+                costs = d .costs;
+                steps = single-step c b j s t (m .line) k a (omega (arith, q, d .room)) s′ t′ (d .writes) (afterStep j (s′ .head) n .position) refl refl (omega (arith, d .costs));
               };
         }
 
       -- of the graph that the tables hold
-      held : Told plan-now (changeCode (boundsOf (s .vertices) (s .edges) types) (y .graph) c) (j .used) free s t code n s′ t′
-      held = one-told o r (y .graph) (s .head, y .holds)
+      held : Told plan-now (changeCode (boundsOf (s .vertices) (s .edges) types) (y .graph) (Single c)) (attempt (j .used) free s t) (outcome code n s′ t′)
+      held = one-told r (y .graph) (s .head, y .holds)
 
-      pub single-attempts : Attempts c types free j s t code n s′ t′
+      pub single-attempts : Attempts (Single c) types free j s t code n s′ t′
       single-attempts = record { stays = held .stays; accepts = λ z. held .made z .coded; comes = single-comes }
 
     -- ---- the deletion of a vertex
 
-    module _ (a free : ℕ) (r : Deletes a free j s t code n s′ t′) where
+    module _ (a free : ℕ) (r : Deletes a free j s t (outcome code n s′ t′)) where
       deletion-code : (b : Bounds) (m : Machine) → Journal b j s t (m .line) → (capacity : ℕ) → free ≡ freeOf capacity (m .line) → code ≡ changeRule b capacity (DeleteVertex a) .code m
       deletion-code b m k capacity f =
           let lacks = not (hasVertex (present m) a) in

@@ -1,4 +1,3 @@
-pub mod Singles
 pub mod SingleStep
 pub mod Attempting
 pub mod Following

@@ -2,6 +2,7 @@
 // A caller has a store and lent words that stand for a machine with so many types; any change may be asked for.
 use commands::Answer;
 use graph::Change;
+use graph::SingleChange;
 use history_calls::Called;
 use history_calls::Store;
 use history_calls::stay;
@@ -9,7 +10,6 @@ use timeline::Position;
 ghost use mathlib.Core.Path.{_≡_};
 ghost use Prim.Native.Nat.{ℕ, _≤_};
 ghost use Rattle.history.specs.Machine.{MarkPlace, at, cutMarks};
-ghost use Rattle.queries.specs.Plans.{OneEdit};
 ghost use Rattle.marks.specs.Marked.{Marked, markWords};
 ghost use lib.ListN.{length};
 ghost use Rattle.history_calls.specs.Memory.{memory, entry};
@@ -38,11 +38,11 @@ fn single(
     marks: &[u32],
     types: u32,
     free: u32,
-    change: Change,
+    change: SingleChange,
 ) -> Called
-    requires { ⌜ OneEdit change × StandsTyped types free store
+    requires { ⌜ StandsTyped types free store
         (memory (now vertices) (now edges) (now journal) (now marks)) ⌝ }
-    ensures { λ r. ⌜ DoesChange change types free store (entry vertices edges journal marks) r
+    ensures { λ r. ⌜ DoesChange (Change.Single change) types free store (entry vertices edges journal marks) r
         (memory (now (vertices .exit)) (now (edges .exit)) (now (journal .exit)) (now (marks .entry))) ⌝ }
 {
     let old = store.current;
@@ -132,7 +132,7 @@ pub fn alter(
         (memory (now (vertices .exit)) (now (edges .exit)) (now (journal .exit)) (now (marks .entry))) ⌝ }
 {
     match change {
+        Change::Single(one) => single(store, vertices, edges, journal, marks, types, free, one),
         Change::DeleteVertex(a) => delete_vertex(store, vertices, edges, journal, marks, free, a),
-        _ => single(store, vertices, edges, journal, marks, types, free, change),
     }
 }

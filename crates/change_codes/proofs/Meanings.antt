@@ -12,10 +12,10 @@ use Rattle.graph.specs.Graph.{Graph, hasVertex, hasEdge, edgeOf, this}
 use Rattle.graph_tables.specs.declared.Lookup.the-variants.{Found, Missing}
 use Rattle.graph_tables.specs.Tables.{foundV, foundE, vertexCode, edgeCode, wthis}
 use Rattle.machine.specs.Codes.{lacksVertex, lacksEdge}
-use Rattle.change_codes.specs.Held.{HoldsV, HoldsE, HoldsVE}
+use Rattle.graph_tables.specs.Holds.{HoldsV, HoldsE, HoldsVE}
 use Rattle.machine.specs.Rules.{firstCode}
 use Rattle.change_codes.specs.Refusals.{numberCode, usedCode, typeCode, verticesCode, edgesCode, wordsCode}
-use Rattle.change_codes.proofs.Found.{vertex-looked, edge-looked, word-in}
+use Rattle.graph_tables.proofs.LookedUp.{vertex-looked, edge-looked, word-in}
 
 -- an equation, and what it means in every graph that is held
 pub with-meaning : {r x : ℕ} {H : Graph → Type 0} {y : Graph → ℕ} → r ≡ x → ((g : Graph) → H g → x ≡ y g) → (r ≡ x) × ((g : Graph) → H g → r ≡ y g)

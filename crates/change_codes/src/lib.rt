@@ -1,10 +1,11 @@
-// Codes 2 to 9 of a change, read off the tables: the lowest that applies, 0 where none does. Each contract says the
-// code of any words, and then that it is the code of the graph that they hold.
+// Codes 2 to 9 of a change, read off the tables: the lowest that applies, 0 where none does. Kind 2 has its code 4 in
+// vertex_deletion. Each contract says the code of any words, and then that it is the code of the graph that they hold.
 use graph_tables::Lookup;
+use graph_tables::fields::HALF_THIS;
 use graph_tables::lookups::find_edge;
 use graph_tables::lookups::find_vertex;
 use graph_tables::lookups::find_word;
-use graph_tables::rows::this;
+use graph_tables::rows::half_field;
 ghost use mathlib.Core.Path.{_≡_};
 ghost use mathlib.Core.Bool.{not, _||_};
 ghost use Prim.Native.Nat.{_/_};
@@ -16,11 +17,11 @@ ghost use Rattle.graph.specs.Graph as chart;
 ghost use Rattle.graph_tables.specs.Tables.{foundV, foundE, vertexCode, edgeCode};
 ghost use Rattle.machine.specs.Codes.{lacksVertex, lacksEdge};
 ghost use Rattle.machine.specs.Rules.{firstCode};
-ghost use Rattle.change_codes.specs.Held.{HoldsV, HoldsE, HoldsVE};
+ghost use Rattle.graph_tables.specs.Holds.{HoldsV, HoldsE, HoldsVE};
 ghost use Rattle.change_codes.specs.Refusals.{numberCode, usedCode, typeCode, readingCode, twiceCode};
 ghost use Rattle.change_codes.specs.Refusals.{verticesCode, edgesCode, wordsCode};
 
-// Code 4: a vertex that is named.
+// Code 4: a vertex that is named; kind 7 has no other.
 pub fn vertex_code(vertices: &[u32], v: u32) -> u32
     ensures { λ r. ⌜ r ≡ vertexCode (foundV (now (vertices .entry)) v) ⌝ }
     ensures { λ r. ⌜ ((g : Graph) → HoldsV (now (vertices .entry)) g → r ≡ (lacksVertex g v ⇒ 4 else 0)) ⌝ }
@@ -32,7 +33,7 @@ pub fn vertex_code(vertices: &[u32], v: u32) -> u32
     0
 }
 
-// Code 5: an edge that is named.
+// Code 5: an edge that is named; kind 4 has no other.
 pub fn edge_code(edges: &[u32], e: u32) -> u32
     ensures { λ r. ⌜ r ≡ edgeCode (foundE (now (edges .entry)) e) ⌝ }
     ensures { λ r. ⌜ ((g : Graph) → HoldsE (now (edges .entry)) g → r ≡ (lacksEdge g e ⇒ 5 else 0)) ⌝ }
@@ -253,7 +254,7 @@ pub fn order_words(edges: &[u32], x: u32, y: u32) -> u32
     let Lookup::Found(_) = h else {
         return 5;
     };
-    if this(edges, x) != this(edges, y) {
+    if half_field(edges, x, HALF_THIS) != half_field(edges, y, HALF_THIS) {
         return 8;
     }
     twice_code(x, y)

@@ -4,13 +4,13 @@ use lib.Dec.{leb}
 use Rattle.lists.specs.Choice.{_⇒_else_, _==_}
 use Rattle.commands.specs.Calls.{Call}
 use Rattle.commands.specs.Commands.{changeOf, commandOf}
-use Rattle.commands.specs.Fits.{Words, ChangeFits, CommandFits}
+use Rattle.commands.specs.Fits.{WordsFit, ChangeFits, CommandFits}
 
 pick {ℓ} : {A : Type ℓ} (P : A → Type 0) (t : Bool) (c d : A) → P c → P d → P (t ⇒ c else d)
 pick P true c d h i = h
 pick P false c d h i = i
 
-module _ (x : Call) (f : Words x) where
+module _ (x : Call) (f : WordsFit x) where
   change-fits : ChangeFits (changeOf x)
   unfolding changeOf
   change-fits =

@@ -3,9 +3,9 @@ use Prim.Native.Nat.{ℕ}
 use lib.Dec.{leb}
 use Rattle.lists.specs.Choice.{_⇒_else_, _==_}
 use Rattle.graph.specs.declared.Change.{Change}
-use Rattle.graph.specs.declared.Change.the-variants.{
+use Rattle.graph.specs.declared.SingleChange.{SingleChange}
+use Rattle.graph.specs.declared.SingleChange.the-variants.{
   CreateVertex,
-  DeleteVertex,
   CreateEdge,
   DeleteEdge,
   RetypeVertex,
@@ -21,6 +21,7 @@ use Rattle.graph.specs.declared.Change.the-variants.{
   WordBefore,
   WordAfter,
 }
+use Rattle.graph.specs.declared.Change.the-variants.{Single, DeleteVertex}
 use Rattle.commands.specs.Calls.{Call, five}
 use Rattle.commands.specs.declared.HistoryCall.{HistoryCall}
 use Rattle.commands.specs.declared.HistoryCall.the-variants.{
@@ -69,22 +70,22 @@ use Rattle.commands.specs.declared.Command.the-variants.{Alter, History,
 -- the change that a call of kind 1 to 16 asks for
 unfoldable pub changeOf : Call → Change
 changeOf x =
-    (k == 1) ⇒ CreateVertex a b c else
+    (k == 1) ⇒ Single (CreateVertex a b c) else
     (k == 2) ⇒ DeleteVertex a else
-    (k == 3) ⇒ CreateEdge a b c d else
-    (k == 4) ⇒ DeleteEdge a else
-    (k == 5) ⇒ RetypeVertex a b else
-    (k == 6) ⇒ RetypeEdge a b else
-    (k == 7) ⇒ SetValue a b else
-    (k == 8) ⇒ SetReading a b c else
-    (k == 9) ⇒ SetAlpha a b else
-    (k == 10) ⇒ SetOmega a b else
-    (k == 11) ⇒ VertexBefore a b else
-    (k == 12) ⇒ VertexAfter a b else
-    (k == 13) ⇒ EdgeBefore a b else
-    (k == 14) ⇒ EdgeAfter a b else
-    (k == 15) ⇒ WordBefore a b else
-    WordAfter a b
+    (k == 3) ⇒ Single (CreateEdge a b c d) else
+    (k == 4) ⇒ Single (DeleteEdge a) else
+    (k == 5) ⇒ Single (RetypeVertex a b) else
+    (k == 6) ⇒ Single (RetypeEdge a b) else
+    (k == 7) ⇒ Single (SetValue a b) else
+    (k == 8) ⇒ Single (SetReading a b c) else
+    (k == 9) ⇒ Single (SetAlpha a b) else
+    (k == 10) ⇒ Single (SetOmega a b) else
+    (k == 11) ⇒ Single (VertexBefore a b) else
+    (k == 12) ⇒ Single (VertexAfter a b) else
+    (k == 13) ⇒ Single (EdgeBefore a b) else
+    (k == 14) ⇒ Single (EdgeAfter a b) else
+    (k == 15) ⇒ Single (WordBefore a b) else
+    Single (WordAfter a b)
   where
     k : ℕ
     k = x .kind
@@ -161,23 +162,26 @@ commandOf x =
 
 -- ---- the words of a command: its kind, what it reads, and 0 for the rest (REFERENCE 2.1)
 
+abbrev pub singleCall : SingleChange → Call
+singleCall (CreateVertex n t x) = five 1 n t x 0
+singleCall (CreateEdge n a o t) = five 3 n a o t
+singleCall (DeleteEdge a) = five 4 a 0 0 0
+singleCall (RetypeVertex a t) = five 5 a t 0 0
+singleCall (RetypeEdge a t) = five 6 a t 0 0
+singleCall (SetValue a x) = five 7 a x 0 0
+singleCall (SetReading a k d) = five 8 a k d 0
+singleCall (SetAlpha e v) = five 9 e v 0 0
+singleCall (SetOmega e v) = five 10 e v 0 0
+singleCall (VertexBefore a b) = five 11 a b 0 0
+singleCall (VertexAfter a b) = five 12 a b 0 0
+singleCall (EdgeBefore a b) = five 13 a b 0 0
+singleCall (EdgeAfter a b) = five 14 a b 0 0
+singleCall (WordBefore a b) = five 15 a b 0 0
+singleCall (WordAfter a b) = five 16 a b 0 0
+
 abbrev pub changeCall : Change → Call
-changeCall (CreateVertex n t x) = five 1 n t x 0
+changeCall (Single c) = singleCall c
 changeCall (DeleteVertex a) = five 2 a 0 0 0
-changeCall (CreateEdge n a o t) = five 3 n a o t
-changeCall (DeleteEdge a) = five 4 a 0 0 0
-changeCall (RetypeVertex a t) = five 5 a t 0 0
-changeCall (RetypeEdge a t) = five 6 a t 0 0
-changeCall (SetValue a x) = five 7 a x 0 0
-changeCall (SetReading a k d) = five 8 a k d 0
-changeCall (SetAlpha e v) = five 9 e v 0 0
-changeCall (SetOmega e v) = five 10 e v 0 0
-changeCall (VertexBefore a b) = five 11 a b 0 0
-changeCall (VertexAfter a b) = five 12 a b 0 0
-changeCall (EdgeBefore a b) = five 13 a b 0 0
-changeCall (EdgeAfter a b) = five 14 a b 0 0
-changeCall (WordBefore a b) = five 15 a b 0 0
-changeCall (WordAfter a b) = five 16 a b 0 0
 
 abbrev pub historyCall : HistoryCall → Call
 historyCall (SetMark a) = five 17 a 0 0 0

@@ -1,4 +1,5 @@
 pub mod Calls
+pub mod Kinds
 pub mod Tables
 pub mod Commands
 pub mod Answers

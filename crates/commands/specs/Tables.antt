@@ -29,9 +29,9 @@ some p (x ∷ []) = p x
 some p (x ∷ y ∷ ys) = p x || some p (y ∷ ys)
 
 -- k is the code of a row that applies, and no row before it does
-pub data First (k : ℕ) : List Row → Type 0 where
-  found : {r : Row} {rs : List Row} → r .applies ≡ true → r .code ≡ k → First k (r ∷ rs)
-  later : {r : Row} {rs : List Row} → r .applies ≡ false → First k rs → First k (r ∷ rs)
+pub data FirstApplies (k : ℕ) : List Row → Type 0 where
+  found : {r : Row} {rs : List Row} → r .applies ≡ true → r .code ≡ k → FirstApplies k (r ∷ rs)
+  later : {r : Row} {rs : List Row} → r .applies ≡ false → FirstApplies k rs → FirstApplies k (r ∷ rs)
 
 -- no row applies
 pub data NoneApplies : List Row → Type 0 where

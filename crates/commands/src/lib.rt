@@ -1,5 +1,6 @@
 // The command that one call's five words are, in families.
 use graph::Change;
+use graph::SingleChange;
 use lists::get;
 ghost use mathlib.Core.Path.{_≡_};
 ghost use Rattle.commands.specs.Calls.{callAt, five};
@@ -75,22 +76,22 @@ fn command_of(k: u32, a: u32, b: u32, c: u32, d: u32) -> Command
     ensures { λ r. ⌜ r ≡ commandOf (five k a b c d) ⌝ }
 {
     match k {
-        1 => Command::Alter(Change::CreateVertex(a, b, c)),
+        1 => Command::Alter(Change::Single(SingleChange::CreateVertex(a, b, c))),
         2 => Command::Alter(Change::DeleteVertex(a)),
-        3 => Command::Alter(Change::CreateEdge(a, b, c, d)),
-        4 => Command::Alter(Change::DeleteEdge(a)),
-        5 => Command::Alter(Change::RetypeVertex(a, b)),
-        6 => Command::Alter(Change::RetypeEdge(a, b)),
-        7 => Command::Alter(Change::SetValue(a, b)),
-        8 => Command::Alter(Change::SetReading(a, b, c)),
-        9 => Command::Alter(Change::SetAlpha(a, b)),
-        10 => Command::Alter(Change::SetOmega(a, b)),
-        11 => Command::Alter(Change::VertexBefore(a, b)),
-        12 => Command::Alter(Change::VertexAfter(a, b)),
-        13 => Command::Alter(Change::EdgeBefore(a, b)),
-        14 => Command::Alter(Change::EdgeAfter(a, b)),
-        15 => Command::Alter(Change::WordBefore(a, b)),
-        16 => Command::Alter(Change::WordAfter(a, b)),
+        3 => Command::Alter(Change::Single(SingleChange::CreateEdge(a, b, c, d))),
+        4 => Command::Alter(Change::Single(SingleChange::DeleteEdge(a))),
+        5 => Command::Alter(Change::Single(SingleChange::RetypeVertex(a, b))),
+        6 => Command::Alter(Change::Single(SingleChange::RetypeEdge(a, b))),
+        7 => Command::Alter(Change::Single(SingleChange::SetValue(a, b))),
+        8 => Command::Alter(Change::Single(SingleChange::SetReading(a, b, c))),
+        9 => Command::Alter(Change::Single(SingleChange::SetAlpha(a, b))),
+        10 => Command::Alter(Change::Single(SingleChange::SetOmega(a, b))),
+        11 => Command::Alter(Change::Single(SingleChange::VertexBefore(a, b))),
+        12 => Command::Alter(Change::Single(SingleChange::VertexAfter(a, b))),
+        13 => Command::Alter(Change::Single(SingleChange::EdgeBefore(a, b))),
+        14 => Command::Alter(Change::Single(SingleChange::EdgeAfter(a, b))),
+        15 => Command::Alter(Change::Single(SingleChange::WordBefore(a, b))),
+        16 => Command::Alter(Change::Single(SingleChange::WordAfter(a, b))),
         17 => Command::History(HistoryCall::SetMark(a)),
         18 => Command::History(HistoryCall::DropMark(a)),
         19 => Command::History(HistoryCall::Undo),

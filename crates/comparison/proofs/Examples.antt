@@ -7,7 +7,7 @@ use mathlib.Core.List.{List, [], _∷_}
 use lib.ListN.{set}
 use Rattle.lists.specs.Choice.{ifEqual}
 use Rattle.image.specs.Image.{load}
-use Rattle.image.specs.Checks.{verdict}
+use Rattle.image_check.specs.Checks.{verdict}
 use Rattle.comparison.specs.declared.Compared.{Compared}
 use Rattle.comparison.specs.Comparison.{refused, comparison}
 

@@ -16,11 +16,11 @@ use Rattle.graph.specs.Graph.{Edge, edgeNumber, edgeNumbers}
 use Rattle.graph.specs.Limits.{mostEdges}
 use Rattle.graph.specs.WellFormed.{soundEdge, wellFormed}
 use Rattle.image.specs.Image.{recordSize, part, edgeCount, edgePart, edgesFrom, load, loadable}
-use Rattle.image.specs.Checks.{savedBounds, loadCode, verdict}
-use Rattle.image.proofs.Verdicts.{zero-sound}
-use Rattle.image.proofs.LoadCodes.{code-loads}
+use Rattle.image_check.specs.Checks.{savedBounds, loadCode, verdict}
+use Rattle.image_check.proofs.Verdicts.{zero-sound}
+use Rattle.image_check.proofs.LoadCodes.{code-loads}
 use Rattle.image.proofs.Loads.{loaded}
-use Rattle.image.proofs.SoundLoads.{long-edges}
+use Rattle.image.proofs.Parts.{long-edges}
 use Rattle.image.proofs.Room.{few-edges}
 use Rattle.image.proofs.EdgePart.{part-two, load-edges, eseq-count}
 use Rattle.image.proofs.Formed.{formed, edge-facts}

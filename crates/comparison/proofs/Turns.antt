@@ -1,22 +1,16 @@
 -- One turn of each loop over records, and its end.
 use Prim.Native.Nat.{ℕ, suc, _+_, _*_, _-_, _≤_, _<_}
-use mathlib.Core.Path.{_≡_, ap, _∙_}
+use mathlib.Core.Path.{_≡_}
 use mathlib.Core.Bool.{Bool}
 use mathlib.Core.List.{List, _∷_}
 use native.Mathlib.Omega.{arith}
-use native.Mathlib.Nat.{add-zero}
 use lib.ListN.{getD, drop, set}
-use lib.Seq.{drop-drop, getD-drop}
+use lib.Seq.{drop-drop}
 use Rattle.lists.specs.Choice.{toBit}
+use Rattle.lists.proofs.WordLaws.{word-at, first-at}
 use Rattle.graph.specs.Graph.{Edge}
 use Rattle.image.specs.Image.{edgesFrom}
 use Rattle.comparison.specs.Walks.{edgeAt, noted, pairedFrom}
-
-word-at : (ws : List ℕ) (at k : ℕ) → getD (drop at ws) k 0 ≡ getD ws (at + k) 0
-word-at ws at k = getD-drop at ws k 0
-
-first-at : (ws : List ℕ) (at : ℕ) → getD (drop at ws) 0 0 ≡ getD ws at 0
-first-at ws at = word-at ws at 0 ∙ ap (λ (k : ℕ). getD ws k 0) (add-zero at)
 
 -- the record at a place and those behind it
 pub records-next : (k at : ℕ) (ws : List ℕ) → edgesFrom (suc k) (drop at ws) ≡ edgeAt ws at ∷ edgesFrom k (drop (at + 6) ws)

@@ -10,7 +10,7 @@ use Rattle.graph.specs.Graph.{Edge}
 use Rattle.graph.specs.declared.Reading.{Reading}
 use Rattle.graph.specs.declared.Reading.the-variants.{Untested, Silent, Heard}
 use Rattle.image.specs.Image.{load}
-use Rattle.image.specs.Checks.{savedBounds, loadCode}
+use Rattle.image_check.specs.Checks.{savedBounds, loadCode}
 use Rattle.comparison.specs.declared.Compared.{Compared}
 
 -- ---- one edge beside another

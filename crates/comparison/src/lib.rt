@@ -4,19 +4,19 @@ ghost use mathlib.Core.Path.{_≡_};
 ghost use Prim.Native.Nat.{_≤_, _^_};
 ghost use Rattle.lists.specs.Choice.{toBit};
 ghost use Rattle.graph.specs.Limits.{mostEdges};
-ghost use Rattle.image.specs.Checks.{savedBounds, loadCode};
+ghost use Rattle.image_check.specs.Checks.{savedBounds, loadCode};
 ghost use Rattle.comparison.specs.Comparison.{matches, apart, agrees, alike, refused, comparison};
 ghost use Rattle.comparison.specs.Walks.{edgeAt, noted, placesOf, pairedFrom};
 use graph::MOST_EDGES;
 use graph::Reading;
 use graph_tables::rows::reading_of;
-use image::check_saved;
-use image::code_of;
 use image::layout::EDGE;
 use image::part;
-use image::words::put;
-use image::words::word;
+use image_check::check_saved;
+use image_check::code_of;
 use lists::get;
+use lists::words::put;
+use lists::words::word;
 
 // A code and four counts; with a code all four are 0.
 #[repr(C)]

@@ -8,10 +8,11 @@ use native.Mathlib.Omega.{arith}
 use native.Mathlib.Nat.{mul-suc, mul-le-mul-left}
 use borrow.Author.Tests.{eq-eqb, ne-eqb}
 use borrow.Rule.Slice.PartMut.{putMid, post-is}
-use lib.ListN.{length, getD, take, drop, set, length-append, length-drop, take-append-drop}
-use lib.Seq.{sets, sets-eq, length-sets, take-set-le, drop-drop, take-append-seam, drop-at, length-take-le, getD-take, getD-drop, take-nil}
+use lib.ListN.{length, getD, take, drop, length-append, length-drop}
+use lib.Seq.{sets, length-sets, length-take-le, getD-take, getD-drop}
 use Rattle.lists.specs.Choice.{_⇒_else_, _==_}
 use Rattle.lists.specs.Lists.{All, done, more, overwritten}
+use Rattle.lists.proofs.Stores.{sets-front, take-drop, sets-read, part-sets}
 use Rattle.graph.specs.Graph.{Graph}
 use Rattle.graph.specs.WellFormed.{Bounds, wellFormed}
 use Rattle.graph.proofs.Facts.{from-facts}
@@ -28,50 +29,6 @@ use Rattle.copies.specs.Copies.{stretch, recordedFrom, recorded}
 use Rattle.copies.specs.Recording.{copyOf, Copied, copyWords, CanReload}
 
 -- ---- words at a place
-
--- the front stays
-pub sets-front : (j : ℕ) (cs : List ℕ) (i : ℕ) (vs : List ℕ) → j ≤ i → take j (sets cs i vs) ≡ take j cs
-sets-front j cs i [] h = refl
-sets-front j cs i (v ∷ vs) h = sets-front j (set cs i v) (suc i) vs (omega arith) ∙ take-set-le j cs i v h
-
-take-drop : (n i : ℕ) (cs : List ℕ) → take n (drop i cs) ≡ drop i (take (i + n) cs)
-take-drop n zero cs = ap (λ (j : ℕ). take j cs) (let e : n ≡ 0 + n = omega arith in e)
-take-drop n (suc i) [] = take-nil n ∙ sym (ap (drop (suc i)) (take-nil (suc i + n)))
-take-drop n (suc i) (c ∷ cs) = let e : suc i + n ≡ suc (i + n) = omega arith in take-drop n i cs ∙ ap (λ (j : ℕ). drop (suc i) (take j (c ∷ cs))) (sym e)
-
--- what was written can be read
-pub sets-read : (cs : List ℕ) (i : ℕ) (vs : List ℕ) → i + length vs ≤ length cs → take (length vs) (drop i (sets cs i vs)) ≡ vs
-sets-read cs i vs h =
-    let p : length (take i cs) ≡ i = length-take-le i cs (omega arith) in
-    ap (λ (l : List ℕ). take (length vs) (drop i l)) (sets-eq vs cs i h ∙ append-assoc (take i cs) vs (drop (i + length vs) cs))
-    ∙ ap (take (length vs)) (drop-at (take i cs) (vs ++ drop (i + length vs) cs) i p)
-    ∙ take-append-seam vs (drop (i + length vs) cs)
-
--- a part that `save` overwrote, put back
-pub part-sets : (cs : List ℕ) (at size : ℕ) (ws out : List ℕ) → at + size ≤ length cs → length ws ≤ size
-    → out ≡ overwritten ws (take size (drop at cs)) → take at cs ++ out ++ drop (at + size) cs ≡ sets cs at ws
-part-sets cs at size ws out h l e =
-    let n = length ws in
-    let k : at + size ≡ at + n + (size - n) = omega arith in
-    let d : drop n (take size (drop at cs)) ++ drop (at + size) cs ≡ drop (at + n) cs =
-    ap (λ (t : List ℕ). t ++ drop (at + size) cs) (drop-take n size (drop at cs) l ∙ ap (take (size - n)) (drop-drop n at cs))
-    ∙ ap (λ (t : List ℕ). take (size - n) (drop (at + n) cs) ++ t) (ap (λ (j : ℕ). drop j cs) k ∙ sym (drop-drop (size - n) (at + n) cs))
-    ∙ take-append-drop (size - n) (drop (at + n) cs) in
-    ap (λ (o : List ℕ). take at cs ++ o ++ drop (at + size) cs) e
-    ∙ sym (ap (λ (t : List ℕ). t ++ drop (at + size) cs) (append-assoc (take at cs) ws (drop n (take size (drop at cs)))))
-    ∙ append-assoc (take at cs ++ ws) (drop n (take size (drop at cs))) (drop (at + size) cs)
-    ∙ ap (λ (t : List ℕ). take at cs ++ ws ++ t) d
-    ∙ sym (sets-eq ws cs at (omega arith))
-  where
-    drop-take : (n m : ℕ) (l : List ℕ) → n ≤ m → drop n (take m l) ≡ take (m - n) (drop n l)
-    drop-take zero m l h = ap (λ (j : ℕ). take j l) (let e : m ≡ m - 0 = omega arith in e)
-    drop-take (suc n) zero l h = absurd (omega arith)
-    drop-take (suc n) (suc m) [] h = sym (nil (suc m - suc n))
-      where
-        nil : (j : ℕ) → _≡_ {A = List ℕ} (take j []) []
-        nil zero = refl
-        nil (suc j) = refl
-    drop-take (suc n) (suc m) (c ∷ l) h = let e : suc m - suc n ≡ m - n = omega arith in drop-take n m l (omega arith) ∙ ap (λ (j : ℕ). take j (drop n l)) (sym e)
 
 -- the part that was lent by a range
 pub part-put : (cs : List ℕ) (at size : ℕ) (ws out : List ℕ) → at + size ≤ length cs → length ws ≤ size

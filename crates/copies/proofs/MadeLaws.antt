@@ -19,7 +19,7 @@ use Rattle.graph.specs.Same.{alters}
 use Rattle.history.specs.Machine.{Step, stepOf, Machine, present, afterChange, afterCommit}
 use Rattle.commands.specs.Calls.{Call, callAt, callsOf}
 use Rattle.commands.specs.Commands.{commandOf}
-use Rattle.commands.specs.Fits.{Words}
+use Rattle.commands.specs.Fits.{WordsFit}
 use Rattle.commands.specs.declared.HistoryCall.{HistoryCall}
 use Rattle.commands.specs.declared.HistoryCall.the-variants.{SetMark, DropMark, Undo, Redo, GoTo, Commit as CommitCall, Between, Standing, Free, NameMark, GoToName, SetBench, MadeBy}
 use Rattle.commands.specs.declared.Command.{Command}
@@ -28,11 +28,11 @@ use Rattle.machine.specs.Calls.{Parameters}
 use Rattle.machine.specs.Codes.{refusal}
 use Rattle.machine.specs.Rules.{Effect, steps, marks, unmarks, goes, names, benches, clears, nothing, effected}
 use Rattle.machine.specs.Machine.{deedOf, answerTo, stepTo, step, last}
-use Rattle.machine.proofs.GraphBounds.{cost-real}
+use Rattle.graph.proofs.ChangeLaws.{cost-real}
 use Rattle.machine.proofs.Graphs.{Formed, AllFormed, step-formed}
 use Rattle.machine.proofs.Whole.{calls-length}
 use Rattle.engine.proofs.CallLaws.{call-at}
-use Rattle.copies.specs.Copies.{graphOf, graphMade, made, changesIn}
+use Rattle.copies.specs.Copies.{graphOf, graphMade, stepGraphs, changesIn}
 
 -- ---- what a change is
 
@@ -119,12 +119,12 @@ alter-kind x c e = go (x .kind == 0) refl (leb (x .kind) 16) refl
 
 -- ---- one call more
 
-pub made-more : (w : Parameters) (m : Machine) (xs : List Call) (x : Call) → made w m (xs ++ (x ∷ [])) ≡ made w m xs ++ graphMade w (last w m xs) (commandOf x)
-unfolding made last
+pub made-more : (w : Parameters) (m : Machine) (xs : List Call) (x : Call) → stepGraphs w m (xs ++ (x ∷ [])) ≡ stepGraphs w m xs ++ graphMade w (last w m xs) (commandOf x)
+unfolding stepGraphs last
 made-more w m [] x = append-none (graphMade w m (commandOf x))
 made-more w m (y ∷ xs) x =
     ap (λ (l : List Graph). graphMade w m (commandOf y) ++ l) (made-more w (step w m y) xs x)
-    ∙ sym (append-assoc (graphMade w m (commandOf y)) (made w (step w m y) xs) (graphMade w (last w (step w m y) xs) (commandOf x)))
+    ∙ sym (append-assoc (graphMade w m (commandOf y)) (stepGraphs w (step w m y) xs) (graphMade w (last w (step w m y) xs) (commandOf x)))
 
 -- ---- at most one copy for each call of kinds 1 to 16
 
@@ -177,11 +177,11 @@ changes-more (x ∷ xs) ys = go (within 1 16 (x .kind)) (changes-more xs ys)
     go true e = omega (arith, e)
     go false e = e
 
-pub made-few : (w : Parameters) (m : Machine) (xs : List Call) → length (made w m xs) ≤ changesIn xs
-unfolding made
+pub made-few : (w : Parameters) (m : Machine) (xs : List Call) → length (stepGraphs w m xs) ≤ changesIn xs
+unfolding stepGraphs
 made-few w m [] = omega arith
 made-few w m (x ∷ xs) =
-    omega (arith, length-append (graphMade w m (commandOf x)) (made w (step w m x) xs), made-one w m x, made-few w (step w m x) xs, changes-more (x ∷ []) xs)
+    omega (arith, length-append (graphMade w m (commandOf x)) (stepGraphs w (step w m x) xs), made-one w m x, made-few w (step w m x) xs, changes-more (x ∷ []) xs)
 
 -- ---- each graph that is made is well formed
 
@@ -197,7 +197,7 @@ none-formed : (w : Parameters) (gs : List Graph) → length gs ≡ 0 → All (Fo
 none-formed w [] e = done
 none-formed w (g ∷ gs) e = absurd (omega arith)
 
-one-formed : (w : Parameters) (m : Machine) (x : Call) → Words x → AllFormed w m → All (Formed w) (graphMade w m (commandOf x))
+one-formed : (w : Parameters) (m : Machine) (x : Call) → WordsFit x → AllFormed w m → All (Formed w) (graphMade w m (commandOf x))
 one-formed w m x f a = go (commandOf x) refl
   where
     go : (c : Command) → commandOf x ≡ c → All (Formed w) (graphMade w m (commandOf x))
@@ -212,11 +212,11 @@ one-formed w m x f a = go (commandOf x) refl
     go (Quote p) e = rw e (none-formed w _ (none w m (Quote p) refl))
     go Unknown e = rw e (none-formed w _ (none w m Unknown refl))
 
-pub made-formed : (w : Parameters) (m : Machine) (xs : List Call) → All Words xs → AllFormed w m → All (Formed w) (made w m xs)
-unfolding made
+pub made-formed : (w : Parameters) (m : Machine) (xs : List Call) → All WordsFit xs → AllFormed w m → All (Formed w) (stepGraphs w m xs)
+unfolding stepGraphs
 made-formed w m [] done a = done
 made-formed w m (x ∷ xs) (more f fs) a =
-    all-both w (graphMade w m (commandOf x)) (made w (step w m x) xs) (one-formed w m x f a) (made-formed w (step w m x) xs fs (step-formed w m x f a))
+    all-both w (graphMade w m (commandOf x)) (stepGraphs w (step w m x) xs) (one-formed w m x f a) (made-formed w (step w m x) xs fs (step-formed w m x f a))
 
 -- ---- call k of the list
 

@@ -14,7 +14,7 @@ use Rattle.graph_tables.specs.Tables.{State}
 use Rattle.graph_tables.specs.Holds.{Holds}
 use Rattle.graph_tables.specs.Capacities.{Sized}
 use Rattle.timeline.specs.declared.Position.{Position}
-use Rattle.timeline.specs.JournalRows.{made}
+use Rattle.timeline.specs.JournalRows.{graphAfter}
 use Rattle.timeline.specs.Steps.{rowsTo, Behind, Journal}
 use Rattle.timeline.proofs.Steps.{makes-current, journal-placed, behind-within}
 use Rattle.copies.specs.Recording.{copyOf, Numbered}
@@ -34,7 +34,7 @@ journal-at b j j′ s s′ t l k h y u z held =
       within = r .within;
       short = r .short;
       upto = behind-within t (l .start) (l .steps) (j′ .place) (j′ .used) behind;
-      holds = subst (Holds s′) (makes-current t (l .start) 0 (j′ .place) (l .steps) (k .steps-at) h ∙ ap (made t (l .start)) (sym u)) held;
+      holds = subst (Holds s′) (makes-current t (l .start) 0 (j′ .place) (l .steps) (k .steps-at) h ∙ ap (graphAfter t (l .start)) (sym u)) held;
     })
 
 -- ---- the copies of the places

@@ -33,10 +33,10 @@ unfolding refusal
 graphMade w m c = (refusal w m c == 0) ⇒ graphOf (deedOf w c m .effect) else []
 
 -- the graphs after the 1st, 2nd, .. step made, steps that are cut later among them
-unfoldable pub made : Parameters → Machine → List Call → List Graph
+unfoldable pub stepGraphs : Parameters → Machine → List Call → List Graph
 unfolding graphMade
-made w m [] = []
-made w m (x ∷ xs) = graphMade w m (commandOf x) ++ made w (step w m x) xs
+stepGraphs w m [] = []
+stepGraphs w m (x ∷ xs) = graphMade w m (commandOf x) ++ stepGraphs w (step w m x) xs
 
 -- a stretch has room for the largest image that the capacities allow
 abbrev pub stretch : Parameters → ℕ

@@ -3,17 +3,13 @@ use Prim.Native.Nat.{ℕ, _+_, _-_, _≤_, _<_}
 use mathlib.Core.Path.{_≡_, refl, sym, ap, _∙_, subst}
 use mathlib.Core.List.{List, [], _∷_, _++_}
 use native.Mathlib.Omega.{arith}
-use native.Mathlib.Numerals.{add-one}
-use lib.ListN.{length, set, getD, take, drop, length-append, length-drop}
-use lib.Seq.{sets, drop-cons, take-all}
+use lib.ListN.{length, set, take, drop, length-append, length-drop}
+use lib.Seq.{sets, take-all}
 use store.Seg.{take-pre}
 use borrow.Author.Tests.{le-leb, lt-leb}
 use Rattle.lists.specs.Lists.{overwritten}
 use Rattle.decimal.specs.Stored.{Stored, WrittenAt, fitting}
 use Rattle.lists.proofs.Stores.{sets-append, sets-over}
-
-pub one-drop : (xs : List ℕ) (i : ℕ) → i < length xs → drop i xs ≡ getD xs i 0 ∷ drop (i + 1) xs
-one-drop xs i h = drop-cons xs i 0 h ∙ ap (λ (j : ℕ). getD xs i 0 ∷ drop j xs) (sym (add-one i))
 
 -- all that stands from a place on
 pub rest-all : (xs : List ℕ) (from : ℕ) → take (length xs - from) (drop from xs) ≡ drop from xs

@@ -11,9 +11,9 @@ use Rattle.lists.specs.Choice.{_⇒_else_, _==_, within}
 use Rattle.lists.proofs.Bools.{and-true, within-range}
 use Rattle.type_rows.specs.Rows.{goodRows}
 use Rattle.image.specs.Image.{imageLength}
-use Rattle.image.specs.Checks.{bounds, verdict, codeOf, offsetOf, loadOffset}
-use Rattle.image.specs.declared.Verdict.{Verdict}
-use Rattle.image.specs.declared.Verdict.the-variants.{Sound, BadHeader, BadRecord, BadIncidence}
+use Rattle.image_check.specs.Checks.{bounds, verdict, codeOf, offsetOf, loadOffset}
+use Rattle.image_check.specs.declared.Verdict.{Verdict}
+use Rattle.image_check.specs.declared.Verdict.the-variants.{Sound, BadHeader, BadRecord, BadIncidence}
 use Rattle.machine.specs.Calls.{boundsIn}
 use Rattle.machine.specs.Run.{Lent, parametersOf, listRefusal, numberBeside, listNumber}
 use Rattle.machine.proofs.ListRows.{startRows}

@@ -15,8 +15,8 @@ ghost use Rattle.graph_tables.specs.Capacities.{Sized};
 ghost use Rattle.history_calls.specs.Memory.{memory, tablesOf};
 ghost use Rattle.history_calls.specs.Represents.{Represents};
 
-// Loads a start image that `image::check` has found sound: its graph, no step and no mark. Which words of the tables
-// hold the graph is left open. The journal and the words of the marks are not looked at.
+// Loads a start image that `image_check::check` has found sound: its graph, no step and no mark. Which words of the
+// tables hold the graph is left open. The journal and the words of the marks are not looked at.
 pub fn begin(start: &[u32], vertices: &mut [u32], edges: &mut [u32]) -> Store
     requires { ⌜ CanLoad (now start) (now vertices) (now edges) ⌝ }
     ensures { λ r. ⌜ ((b : Bounds) → (journal marks : List ℕ)

@@ -2,10 +2,10 @@
 use graph::MOST_CHANGES;
 use graph::MOST_EDGES;
 use graph::MOST_VERTICES;
-use image::check;
-use image::code_of;
 use image::layout::length;
-use image::offset_of;
+use image_check::check;
+use image_check::code_of;
+use image_check::offset_of;
 use type_rows::RowsVerdict;
 use type_rows::check_rows;
 ghost use mathlib.Core.Path.{_≡_};

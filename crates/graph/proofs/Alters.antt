@@ -1,12 +1,11 @@
 -- An edit that applies keeps the graph exactly where its old and its new agree.
 use Prim.Native.Nat.{ℕ, _%_}
 use mathlib.Core.Path.{_≡_, refl, sym, ap, ap₂, _∙_, subst}
-use mathlib.Core.Bool.{Bool, true, false, not}
+use mathlib.Core.Bool.{Bool, true, false, not, _||_}
 use mathlib.Core.List.{List, [], _∷_}
 use native.Mathlib.Omega.{arith}
 use borrow.Author.Tests.{eqb-true, eq-eqb}
 use Rattle.lists.specs.Choice.{_==_, ifEqual}
-use Rattle.lists.specs.Lists.{equalLists}
 use Rattle.lists.specs.Keyed.{countBy}
 use Rattle.lists.proofs.Bools.{and-true, and-both, ft}
 use Rattle.lists.proofs.Picks.{pick-yes, pick-no, same as alike, differ, same?, is-yes}
@@ -14,24 +13,26 @@ use Rattle.lists.proofs.Places.{upd-agree, upd-same}
 use Rattle.graph.specs.declared.Reading.{Reading}
 use Rattle.graph.specs.declared.Reading.the-variants.{Untested, Silent, Heard}
 use Rattle.graph.specs.declared.Change.{Change}
-use Rattle.graph.specs.declared.Change.the-variants.{CreateVertex, DeleteVertex, CreateEdge, DeleteEdge, RetypeVertex, RetypeEdge, SetValue, SetReading, SetAlpha, SetOmega}
-use Rattle.graph.specs.declared.Change.the-variants.{VertexBefore, VertexAfter, EdgeBefore, EdgeAfter, WordBefore, WordAfter}
+use Rattle.graph.specs.declared.SingleChange.{SingleChange}
+use Rattle.graph.specs.declared.SingleChange.the-variants.{CreateVertex, CreateEdge, DeleteEdge, RetypeVertex, RetypeEdge, SetValue, SetReading, SetAlpha, SetOmega, VertexBefore}
+use Rattle.graph.specs.declared.SingleChange.the-variants.{VertexAfter, EdgeBefore, EdgeAfter, WordBefore, WordAfter}
+use Rattle.graph.specs.declared.Change.the-variants.{Single, DeleteVertex}
 use Rattle.graph.specs.declared.Edit.{Edit}
 use Rattle.graph.specs.declared.Edit.the-variants.{InsertVertex, RemoveVertex, InsertEdge, RemoveEdge, SetVertex, SetEdge, MoveVertex, MoveEdge, MoveWord}
 use Rattle.graph.specs.Graph.{Vertex, Edge, Graph, vertexNumber, edgeNumber, itself, noVertex, noEdge, vertexIn, edgeIn, edgeOf, readingKind, decimetres}
 use Rattle.graph.specs.WellFormed.{Bounds, WellFormed}
-use Rattle.graph.specs.Changes.{withVertex, withEdge, withSeen, edgesAt, deleteEdges, deleteVertex, changed, Allowed}
+use Rattle.graph.specs.Changes.{withVertex, withEdge, withSeen, edgesAt, deleteEdges, deleteVertex, changed, singlyChanged, SinglyAllowed, Allowed}
 use Rattle.graph.specs.Edits.{inverse, apply, Applies}
-use Rattle.graph.specs.Plans.{plan, removal, vertexRemoval, firstEdits}
-use Rattle.graph.specs.Same.{sameReading, sameVertex, sameEdge, sameBy, sameGraph, differs, alters, idle}
+use Rattle.graph.specs.Plans.{plan, removal}
+use Rattle.graph.specs.Same.{sameReading, sameVertex, sameEdge, sameBy, sameGraph, differs, resizes, alters, idle}
 use Rattle.graph.proofs.Orders.{placed-back}
 use Rattle.graph.proofs.Incidence.{detach-back}
 use Rattle.graph.proofs.Lists.{held, ordered-list}
 use Rattle.graph.proofs.Undoes.{graph-path, inverse-applies}
 use Rattle.graph.proofs.PlanLaws.{plan-applies, plan-is}
 use Rattle.graph.proofs.EdgesAt.{removals-are, removals-vertices}
-use Rattle.graph.proofs.ChangeLaws.{Kind, deletion, single, kind?}
 use Rattle.lists.proofs.KeyedLaws.{count-rem}
+use Rattle.lists.proofs.Equality.{words-eq, words-refl}
 
 -- ---- the test of equality
 
@@ -48,16 +49,6 @@ reading-eq (Heard d) (Heard k) h = ap Heard (eqb-true d k h)
 
 reading-refl : (r : Reading) → sameReading r r ≡ true
 reading-refl r = and-both _ _ (eq-eqb (readingKind r) (readingKind r) refl) (eq-eqb (decimetres r) (decimetres r) refl)
-
-words-eq : (xs ys : List ℕ) → equalLists xs ys ≡ true → xs ≡ ys
-words-eq [] [] h = refl
-words-eq [] (y ∷ ys) h = ft h
-words-eq (x ∷ xs) [] h = ft h
-words-eq (x ∷ xs) (y ∷ ys) h = let a = and-true (x == y) (equalLists xs ys) h in ap₂ _∷_ (eqb-true x y (a .0)) (words-eq xs ys (a .1))
-
-words-refl : (xs : List ℕ) → equalLists xs xs ≡ true
-words-refl [] = refl
-words-refl (x ∷ xs) = and-both (x == x) (equalLists xs xs) (eq-eqb x x refl) (words-refl xs)
 
 vertex-eq : (v u : Vertex) → sameVertex v u ≡ true → v ≡ u
 vertex-eq v u h =
@@ -202,40 +193,52 @@ module _ (g : Graph) (w : WellFormed g) where
 
   -- ---- a change that is one edit alters the graph exactly where the edit's old and new differ
 
-  differs-plan : (b : Bounds) (c : Change) → Allowed b g c → firstEdits c g ≡ [] → differs c g ≡ not (idle (plan c g))
-  unfolding differs
-  differs-plan b c a f = ap not (go (sameGraph (changed c g) g) (idle (plan c g)) refl refl)
+  differs-plan : (b : Bounds) (c : SingleChange) → SinglyAllowed b g c → differs (Single c) g ≡ not (idle (plan c g))
+  unfolding differs changed
+  differs-plan b c a = ap not (go (sameGraph (singlyChanged c g) g) (idle (plan c g)) refl refl)
     where
-      made : apply (plan c g) g ≡ changed c g
-      made = plan-is b g w c a f
+      made : apply (plan c g) g ≡ singlyChanged c g
+      made = plan-is b g w c a
 
       on : Applies (plan c g) g
-      on = plan-applies b g w c a f
+      on = plan-applies b g w c a
 
-      go : (s t : Bool) → sameGraph (changed c g) g ≡ s → idle (plan c g) ≡ t → s ≡ t
+      go : (s t : Bool) → sameGraph (singlyChanged c g) g ≡ s → idle (plan c g) ≡ t → s ≡ t
       go true true p q = refl
-      go true false p q = ft (sym q ∙ keeps-idle (plan c g) on (made ∙ same-to (changed c g) g p))
-      go false true p q = ft (sym p ∙ same-from (changed c g) g (sym made ∙ idle-keeps (plan c g) on q))
+      go true false p q = ft (sym q ∙ keeps-idle (plan c g) on (made ∙ same-to (singlyChanged c g) g p))
+      go false true p q = ft (sym p ∙ same-from (singlyChanged c g) g (sym made ∙ idle-keeps (plan c g) on q))
       go false false p q = refl
 
-  pub alters-plan : (b : Bounds) (c : Change) → Allowed b g c → firstEdits c g ≡ [] → alters c g ≡ not (idle (plan c g))
-  unfolding alters plan removal vertexRemoval
-  alters-plan b (CreateVertex n t x) h f = refl
-  alters-plan b (DeleteVertex i) h f = refl
-  alters-plan b (CreateEdge n i o t) h f = refl
-  alters-plan b (DeleteEdge i) h f = refl
-  alters-plan b (RetypeVertex i t) h f = differs-plan b (RetypeVertex i t) h f
-  alters-plan b (RetypeEdge i t) h f = differs-plan b (RetypeEdge i t) h f
-  alters-plan b (SetValue i x) h f = differs-plan b (SetValue i x) h f
-  alters-plan b (SetReading i k d) h f = differs-plan b (SetReading i k d) h f
-  alters-plan b (SetAlpha e v) h f = differs-plan b (SetAlpha e v) h f
-  alters-plan b (SetOmega e v) h f = differs-plan b (SetOmega e v) h f
-  alters-plan b (VertexBefore i j) h f = differs-plan b (VertexBefore i j) h f
-  alters-plan b (VertexAfter i j) h f = differs-plan b (VertexAfter i j) h f
-  alters-plan b (EdgeBefore i j) h f = differs-plan b (EdgeBefore i j) h f
-  alters-plan b (EdgeAfter i j) h f = differs-plan b (EdgeAfter i j) h f
-  alters-plan b (WordBefore i j) h f = differs-plan b (WordBefore i j) h f
-  alters-plan b (WordAfter i j) h f = differs-plan b (WordAfter i j) h f
+  -- an edit that creates or deletes is not idle
+  resizes-plan : (c : SingleChange) → resizes c ≡ true → idle (plan c g) ≡ false
+  unfolding plan removal
+  resizes-plan (CreateVertex n t x) e = refl
+  resizes-plan (CreateEdge n i o t) e = refl
+  resizes-plan (DeleteEdge i) e = refl
+  resizes-plan (RetypeVertex i t) e = ft e
+  resizes-plan (RetypeEdge i t) e = ft e
+  resizes-plan (SetValue i x) e = ft e
+  resizes-plan (SetReading i k d) e = ft e
+  resizes-plan (SetAlpha n v) e = ft e
+  resizes-plan (SetOmega n v) e = ft e
+  resizes-plan (VertexBefore i j) e = ft e
+  resizes-plan (VertexAfter i j) e = ft e
+  resizes-plan (EdgeBefore i j) e = ft e
+  resizes-plan (EdgeAfter i j) e = ft e
+  resizes-plan (WordBefore i j) e = ft e
+  resizes-plan (WordAfter i j) e = ft e
+
+  -- what `alters` says of an accepted change is that the graph after it is another one
+  singly-exactly : (b : Bounds) (c : SingleChange) → SinglyAllowed b g c → alters (Single c) g ≡ differs (Single c) g
+  unfolding alters
+  singly-exactly b c h = go (resizes c) refl
+    where
+      go : (t : Bool) → resizes c ≡ t → (t || differs (Single c) g) ≡ differs (Single c) g
+      go true e = sym (differs-plan b c h ∙ ap not (resizes-plan c e))
+      go false e = refl
+
+  pub alters-plan : (b : Bounds) (c : SingleChange) → SinglyAllowed b g c → alters (Single c) g ≡ not (idle (plan c g))
+  alters-plan b c h = singly-exactly b c h ∙ differs-plan b c h
 
   -- kind 2 always does: the vertex is gone
   deletion-differs : (a : ℕ) → countBy vertexNumber a (g .vseq) ≡ 1 → differs (DeleteVertex a) g ≡ true
@@ -257,11 +260,7 @@ module _ (g : Graph) (w : WellFormed g) where
       go true p = absurd (omega (arith, gone, h, ap (λ (x : Graph). countBy vertexNumber a (x .vseq)) (same-to (changed (DeleteVertex a) g) g p)))
       go false p = refl
 
-  -- what `alters` says of an accepted change is that the graph after it is another one
   pub alters-exactly : (b : Bounds) (c : Change) → Allowed b g c → alters c g ≡ differs c g
   unfolding alters
-  alters-exactly b c h = go (kind? c) h
-    where
-      go : {d : Change} → Kind d → Allowed b g d → alters d g ≡ differs d g
-      go (deletion a) h = sym (deletion-differs a h)
-      go (single {c = d} e k) h = alters-plan b d h (e g) ∙ sym (differs-plan b d h (e g))
+  alters-exactly b (Single c) h = singly-exactly b c h
+  alters-exactly b (DeleteVertex a) h = sym (deletion-differs a h)

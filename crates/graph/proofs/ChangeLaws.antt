@@ -1,5 +1,5 @@
 -- Each change is its edits, keeps the graph well formed, and costs as many edits as it says.
-use Prim.Native.Nat.{ℕ}
+use Prim.Native.Nat.{ℕ, _≤_}
 use mathlib.Core.Path.{_≡_, refl, sym, ap, _∙_}
 use mathlib.Core.Bool.{true}
 use mathlib.Core.List.{List, [], _∷_, _++_}
@@ -9,60 +9,20 @@ use Rattle.lists.specs.Lists.{All, done, more}
 use Rattle.lists.specs.Keyed.{removeBy}
 use Rattle.lists.proofs.Sums.{all-append}
 use Rattle.graph.specs.declared.Change.{Change}
-use Rattle.graph.specs.declared.Change.the-variants.{
-  CreateVertex,
-  DeleteVertex,
-  CreateEdge,
-  DeleteEdge,
-  RetypeVertex,
-  RetypeEdge,
-  SetValue,
-  SetReading,
-  SetAlpha,
-  SetOmega,
-  VertexBefore,
-  VertexAfter,
-  EdgeBefore,
-  EdgeAfter,
-  WordBefore,
-  WordAfter,
-}
+use Rattle.graph.specs.declared.Change.the-variants.{Single, DeleteVertex}
 use Rattle.graph.specs.Graph.{Graph, vertexNumber, listOf, edgeOf}
 use Rattle.graph.specs.WellFormed.{Bounds, wellFormed, WellFormed, Within}
 use Rattle.graph.specs.Changes.{onVseq, edgesAt, deleteEdges, deleteVertex, changed, cost, VertexThere, Allowed}
 use Rattle.graph.specs.Edits.{apply, EditIn}
-use Rattle.graph.specs.Plans.{removal, vertexRemoval, plan, applyAll, AppliesAll, removals, firstEdits, editsOf}
+use Rattle.graph.specs.Plans.{removal, vertexRemoval, applyAll, AppliesAll, removals, editsOf}
 use Rattle.graph.proofs.Keeps.{keeps-formed}
 use Rattle.graph.proofs.Facts.{to-facts}
 use Rattle.graph.proofs.EditBounds.{keeps-within}
 use Rattle.graph.proofs.EditLists.{apply-append, applies-append, all-formed, all-within, keeps-all}
-use Rattle.graph.proofs.Removals.{removal-applies, removal-is}
-use Rattle.graph.proofs.EdgesAt.{edges-none, edges-first, edges-next, removals-apply, removals-empty, removals-are, removals-length, removals-vertices}
+use Rattle.graph.proofs.Removals.{removal-applies, removal-is, vertex-removal-applies}
+use Rattle.graph.proofs.EdgesAt.{none-edges, edges-none, edges-first, edges-next, removals-apply, removals-empty, removals-are, removals-length, removals-vertices}
 use Rattle.graph.proofs.PlanLaws.{plan-applies, plan-is}
-use Rattle.graph.proofs.PlanBounds.{removal-in, plan-in}
-
--- kind 2, and the other changes, which are one edit each
-pub data Kind : Change → Type 0 where
-  deletion : (a : ℕ) → Kind (DeleteVertex a)
-  single : {c : Change} → ((g : Graph) → firstEdits c g ≡ []) → ((g : Graph) → cost c g ≡ 1) → Kind c
-
-pub kind? : (c : Change) → Kind c
-kind? (CreateVertex n t x) = single (λ g. refl) (λ g. refl)
-kind? (DeleteVertex a) = deletion a
-kind? (CreateEdge n a o t) = single (λ g. refl) (λ g. refl)
-kind? (DeleteEdge a) = single (λ g. refl) (λ g. refl)
-kind? (RetypeVertex a t) = single (λ g. refl) (λ g. refl)
-kind? (RetypeEdge a t) = single (λ g. refl) (λ g. refl)
-kind? (SetValue a x) = single (λ g. refl) (λ g. refl)
-kind? (SetReading a k d) = single (λ g. refl) (λ g. refl)
-kind? (SetAlpha e v) = single (λ g. refl) (λ g. refl)
-kind? (SetOmega e v) = single (λ g. refl) (λ g. refl)
-kind? (VertexBefore x y) = single (λ g. refl) (λ g. refl)
-kind? (VertexAfter x y) = single (λ g. refl) (λ g. refl)
-kind? (EdgeBefore x y) = single (λ g. refl) (λ g. refl)
-kind? (EdgeAfter x y) = single (λ g. refl) (λ g. refl)
-kind? (WordBefore x y) = single (λ g. refl) (λ g. refl)
-kind? (WordAfter x y) = single (λ g. refl) (λ g. refl)
+use Rattle.graph.proofs.PlanBounds.{removal-in, vertex-removal-in, plan-in}
 
 removals-in : (b : Bounds) (a : ℕ) (ns : List ℕ) (g : Graph) → WellFormed g → Within b g → edgesAt g a ≡ ns → All (EditIn b) (removals ns g)
 removals-in b a [] g w i h = done
@@ -87,52 +47,44 @@ module _ (g : Graph) (w : WellFormed g) (a : ℕ) where
   without-edges-there : VertexThere g a → VertexThere (withoutEdges g a) a
   without-edges-there h = removals-vertices (edgesAt g a) a g ∙ h
 
-  without-edges-none : firstEdits (DeleteVertex a) (withoutEdges g a) ≡ []
-  without-edges-none = ap (λ (ns : List ℕ). removals ns (withoutEdges g a)) (removals-empty a (edgesAt g a) g w refl)
+  without-edges-none : listOf (withoutEdges g a) a ≡ []
+  without-edges-none = none-edges (withoutEdges g a) a (removals-empty a (edgesAt g a) g w refl)
 
 -- ---- every change
+
+pub cost-real : (c : Change) (g : Graph) → 1 ≤ cost c g
+cost-real (Single c) g = omega arith
+cost-real (DeleteVertex a) g = omega arith
 
 module _ (g : Graph) where
   pub edits-cost : (c : Change) → length (editsOf c g) ≡ cost c g
   unfolding editsOf
-  edits-cost c = go (kind? c)
-    where
-      go : {d : Change} → Kind d → length (firstEdits d g ++ (plan d (applyAll (firstEdits d g) g) ∷ [])) ≡ cost d g
-      go (deletion a) =
-          omega (arith, length-append (removals (edgesAt g a) g) (plan (DeleteVertex a) (withoutEdges g a) ∷ []), removals-length (edgesAt g a) g)
-      go (single e k) = rw (e g, k g)
+  edits-cost (Single c) = refl
+  edits-cost (DeleteVertex a) =
+      omega (arith, length-append (removals (edgesAt g a) g) (vertexRemoval a (withoutEdges g a) ∷ []), removals-length (edgesAt g a) g)
 
 module _ (b : Bounds) (g : Graph) (w : WellFormed g) where
   pub edits-apply : (c : Change) → Allowed b g c → AppliesAll (editsOf c g) g
   unfolding editsOf
-  edits-apply c h = go (kind? c) h
-    where
-      go : {d : Change} → Kind d → Allowed b g d → AppliesAll (firstEdits d g ++ (plan d (applyAll (firstEdits d g) g) ∷ [])) g
-      go (deletion a) h =
-          applies-append (removals (edgesAt g a) g) (plan (DeleteVertex a) (withoutEdges g a) ∷ []) g (without-edges-applies g w a)
-          (plan-applies b (withoutEdges g a) (without-edges-formed g w a) (DeleteVertex a) (without-edges-there g w a h) (without-edges-none g w a), tt)
-      go (single {c = d} e k) h = rw (e g) (plan-applies b g w d h (e g), tt)
+  edits-apply (Single c) h = (plan-applies b g w c h, tt)
+  edits-apply (DeleteVertex a) h =
+      applies-append (removals (edgesAt g a) g) (vertexRemoval a (withoutEdges g a) ∷ []) g (without-edges-applies g w a)
+      (vertex-removal-applies (withoutEdges g a) a (without-edges-there g w a h) (without-edges-none g w a), tt)
 
   pub change-is : (c : Change) → Allowed b g c → applyAll (editsOf c g) g ≡ changed c g
-  unfolding editsOf plan vertexRemoval changed deleteVertex
-  change-is c h = go (kind? c) h
-    where
-      go : {d : Change} → Kind d → Allowed b g d → applyAll (firstEdits d g ++ (plan d (applyAll (firstEdits d g) g) ∷ [])) g ≡ changed d g
-      go (deletion a) h =
-          apply-append (removals (edgesAt g a) g) (plan (DeleteVertex a) (withoutEdges g a) ∷ []) g
-          ∙ ap (onVseq (removeBy vertexNumber a)) (removals-are (edgesAt g a) g)
-      go (single {c = d} e k) h = rw (e g) (plan-is b g w d h (e g))
+  unfolding editsOf vertexRemoval changed deleteVertex
+  change-is (Single c) h = plan-is b g w c h
+  change-is (DeleteVertex a) h =
+      apply-append (removals (edgesAt g a) g) (vertexRemoval a (withoutEdges g a) ∷ []) g
+      ∙ ap (onVseq (removeBy vertexNumber a)) (removals-are (edgesAt g a) g)
 
   pub edits-in : (c : Change) → Within b g → Allowed b g c → All (EditIn b) (editsOf c g)
   unfolding editsOf
-  edits-in c i h = go (kind? c) h
-    where
-      go : {d : Change} → Kind d → Allowed b g d → All (EditIn b) (firstEdits d g ++ (plan d (applyAll (firstEdits d g) g) ∷ []))
-      go (deletion a) h =
-          let r = removals-in b a (edgesAt g a) g w i refl in
-          all-append r (more (plan-in b (withoutEdges g a) (all-within b (removals (edgesAt g a) g) g (without-edges-applies g w a) r i)
-          (DeleteVertex a) (without-edges-there g w a h)) done)
-      go (single {c = d} e k) h = rw (e g) (more (plan-in b g i d h) done)
+  edits-in (Single c) i h = more (plan-in b g i c h) done
+  edits-in (DeleteVertex a) i h =
+      let r = removals-in b a (edgesAt g a) g w i refl in
+      all-append r (more (vertex-removal-in b (withoutEdges g a) (all-within b (removals (edgesAt g a) g) g (without-edges-applies g w a) r i)
+      a (without-edges-there g w a h)) done)
 
 -- each of the sixteen changes keeps the graph well formed
 pub change-keeps : (b : Bounds) (g : Graph) (c : Change) → wellFormed b g ≡ true → Allowed b g c → wellFormed b (changed c g) ≡ true
@@ -146,11 +98,11 @@ module _ (g : Graph) (w : WellFormed g) (a : ℕ) where
   pub deletion-step : (x : ℕ) (xs : List ℕ) → listOf g a ≡ x ∷ xs →
       editsOf (DeleteVertex a) g ≡ removal (edgeOf x) g ∷ editsOf (DeleteVertex a) (apply (removal (edgeOf x) g) g)
   unfolding editsOf
-  deletion-step x xs e = ap (λ (ns : List ℕ). removals ns g ++ (plan (DeleteVertex a) (applyAll (removals ns g) g) ∷ [])) (edges-first g w a x xs e)
+  deletion-step x xs e = ap (λ (ns : List ℕ). removals ns g ++ (vertexRemoval a (applyAll (removals ns g) g) ∷ [])) (edges-first g w a x xs e)
 
   pub deletion-last : listOf g a ≡ [] → editsOf (DeleteVertex a) g ≡ vertexRemoval a g ∷ []
-  unfolding editsOf plan
-  deletion-last e = ap (λ (ns : List ℕ). removals ns g ++ (plan (DeleteVertex a) (applyAll (removals ns g) g) ∷ [])) (edges-none g w a e)
+  unfolding editsOf
+  deletion-last e = ap (λ (ns : List ℕ). removals ns g ++ (vertexRemoval a (applyAll (removals ns g) g) ∷ [])) (edges-none g w a e)
 
   pub deleted-step : (x : ℕ) (xs : List ℕ) → listOf g a ≡ x ∷ xs →
       changed (DeleteVertex a) g ≡ changed (DeleteVertex a) (apply (removal (edgeOf x) g) g)

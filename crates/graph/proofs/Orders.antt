@@ -8,23 +8,23 @@ use Rattle.lists.specs.Keyed.{countBy, insertAfterBy, removeBy, findBy, updateB
 use Rattle.lists.proofs.Picks.{pick-yes, pick-no, same, differ, same?, is-yes, is-no, is-zero}
 use Rattle.lists.proofs.KeyedLaws.{count-ins, count-rem, rem-ins, ins-rem, prev-ins, prev-in, find-ins, find-ins-other, find-rem-other, count-upd, key-upd}
 use Rattle.graph.specs.WellFormed.{Ordered}
-use Rattle.graph.specs.Edits.{Placed, WordsFit}
+use Rattle.graph.specs.Edits.{Placed, Insertable}
 
 module _ {A : Type 0} (key : A → ℕ) where
   pub placed-back : (d : A) (l : List A) (n p : ℕ) → Ordered key l → Placed key l n p → insertAfterBy key 0 p (findBy key d n l) (removeBy key n l) ≡ l
   placed-back d l n p u h = rw (← h .before) (ins-rem key d 0 n l (omega (arith, h .there)) u)
 
-  pub placed-fits : (l : List A) (n p : ℕ) → Ordered key l → Placed key l n p → WordsFit key (removeBy key n l) n p
+  pub placed-fits : (l : List A) (n p : ℕ) → Ordered key l → Placed key l n p → Insertable key (removeBy key n l) n p
   placed-fits l n p d h = record {
     real = omega (arith, is-zero 0 n (omega (arith, d n, h .there)));
     fresh = omega (arith, count-rem key n n l, is-yes n n refl, h .there);
     after = rw (← h .before) (prev-in key 0 n l (omega (arith, h .there)));
   }
 
-  pub fits-placed : (l : List A) (x : A) (p : ℕ) → WordsFit key l (key x) p → Placed key (insertAfterBy key 0 p x l) (key x) p
+  pub fits-placed : (l : List A) (x : A) (p : ℕ) → Insertable key l (key x) p → Placed key (insertAfterBy key 0 p x l) (key x) p
   fits-placed l x p h = record { there = omega (arith, count-ins key (key x) 0 p x l, is-yes (key x) (key x) refl, h .fresh); before = prev-ins key 0 p x l (h .fresh) (h .after) }
 
-  pub ordered-ins : (l : List A) (x : A) (p : ℕ) → Ordered key l → WordsFit key l (key x) p → Ordered key (insertAfterBy key 0 p x l)
+  pub ordered-ins : (l : List A) (x : A) (p : ℕ) → Ordered key l → Insertable key l (key x) p → Ordered key (insertAfterBy key 0 p x l)
   ordered-ins l x p d h k = elim (same? (key x) k) [
     | same e f ↦ omega (arith, count-ins key k 0 p x l, is-yes (key x) k e, ap (λ (z : ℕ). countBy key z l) e, h .fresh, is-no 0 k (omega (arith, h .real)))
     | differ e f ↦ omega (arith, count-ins key k 0 p x l, is-no (key x) k e, d k)
@@ -59,7 +59,7 @@ pub ordered-upd : {A : Type 0} (key : A → ℕ) (f : A → A) (l : List A) (k :
 ordered-upd key f l k e d n = omega (arith, d n, count-upd key f e n k l)
 
 module _ {A : Type 0} (key : A → ℕ) where
-  pub fits-at : (l : List A) (x : A) (n p : ℕ) → key x ≡ n → WordsFit key l n p → Placed key (insertAfterBy key 0 p x l) n p
+  pub fits-at : (l : List A) (x : A) (n p : ℕ) → key x ≡ n → Insertable key l n p → Placed key (insertAfterBy key 0 p x l) n p
   fits-at l x n p e h = rw (← e) (fits-placed key l x p (rw e h))
 
   pub move-placed : (d : A) (l : List A) (n p q : ℕ) → Ordered key l → Placed key l n p → 1 ≤ indicator 0 q + countBy key q (removeBy key n l)
@@ -67,7 +67,7 @@ module _ {A : Type 0} (key : A → ℕ) where
   move-placed d l n p q u h i =
       let f = placed-fits key l n p u h in
       let e = key-find key d n l (omega (arith, h .there)) in
-      let t : WordsFit key (removeBy key n l) n q = record { real = f .real; fresh = f .fresh; after = i } in
+      let t : Insertable key (removeBy key n l) n q = record { real = f .real; fresh = f .fresh; after = i } in
       (fits-at (removeBy key n l) (findBy key d n l) n q e t, rw (rem-at key n 0 q (findBy key d n l) (removeBy key n l) e (f .fresh)) (f .after))
 
 module _ {A : Type 0} (key : A → ℕ) (d : A) where

@@ -3,28 +3,12 @@ use Prim.Native.Nat.{ℕ}
 use mathlib.Core.Path.{refl, subst}
 use native.Mathlib.Omega.{arith}
 use Rattle.lists.proofs.KeyedAll.{all-find}
-use Rattle.graph.specs.declared.Change.{Change}
-use Rattle.graph.specs.declared.Change.the-variants.{
-  CreateVertex,
-  DeleteVertex,
-  CreateEdge,
-  DeleteEdge,
-  RetypeVertex,
-  RetypeEdge,
-  SetValue,
-  SetReading,
-  SetAlpha,
-  SetOmega,
-  VertexBefore,
-  VertexAfter,
-  EdgeBefore,
-  EdgeAfter,
-  WordBefore,
-  WordAfter,
-}
+use Rattle.graph.specs.declared.SingleChange.{SingleChange}
+use Rattle.graph.specs.declared.SingleChange.the-variants.{CreateVertex, CreateEdge, DeleteEdge, RetypeVertex, RetypeEdge, SetValue, SetReading, SetAlpha, SetOmega, VertexBefore}
+use Rattle.graph.specs.declared.SingleChange.the-variants.{VertexAfter, EdgeBefore, EdgeAfter, WordBefore, WordAfter}
 use Rattle.graph.specs.Graph.{Graph, vertexNumber, edgeNumber, noVertex, noEdge, vertex, edge}
 use Rattle.graph.specs.WellFormed.{Bounds, VertexFits, EdgeFits, VertexIn, EdgeIn, Within}
-use Rattle.graph.specs.Changes.{VertexThere, EdgeThere, Allowed}
+use Rattle.graph.specs.Changes.{VertexThere, EdgeThere, SinglyAllowed}
 use Rattle.graph.specs.Edits.{EditIn}
 use Rattle.graph.specs.Plans.{removal, vertexRemoval, wordMove, plan}
 use Rattle.graph.proofs.Numbers.{vertex-number, edge-number}
@@ -43,10 +27,13 @@ module _ (b : Bounds) (g : Graph) (w : Within b g) where
   unfolding removal
   removal-in n h = edge-fits n h
 
-  pub plan-in : (c : Change) → Allowed b g c → EditIn b (plan c g)
-  unfolding plan vertexRemoval wordMove
+  pub vertex-removal-in : (a : ℕ) → VertexThere g a → EditIn b (vertexRemoval a g)
+  unfolding vertexRemoval
+  vertex-removal-in a h = vertex-fits a h
+
+  pub plan-in : (c : SingleChange) → SinglyAllowed b g c → EditIn b (plan c g)
+  unfolding plan wordMove
   plan-in (CreateVertex n t x) h = record { number = h .1; type = h .3; value = h .4 }
-  plan-in (DeleteVertex a) h = vertex-fits a h
   plan-in (CreateEdge n a o t) h = record { number = h .1; type = h .5; reading = refl }
   plan-in (DeleteEdge a) h = removal-in a h
   plan-in (RetypeVertex a t) h = let f = vertex-fits a (h .0) in (f, record { number = f .number; type = h .1; value = f .value })

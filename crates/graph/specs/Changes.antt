@@ -10,9 +10,9 @@ use Rattle.lists.specs.Keyed.{countBy, removeBy, updateBy, putBefore, putAfter}
 use Rattle.graph.specs.declared.Reading.{Reading}
 use Rattle.graph.specs.declared.Reading.the-variants.{Untested}
 use Rattle.graph.specs.declared.Change.{Change}
-use Rattle.graph.specs.declared.Change.the-variants.{
+use Rattle.graph.specs.declared.SingleChange.{SingleChange}
+use Rattle.graph.specs.declared.SingleChange.the-variants.{
   CreateVertex,
-  DeleteVertex,
   CreateEdge,
   DeleteEdge,
   RetypeVertex,
@@ -28,6 +28,7 @@ use Rattle.graph.specs.declared.Change.the-variants.{
   WordBefore,
   WordAfter,
 }
+use Rattle.graph.specs.declared.Change.the-variants.{Single, DeleteVertex}
 use Rattle.graph.specs.Graph.{
   Vertex,
   Edge,
@@ -157,48 +158,35 @@ wordBefore a b g = onVseq (updateBy vertexNumber (this g a) (onList (putBefore i
 unfoldable pub wordAfter : ℕ → ℕ → Graph → Graph
 wordAfter a b g = onVseq (updateBy vertexNumber (this g a) (onList (putAfter itself 0 a b))) g
 
-unfoldable pub changed : Change → Graph → Graph
-unfolding createVertex deleteVertex createEdge deleteEdge retypeVertex retypeEdge setValue setReading reattach
-    vertexBefore vertexAfter edgeBefore edgeAfter wordBefore wordAfter
-changed (CreateVertex n t x) g = createVertex n t x g
-changed (DeleteVertex a) g = deleteVertex a g
-changed (CreateEdge n a o t) g = createEdge n a o t g
-changed (DeleteEdge a) g = deleteEdge a g
-changed (RetypeVertex a t) g = retypeVertex a t g
-changed (RetypeEdge a t) g = retypeEdge a t g
-changed (SetValue a x) g = setValue a x g
-changed (SetReading a k d) g = setReading a k d g
-changed (SetAlpha e v) g = reattach (outWord e) v g
-changed (SetOmega e v) g = reattach (inWord e) v g
-changed (VertexBefore a b) g = vertexBefore a b g
-changed (VertexAfter a b) g = vertexAfter a b g
-changed (EdgeBefore a b) g = edgeBefore a b g
-changed (EdgeAfter a b) g = edgeAfter a b g
-changed (WordBefore a b) g = wordBefore a b g
-changed (WordAfter a b) g = wordAfter a b g
+-- the changes of one edit
+unfoldable pub singlyChanged : SingleChange → Graph → Graph
+unfolding createVertex createEdge deleteEdge retypeVertex retypeEdge setValue setReading reattach vertexBefore
+    vertexAfter edgeBefore edgeAfter wordBefore wordAfter
+singlyChanged (CreateVertex n t x) g = createVertex n t x g
+singlyChanged (CreateEdge n a o t) g = createEdge n a o t g
+singlyChanged (DeleteEdge a) g = deleteEdge a g
+singlyChanged (RetypeVertex a t) g = retypeVertex a t g
+singlyChanged (RetypeEdge a t) g = retypeEdge a t g
+singlyChanged (SetValue a x) g = setValue a x g
+singlyChanged (SetReading a k d) g = setReading a k d g
+singlyChanged (SetAlpha e v) g = reattach (outWord e) v g
+singlyChanged (SetOmega e v) g = reattach (inWord e) v g
+singlyChanged (VertexBefore a b) g = vertexBefore a b g
+singlyChanged (VertexAfter a b) g = vertexAfter a b g
+singlyChanged (EdgeBefore a b) g = edgeBefore a b g
+singlyChanged (EdgeAfter a b) g = edgeAfter a b g
+singlyChanged (WordBefore a b) g = wordBefore a b g
+singlyChanged (WordAfter a b) g = wordAfter a b g
 
--- of the deletion of vertex a, f a; of every other change, x
-abbrev pub onDeletion {ℓ} : {A : Type ℓ} → (ℕ → A) → A → Change → A
-onDeletion f x (CreateVertex n t v) = x
-onDeletion f x (DeleteVertex a) = f a
-onDeletion f x (CreateEdge n a o t) = x
-onDeletion f x (DeleteEdge a) = x
-onDeletion f x (RetypeVertex a t) = x
-onDeletion f x (RetypeEdge a t) = x
-onDeletion f x (SetValue a v) = x
-onDeletion f x (SetReading a k d) = x
-onDeletion f x (SetAlpha e v) = x
-onDeletion f x (SetOmega e v) = x
-onDeletion f x (VertexBefore a b) = x
-onDeletion f x (VertexAfter a b) = x
-onDeletion f x (EdgeBefore a b) = x
-onDeletion f x (EdgeAfter a b) = x
-onDeletion f x (WordBefore a b) = x
-onDeletion f x (WordAfter a b) = x
+unfoldable pub changed : Change → Graph → Graph
+unfolding singlyChanged deleteVertex
+changed (Single c) g = singlyChanged c g
+changed (DeleteVertex a) g = deleteVertex a g
 
 -- REFERENCE 3.10: 1, and 1 more for each distinct edge that goes with a vertex
 abbrev pub cost : Change → Graph → ℕ
-cost c g = onDeletion (λ a. 1 + length (edgesAt g a)) 1 c
+cost (Single c) g = 1
+cost (DeleteVertex a) g = 1 + length (edgesAt g a)
 
 -- ---- what a change asks of the graph: codes 2 to 9 do not apply, and a value is a word
 
@@ -208,22 +196,25 @@ VertexThere g n = countBy vertexNumber n (g .vseq) ≡ 1
 abbrev pub EdgeThere : Graph → ℕ → Type 0
 EdgeThere g n = countBy edgeNumber n (g .eseq) ≡ 1
 
-abbrev pub Allowed : Bounds → Graph → Change → Type 0
-Allowed b g (CreateVertex n t x) = (1 ≤ n) × (n ≤ b .vertices) × (countBy vertexNumber n (g .vseq) ≡ 0) × (t < b .types)
-    × (x < 2 ^ 32)
-Allowed b g (DeleteVertex a) = VertexThere g a
-Allowed b g (CreateEdge n a o t) =
+abbrev pub SinglyAllowed : Bounds → Graph → SingleChange → Type 0
+SinglyAllowed b g (CreateVertex n t x) =
+    (1 ≤ n) × (n ≤ b .vertices) × (countBy vertexNumber n (g .vseq) ≡ 0) × (t < b .types) × (x < 2 ^ 32)
+SinglyAllowed b g (CreateEdge n a o t) =
     (1 ≤ n) × (n ≤ b .edges) × (countBy edgeNumber n (g .eseq) ≡ 0) × VertexThere g a × VertexThere g o × (t < b .types)
-Allowed b g (DeleteEdge a) = EdgeThere g a
-Allowed b g (RetypeVertex a t) = VertexThere g a × (t < b .types)
-Allowed b g (RetypeEdge a t) = EdgeThere g a × (t < b .types)
-Allowed b g (SetValue a x) = VertexThere g a × (x < 2 ^ 32)
-Allowed b g (SetReading a k d) = EdgeThere g a × (isReading k d ≡ true)
-Allowed b g (SetAlpha e v) = EdgeThere g e × VertexThere g v
-Allowed b g (SetOmega e v) = EdgeThere g e × VertexThere g v
-Allowed b g (VertexBefore x y) = VertexThere g x × VertexThere g y × (x ≢ y)
-Allowed b g (VertexAfter x y) = VertexThere g x × VertexThere g y × (x ≢ y)
-Allowed b g (EdgeBefore x y) = EdgeThere g x × EdgeThere g y × (x ≢ y)
-Allowed b g (EdgeAfter x y) = EdgeThere g x × EdgeThere g y × (x ≢ y)
-Allowed b g (WordBefore x y) = EdgeThere g (edgeOf x) × EdgeThere g (edgeOf y) × (this g x ≡ this g y) × (x ≢ y)
-Allowed b g (WordAfter x y) = EdgeThere g (edgeOf x) × EdgeThere g (edgeOf y) × (this g x ≡ this g y) × (x ≢ y)
+SinglyAllowed b g (DeleteEdge a) = EdgeThere g a
+SinglyAllowed b g (RetypeVertex a t) = VertexThere g a × (t < b .types)
+SinglyAllowed b g (RetypeEdge a t) = EdgeThere g a × (t < b .types)
+SinglyAllowed b g (SetValue a x) = VertexThere g a × (x < 2 ^ 32)
+SinglyAllowed b g (SetReading a k d) = EdgeThere g a × (isReading k d ≡ true)
+SinglyAllowed b g (SetAlpha e v) = EdgeThere g e × VertexThere g v
+SinglyAllowed b g (SetOmega e v) = EdgeThere g e × VertexThere g v
+SinglyAllowed b g (VertexBefore x y) = VertexThere g x × VertexThere g y × (x ≢ y)
+SinglyAllowed b g (VertexAfter x y) = VertexThere g x × VertexThere g y × (x ≢ y)
+SinglyAllowed b g (EdgeBefore x y) = EdgeThere g x × EdgeThere g y × (x ≢ y)
+SinglyAllowed b g (EdgeAfter x y) = EdgeThere g x × EdgeThere g y × (x ≢ y)
+SinglyAllowed b g (WordBefore x y) = EdgeThere g (edgeOf x) × EdgeThere g (edgeOf y) × (this g x ≡ this g y) × (x ≢ y)
+SinglyAllowed b g (WordAfter x y) = EdgeThere g (edgeOf x) × EdgeThere g (edgeOf y) × (this g x ≡ this g y) × (x ≢ y)
+
+abbrev pub Allowed : Bounds → Graph → Change → Type 0
+Allowed b g (Single c) = SinglyAllowed b g c
+Allowed b g (DeleteVertex a) = VertexThere g a

@@ -87,18 +87,18 @@ pub record Placed {A : Type 0} (key : A → ℕ) (l : List A) (n p : ℕ) : Type
   pub before : prevBy key 0 n l ≡ p
 
 -- n can be put in directly after p
-pub record WordsFit {A : Type 0} (key : A → ℕ) (l : List A) (n p : ℕ) : Type 0 where
+pub record Insertable {A : Type 0} (key : A → ℕ) (l : List A) (n p : ℕ) : Type 0 where
   pub real : 1 ≤ n
   pub fresh : countBy key n l ≡ 0
   pub after : 1 ≤ indicator 0 p + countBy key p l
 
 -- the edit's old values are those of the graph, and its new places are there
 abbrev pub Applies : Edit → Graph → Type 0
-Applies (InsertVertex n t v p) g = WordsFit vertexNumber g.vseq n p
+Applies (InsertVertex n t v p) g = Insertable vertexNumber g.vseq n p
 Applies (RemoveVertex n t v p) g = Placed vertexNumber g.vseq n p
     × (vertexIn g.vseq n ≡ record { number = n; type = t; value = v; incidences = [] })
 Applies (InsertEdge n a z t r p o i) g =
-    WordsFit edgeNumber g.eseq n p × (countBy vertexNumber a g.vseq ≡ 1) × (countBy vertexNumber z g.vseq ≡ 1)
+    Insertable edgeNumber g.eseq n p × (countBy vertexNumber a g.vseq ≡ 1) × (countBy vertexNumber z g.vseq ≡ 1)
     × (1 ≤ indicator 0 o + countBy itself o (listIn g.vseq a))
     × (1 ≤ indicator 0 i + countBy itself i (listIn (attach g.vseq a o (outWord n)) z))
 Applies (RemoveEdge n a z t r p o i) g =

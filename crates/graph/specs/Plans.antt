@@ -16,9 +16,9 @@ use Rattle.graph.specs.declared.Edit.the-variants.{
   MoveWord,
 }
 use Rattle.graph.specs.declared.Change.{Change}
-use Rattle.graph.specs.declared.Change.the-variants.{
+use Rattle.graph.specs.declared.SingleChange.{SingleChange}
+use Rattle.graph.specs.declared.SingleChange.the-variants.{
   CreateVertex,
-  DeleteVertex,
   CreateEdge,
   DeleteEdge,
   RetypeVertex,
@@ -34,9 +34,10 @@ use Rattle.graph.specs.declared.Change.the-variants.{
   WordBefore,
   WordAfter,
 }
+use Rattle.graph.specs.declared.Change.the-variants.{Single, DeleteVertex}
 use Rattle.graph.specs.Graph.{Graph, vertexNumber, edgeNumber, itself, vertex, edge, listIn, listOf, this}
 use Rattle.graph.specs.Graph.{outWord, inWord, readingOf}
-use Rattle.graph.specs.Changes.{append, detach, edgesAt, onDeletion}
+use Rattle.graph.specs.Changes.{append, detach, edgesAt}
 use Rattle.graph.specs.Edits.{apply, Applies}
 
 -- the edit that takes edge n out: the in word leaves first
@@ -62,11 +63,10 @@ listWithout w u g = listIn (detach (g .vseq) (this g w) w) u
 abbrev pub moveLast : ℕ → ℕ → Graph → Edit
 moveLast w u g = wordMove w u (lastBy itself 0 (listWithout w u g)) g
 
--- the edit of a change other than kind 2, and the last edit of that
-unfoldable pub plan : Change → Graph → Edit
-unfolding removal vertexRemoval wordMove
+-- the edit of a change of one edit
+unfoldable pub plan : SingleChange → Graph → Edit
+unfolding removal wordMove
 plan (CreateVertex n t x) g = InsertVertex n t x (lastBy vertexNumber 0 (g .vseq))
-plan (DeleteVertex a) g = vertexRemoval a g
 plan (CreateEdge n a o t) g =
     InsertEdge n a o t Untested (lastBy edgeNumber 0 (g .eseq)) (lastBy itself 0 (listOf g a))
     (lastBy itself 0 (listIn (append (g .vseq) a (outWord n)) o))
@@ -101,11 +101,9 @@ abbrev pub removals : List ℕ → Graph → List Edit
 removals [] g = []
 removals (n ∷ ns) g = removal n g ∷ removals ns (apply (removal n g) g)
 
--- kind 2 first takes out the edges at the vertex
-abbrev pub firstEdits : Change → Graph → List Edit
-firstEdits c g = onDeletion (λ a. removals (edgesAt g a) g) [] c
-
--- the edits of a change, in their order
+-- the edits of a change, in their order: kind 2 first takes out the edges at the vertex
 unfoldable pub editsOf : Change → Graph → List Edit
-unfolding plan
-editsOf c g = firstEdits c g ++ (plan c (applyAll (firstEdits c g) g) ∷ [])
+unfolding plan vertexRemoval
+editsOf (Single c) g = plan c g ∷ []
+editsOf (DeleteVertex a) g =
+    removals (edgesAt g a) g ++ (vertexRemoval a (applyAll (removals (edgesAt g a) g) g) ∷ [])

@@ -1,13 +1,13 @@
 -- Whether two graphs are the same, and whether a change alters the graph (REFERENCE 3.11).
-use mathlib.Core.Bool.{Bool, true, false, not, _&&_}
+use mathlib.Core.Bool.{Bool, true, false, not, _&&_, _||_}
 use mathlib.Core.List.{List, [], _∷_}
 use Rattle.lists.specs.Choice.{_==_}
 use Rattle.lists.specs.Lists.{equalLists}
 use Rattle.graph.specs.declared.Reading.{Reading}
 use Rattle.graph.specs.declared.Change.{Change}
-use Rattle.graph.specs.declared.Change.the-variants.{
+use Rattle.graph.specs.declared.SingleChange.{SingleChange}
+use Rattle.graph.specs.declared.SingleChange.the-variants.{
   CreateVertex,
-  DeleteVertex,
   CreateEdge,
   DeleteEdge,
   RetypeVertex,
@@ -23,6 +23,7 @@ use Rattle.graph.specs.declared.Change.the-variants.{
   WordBefore,
   WordAfter,
 }
+use Rattle.graph.specs.declared.Change.the-variants.{Single, DeleteVertex}
 use Rattle.graph.specs.declared.Edit.{Edit}
 use Rattle.graph.specs.declared.Edit.the-variants.{
   InsertVertex,
@@ -66,25 +67,29 @@ unfoldable pub differs : Change → Graph → Bool
 unfolding sameGraph changed
 differs c g = not (sameGraph (changed c g) g)
 
--- whether an accepted change alters the graph: what is created or deleted changes a count, and is not compared
+-- whether a change creates or deletes an element, so that a count is another one afterwards
+abbrev pub resizes : SingleChange → Bool
+resizes (CreateVertex n t x) = true
+resizes (CreateEdge n a o t) = true
+resizes (DeleteEdge a) = true
+resizes (RetypeVertex a t) = false
+resizes (RetypeEdge a t) = false
+resizes (SetValue a x) = false
+resizes (SetReading a k d) = false
+resizes (SetAlpha e v) = false
+resizes (SetOmega e v) = false
+resizes (VertexBefore a b) = false
+resizes (VertexAfter a b) = false
+resizes (EdgeBefore a b) = false
+resizes (EdgeAfter a b) = false
+resizes (WordBefore a b) = false
+resizes (WordAfter a b) = false
+
+-- whether an accepted change alters the graph: where a count is another one afterwards, nothing is compared
 unfoldable pub alters : Change → Graph → Bool
 unfolding differs
-alters (CreateVertex n t x) g = true
+alters (Single c) g = resizes c || differs (Single c) g
 alters (DeleteVertex a) g = true
-alters (CreateEdge n a o t) g = true
-alters (DeleteEdge a) g = true
-alters (RetypeVertex a t) g = differs (RetypeVertex a t) g
-alters (RetypeEdge a t) g = differs (RetypeEdge a t) g
-alters (SetValue a x) g = differs (SetValue a x) g
-alters (SetReading a k d) g = differs (SetReading a k d) g
-alters (SetAlpha e v) g = differs (SetAlpha e v) g
-alters (SetOmega e v) g = differs (SetOmega e v) g
-alters (VertexBefore a b) g = differs (VertexBefore a b) g
-alters (VertexAfter a b) g = differs (VertexAfter a b) g
-alters (EdgeBefore a b) g = differs (EdgeBefore a b) g
-alters (EdgeAfter a b) g = differs (EdgeAfter a b) g
-alters (WordBefore a b) g = differs (WordBefore a b) g
-alters (WordAfter a b) g = differs (WordAfter a b) g
 
 -- an edit whose old and new agree
 abbrev pub idle : Edit → Bool

@@ -19,11 +19,10 @@ pub enum Reading {
     Heard(u32),
 }
 
-// A change of the graph, kinds 1 to 16 in their order; the words of a reading as the call has them.
-pub enum Change {
+// A change of one edit, kinds 1 and 3 to 16 in their order; the words of a reading as the call has them.
+pub enum SingleChange {
     // number, type, value
     CreateVertex(u32, u32, u32),
-    DeleteVertex(u32),
     // number, alpha, omega, type
     CreateEdge(u32, u32, u32, u32),
     DeleteEdge(u32),
@@ -44,6 +43,12 @@ pub enum Change {
     EdgeAfter(u32, u32),
     WordBefore(u32, u32),
     WordAfter(u32, u32),
+}
+
+// A change of the graph, kinds 1 to 16: one edit, or, kind 2, a vertex deleted together with the edges at it.
+pub enum Change {
+    Single(SingleChange),
+    DeleteVertex(u32),
 }
 
 // A reversible edit. A place is the number, or the oriented word, that stands directly before; 0 is the front.

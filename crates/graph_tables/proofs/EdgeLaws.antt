@@ -7,18 +7,18 @@ use native.Mathlib.Omega.{arith}
 use lib.ListN.{length, getD, set, length-set}
 use lib.Seq.{getD-set-same, getD-set-other}
 use Rattle.linked_lists.specs.declared.Ends.{Ends}
-use Rattle.linked_lists.specs.Links.{Inside, Held, unlinkT, unlinkE, insertT, insertE, CanInsert}
+use Rattle.linked_lists.specs.Links.{Inside, Held, unlinkT, unlinkE, insertT, insertE, CanInsert, moveT, CanMove}
 use Rattle.graph.specs.declared.Reading.{Reading}
 use Rattle.lists.specs.Choice.{ifEqual, indicator}
 use Rattle.lists.proofs.Picks.{same, differ, same?}
 use Rattle.lists.specs.Keyed.{countBy, insertAfterBy, removeBy, updateBy}
 use Rattle.graph.specs.Graph.{Vertex, Edge, edgeNumber, noEdge, outWord, inWord, edgeIn, thisIn, readingKind, decimetres}
 use Rattle.graph.specs.Changes.{withEdge}
-use Rattle.graph.specs.Edits.{WordsFit}
+use Rattle.graph.specs.Edits.{Insertable}
 use Rattle.graph.specs.WellFormed.{Ordered}
 use Rattle.graph.proofs.Orders.{find-kept, find-move, count-move}
 use Rattle.graph.proofs.Incidence.{this-out, this-into, Word, out-word, in-word, other-word, word?}
-use Rattle.graph_tables.specs.Tables.{State, edgeLinks, edgePlace, halfPlace, EdgeRowIn, edgeListEnds, rowET, thisET, moveT, CanMove, setEdgeS, moveEdgeS, placeEdgeS, dropEdgeS, CanDropEdge}
+use Rattle.graph_tables.specs.Tables.{State, edgeLinks, edgePlace, halfPlace, EdgeRowIn, edgeListEnds, rowET, thisET, setEdgeS, moveEdgeS, placeEdgeS, dropEdgeS, CanDropEdge}
 use Rattle.graph_tables.specs.Holds.{ERow, ERows, ThisEntries, Lists, Core}
 use Rattle.graph_tables.proofs.Keys.{keys-upd, length-upd, length-ins, length-rem}
 use Rattle.graph_tables.proofs.Sequences.{can-take, held-taken, can-put, held-put, can-move, held-move, move-len, move-e, Anew, anew-put, anew-taken, anew-set}
@@ -219,7 +219,7 @@ module _ (n live : ℕ) (y : Edge) (edges t₁ : List ℕ) (i : EdgeRowIn t₁ n
 
 -- ---- an edge put into eseq
 
-module _ (n a z t : ℕ) (r : Reading) (p : ℕ) (s : State) (vs : List Vertex) (es : List Edge) (c : Core s vs es) (f : WordsFit edgeNumber es n p) (i : EdgeRowIn (s .edges) n) where
+module _ (n a z t : ℕ) (r : Reading) (p : ℕ) (s : State) (vs : List Vertex) (es : List Edge) (c : Core s vs es) (f : Insertable edgeNumber es n p) (i : EdgeRowIn (s .edges) n) where
   abbrev new : Edge
   new = record { number = n; alpha = a; omega = z; type = t; reading = r }
 

@@ -9,7 +9,7 @@ use lib.ListN.{length, getD, set, length-set}
 use lib.Seq.{getD-set-same, getD-set-other}
 use Rattle.linked_lists.specs.declared.LinkLayout.{LinkLayout}
 use Rattle.linked_lists.specs.declared.Ends.{Ends}
-use Rattle.linked_lists.specs.Links.{ValidLayout, Side, backward, forward, linkAddress, HasAddress, Inside, Held, unlinkT, insertT}
+use Rattle.linked_lists.specs.Links.{ValidLayout, Direction, backward, forward, linkAddress, HasAddress, Inside, Held, unlinkT, insertT}
 use Rattle.linked_lists.specs.Lists.{Fresh}
 use Rattle.linked_lists.proofs.Puts.{length-join}
 use Rattle.linked_lists.proofs.Frames.{unlink-word, insert-word, held-agree}
@@ -62,21 +62,21 @@ module _ (t t′ : List ℕ) where
   pub keep-vseq : Keeps VOrder t t′ → length t′ ≡ length t → (e : Ends) (l : List ℕ) → Held vertexLinks t e l → Held vertexLinks t′ e l
   keep-vseq k len e l h = held-agree vertexLinks t t′ e same len l h
     where
-      same : (s : Side) (x : ℕ) → HasAddress vertexLinks x → getD t′ (linkAddress s vertexLinks x) 0 ≡ getD t (linkAddress s vertexLinks x) 0
+      same : (s : Direction) (x : ℕ) → HasAddress vertexLinks x → getD t′ (linkAddress s vertexLinks x) 0 ≡ getD t (linkAddress s vertexLinks x) 0
       same backward x st = k (linkAddress backward vertexLinks x) (omega arith)
       same forward x st = k (linkAddress forward vertexLinks x) (omega arith)
 
   pub keep-eseq : Keeps EOrder t t′ → length t′ ≡ length t → (e : Ends) (l : List ℕ) → Held edgeLinks t e l → Held edgeLinks t′ e l
   keep-eseq k len e l h = held-agree edgeLinks t t′ e same len l h
     where
-      same : (s : Side) (x : ℕ) → HasAddress edgeLinks x → getD t′ (linkAddress s edgeLinks x) 0 ≡ getD t (linkAddress s edgeLinks x) 0
+      same : (s : Direction) (x : ℕ) → HasAddress edgeLinks x → getD t′ (linkAddress s edgeLinks x) 0 ≡ getD t (linkAddress s edgeLinks x) 0
       same backward x st = k (linkAddress backward edgeLinks x) (omega arith)
       same forward x st = k (linkAddress forward edgeLinks x) (omega arith)
 
   pub keep-list : Keeps ELinks t t′ → length t′ ≡ length t → (e : Ends) (l : List ℕ) → Held incidenceLinks t e l → Held incidenceLinks t′ e l
   keep-list k len e l h = held-agree incidenceLinks t t′ e same len l h
     where
-      same : (s : Side) (x : ℕ) → HasAddress incidenceLinks x → getD t′ (linkAddress s incidenceLinks x) 0 ≡ getD t (linkAddress s incidenceLinks x) 0
+      same : (s : Direction) (x : ℕ) → HasAddress incidenceLinks x → getD t′ (linkAddress s incidenceLinks x) 0 ≡ getD t (linkAddress s incidenceLinks x) 0
       same backward x st = k (linkAddress backward incidenceLinks x) (omega arith)
       same forward x st = k (linkAddress forward incidenceLinks x) (omega arith)
 
@@ -107,15 +107,15 @@ keep-lists vertices vertices′ edges edges′ k i len vs h v r = rw (keep-ends 
 
 -- ---- what each step keeps
 
-off-v : (i : ℕ) → i % 8 < 6 → (s : Side) (k : ℕ) → HasAddress vertexLinks k → i ≡ linkAddress s vertexLinks k → ⊥
+off-v : (i : ℕ) → i % 8 < 6 → (s : Direction) (k : ℕ) → HasAddress vertexLinks k → i ≡ linkAddress s vertexLinks k → ⊥
 off-v i h backward k st q = omega arith
 off-v i h forward k st q = omega arith
 
-off-e : (i : ℕ) → i % 12 < 10 → (s : Side) (k : ℕ) → HasAddress edgeLinks k → i ≡ linkAddress s edgeLinks k → ⊥
+off-e : (i : ℕ) → i % 12 < 10 → (s : Direction) (k : ℕ) → HasAddress edgeLinks k → i ≡ linkAddress s edgeLinks k → ⊥
 off-e i h backward k st q = omega arith
 off-e i h forward k st q = omega arith
 
-off-i : (i : ℕ) → 2 ≤ i % 6 → (s : Side) (k : ℕ) → HasAddress incidenceLinks k → i ≡ linkAddress s incidenceLinks k → ⊥
+off-i : (i : ℕ) → 2 ≤ i % 6 → (s : Direction) (k : ℕ) → HasAddress incidenceLinks k → i ≡ linkAddress s incidenceLinks k → ⊥
 off-i i h backward k st q = omega arith
 off-i i h forward k st q = omega arith
 

@@ -7,6 +7,8 @@ pub mod VertexLaws
 pub mod EdgeLaws
 pub mod Refines
 pub mod Finds
+pub mod LookedUp
+pub mod Answers
 pub mod Sizes
 pub mod Empty
 pub mod Callers

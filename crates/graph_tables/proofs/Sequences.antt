@@ -7,15 +7,15 @@ use native.Mathlib.Omega.{arith}
 use lib.ListN.{length}
 use Rattle.linked_lists.specs.declared.LinkLayout.{LinkLayout}
 use Rattle.linked_lists.specs.declared.Ends.{Ends}
-use Rattle.linked_lists.specs.Links.{ValidLayout, Inside, Held, unlinkT, unlinkE, insertT, insertE, CanUnlink, CanInsert}
+use Rattle.linked_lists.specs.Links.{ValidLayout, Inside, Held, unlinkT, unlinkE, insertT, insertE, CanUnlink, CanInsert, moveT, moveE, CanMove}
 use Rattle.lists.specs.Choice.{indicator}
 use Rattle.lists.proofs.Picks.{is-yes, is-no}
 use Rattle.lists.specs.Keyed.{countBy, insertAfterBy, removeBy, updateBy, findBy}
 use Rattle.lists.proofs.KeyedLaws.{count-ins, count-rem, count-upd, find-upd, find-upd-other, find-ins, find-ins-other, find-rem-other, find-none}
 use Rattle.graph.specs.Graph.{itself}
-use Rattle.graph.specs.Edits.{WordsFit}
+use Rattle.graph.specs.Edits.{Insertable}
 use Rattle.graph.proofs.Orders.{key-find}
-use Rattle.graph_tables.specs.Tables.{vertexLinks, edgeLinks, moveT, moveE, CanMove}
+use Rattle.graph_tables.specs.Tables.{vertexLinks, edgeLinks}
 use Rattle.linked_lists.proofs.Counted.{inside-is, can-rem, held-rem, can-ins, held-ins}
 use Rattle.graph_tables.proofs.Keys.{keys-count, keys-rem, keys-ins}
 use Rattle.graph_tables.proofs.Frames.{Keeps, unlink-v, unlink-e, unlink-len, insert-v, insert-e, insert-len, real}
@@ -38,7 +38,7 @@ module _ {A : Type 0} (key : A → ℕ) (layout : LinkLayout) (valid : ValidLayo
     inside-taken = rw (unlink-len t e n layout) (inside-is layout t e (map key l) valid h n there)
 
   -- x, whose number n is new, directly after p
-  module _ (n p : ℕ) (x : A) (k : key x ≡ n) (f : WordsFit key l n p) (i : Inside layout (length t) n) where
+  module _ (n p : ℕ) (x : A) (k : key x ≡ n) (f : Insertable key l n p) (i : Inside layout (length t) n) where
     fresh : countBy itself n (map key l) ≡ 0
     fresh = keys-count key n l ∙ f .fresh
 
@@ -60,7 +60,7 @@ module _ {A : Type 0} (key : A → ℕ) (layout : LinkLayout) (valid : ValidLayo
   abbrev number-is : key x ≡ n
   number-is = key-find key none n l (omega arith)
 
-  again : WordsFit key (removeBy key n l) n p
+  again : Insertable key (removeBy key n l) n p
   again = record { real = real key layout t e l valid h n (omega arith); fresh = omega (arith, count-rem key n n l, is-yes n n refl); after = a }
 
   pub can-move : CanMove layout n p t e

@@ -3,24 +3,17 @@ use Prim.Native.Nat.{ℕ, _+_, _-_}
 use mathlib.Core.Path.{_≡_, ap, sym, subst, _∙_}
 use mathlib.Core.List.{List}
 use lib.ListN.{set}
-use Rattle.linked_lists.specs.declared.LinkLayout.{LinkLayout}
 use Rattle.linked_lists.specs.declared.Ends.{Ends}
-use Rattle.linked_lists.specs.Links.{unlinkT, unlinkE, insertT, insertE, CanUnlink, CanInsert}
+use Rattle.linked_lists.specs.Links.{unlinkT, unlinkE, insertT, insertE, moveT, moveE}
 use Rattle.graph.specs.declared.Reading.{Reading}
 use Rattle.graph.specs.declared.Reading.the-variants.{Untested}
 use Rattle.graph.specs.declared.Edit.{Edit}
 use Rattle.graph.specs.Graph.{readingKind, decimetres}
 use Rattle.graph_tables.specs.declared.Head.{Head}
 use Rattle.graph_tables.specs.Tables.{State, state, vertexLinks, edgeLinks, incidenceLinks, vertexListEnds, edgeListEnds, endsAt, putEnds, withVertexEnds, withEdgeEnds, countV, countE}
-use Rattle.graph_tables.specs.Tables.{edgePlace, rowVT, rowET, thisET, moveT, moveE, detachS, CanDetach, attachS, CanAttach, moveVertexS, moveEdgeS, insertVertexS, removeVertexS}
+use Rattle.graph_tables.specs.Tables.{edgePlace, rowVT, rowET, thisET, detachS, CanDetach, attachS, CanAttach, moveVertexS, moveEdgeS, insertVertexS, removeVertexS}
 use Rattle.graph_tables.specs.Tables.{placeEdgeS, dropEdgeS, CanDropEdge}
 use Rattle.graph_tables.specs.Edits.{applyS, Can}
-
-pub unlink-by : (layout : LinkLayout) (t : List ℕ) {e e′ : Ends} (x : ℕ) → e ≡ e′ → CanUnlink layout t e′ x → CanUnlink layout t e x
-unlink-by layout t x q h = rw q h
-
-pub insert-by : (layout : LinkLayout) {t t′ : List ℕ} {e e′ : Ends} (p x : ℕ) → t ≡ t′ → e ≡ e′ → CanInsert layout t′ e′ p x → CanInsert layout t e p x
-insert-by layout p x q r h = rw (q, r) h
 
 pub attach-by : (v p w : ℕ) {s s′ : State} → s ≡ s′ → CanAttach v p w s′ → CanAttach v p w s
 attach-by v p w q h = rw q h
@@ -46,13 +39,6 @@ pub did-by : (s : State) {s′ : State} {e e′ : Edit} → e ≡ e′ → s′ 
 did-by s q h = h ∙ ap (λ (x : Edit). applyS x s) (sym q)
 
 -- ---- what the calls of a step leave, as one equation of states
-
-module _ (layout : LinkLayout) (n p : ℕ) (t : List ℕ) (e : Ends) where
-  pub moved : {t′ t″ : List ℕ} {o r : Ends} →
-      (t′ ≡ unlinkT layout t e n) × (o ≡ unlinkE layout t e n) → (t″ ≡ insertT layout t′ o p n) × (r ≡ insertE layout t′ o p n) →
-      (t″ ≡ moveT layout n p t e) × (r ≡ moveE layout n p t e)
-  unfolding moveT moveE
-  moved a b = (b .0 ∙ (λ i. insertT layout (a .0 i) (a .1 i) p n), b .1 ∙ (λ i. insertE layout (a .0 i) (a .1 i) p n))
 
 module _ (h : Head) (vertices edges : List ℕ) where
   pub detached : (v w : ℕ) {e r : Ends} {vertices′ edges′ : List ℕ} → e ≡ endsAt vertices v → (edges′ ≡ unlinkT incidenceLinks edges e w) × (r ≡ unlinkE incidenceLinks edges e w)

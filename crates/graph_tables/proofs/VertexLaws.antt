@@ -6,17 +6,17 @@ use mathlib.Core.List.{List, [], map}
 use native.Mathlib.Omega.{arith}
 use lib.ListN.{length, getD, set, length-set}
 use lib.Seq.{getD-set-same, getD-set-other}
-use Rattle.linked_lists.specs.Links.{Inside, unlinkT, unlinkE, insertT, insertE, CanInsert}
+use Rattle.linked_lists.specs.Links.{Inside, unlinkT, unlinkE, insertT, insertE, CanInsert, moveT, CanMove}
 use Rattle.lists.specs.Choice.{indicator}
 use Rattle.lists.proofs.Picks.{same, differ, same?}
 use Rattle.lists.specs.Keyed.{countBy, insertAfterBy, removeBy, updateBy}
-use Rattle.graph.specs.Edits.{WordsFit}
+use Rattle.graph.specs.Edits.{Insertable}
 use Rattle.graph.specs.Graph.{Vertex, Edge, vertexNumber, noVertex, vertexIn, listIn}
 use Rattle.graph.specs.Changes.{withVertex}
 use Rattle.graph.specs.WellFormed.{Ordered}
 use Rattle.graph.proofs.Orders.{find-kept, find-move, count-move}
 use Rattle.graph.proofs.Incidence.{list-ins, list-rem}
-use Rattle.graph_tables.specs.Tables.{State, vertexLinks, vertexPlace, VertexRowIn, vertexListEnds, rowVT, moveT, CanMove, setVertexS, moveVertexS, insertVertexS, removeVertexS, CanRemoveVertex}
+use Rattle.graph_tables.specs.Tables.{State, vertexLinks, vertexPlace, VertexRowIn, vertexListEnds, rowVT, setVertexS, moveVertexS, insertVertexS, removeVertexS, CanRemoveVertex}
 use Rattle.graph_tables.specs.Holds.{VRows, Lists, DisjointLists, Core}
 use Rattle.graph_tables.proofs.Keys.{keys-upd, length-upd, length-ins, length-rem}
 use Rattle.graph_tables.proofs.Sequences.{can-take, held-taken, can-put, held-put, can-move, held-move, move-v, Anew, anew-put, anew-taken, anew-set}
@@ -157,7 +157,7 @@ module _ (n p : ℕ) (s : State) (vs : List Vertex) (es : List Edge) (c : Core s
 
 -- ---- a vertex put in
 
-module _ (n t x p : ℕ) (s : State) (vs : List Vertex) (es : List Edge) (c : Core s vs es) (f : WordsFit vertexNumber vs n p) (i : VertexRowIn (s .vertices) n) where
+module _ (n t x p : ℕ) (s : State) (vs : List Vertex) (es : List Edge) (c : Core s vs es) (f : Insertable vertexNumber vs n p) (i : VertexRowIn (s .vertices) n) where
   abbrev new : Vertex
   new = record { number = n; type = t; value = x; incidences = [] }
 

@@ -13,6 +13,7 @@ use Rattle.graph.specs.declared.Edit.the-variants.{
   MoveEdge,
   MoveWord,
 }
+use Rattle.linked_lists.specs.Links.{CanMove}
 use Rattle.graph_tables.specs.Tables.{
   State,
   vertexLinks,
@@ -21,7 +22,6 @@ use Rattle.graph_tables.specs.Tables.{
   edgeListEnds,
   VertexRowIn,
   EdgeRowIn,
-  CanMove,
   setVertexS,
   moveVertexS,
   insertVertexS,

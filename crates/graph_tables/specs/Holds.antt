@@ -3,7 +3,7 @@ use Prim.Native.Nat.{ℕ, _+_, _≤_}
 use mathlib.Core.Path.{_≡_}
 use mathlib.Core.Logic.{_≢_}
 use mathlib.Core.List.{List, map}
-use lib.ListN.{length, getD}
+use lib.ListN.{length}
 use Rattle.linked_lists.specs.Links.{Held}
 use Rattle.lists.specs.Keyed.{countBy}
 use Rattle.graph.specs.Graph.{
@@ -21,20 +21,22 @@ use Rattle.graph.specs.Graph.{
   decimetres,
 }
 use Rattle.graph.specs.WellFormed.{WellFormed}
-use Rattle.graph_tables.specs.Tables.{State, vertexLinks, edgeLinks, incidenceLinks, vertexPlace, edgePlace}
-use Rattle.graph_tables.specs.Tables.{halfPlace, vertexListEnds, edgeListEnds, endsAt}
+use Rattle.graph_tables.specs.declared.Head.{Head}
+use Rattle.graph_tables.specs.Tables.{State, state, vertexLinks, edgeLinks, incidenceLinks, vertexListEnds}
+use Rattle.graph_tables.specs.Tables.{edgeListEnds, endsAt, vlive, vtype, vvalue, elive, etype, ekind}
+use Rattle.graph_tables.specs.Tables.{edecimetres, wthis}
 
 -- the words of a vertex, and of an edge; a number that is not in the graph has the words of none, which are 0
 pub record VRow (vertices : List ℕ) (v n : ℕ) (x : Vertex) : Type 0 where
-  pub live : getD vertices (vertexPlace 0 v) 0 ≡ n
-  pub type : getD vertices (vertexPlace 1 v) 0 ≡ x .type
-  pub value : getD vertices (vertexPlace 2 v) 0 ≡ x .value
+  pub live : vlive vertices v ≡ n
+  pub type : vtype vertices v ≡ x .type
+  pub value : vvalue vertices v ≡ x .value
 
 pub record ERow (edges : List ℕ) (e n : ℕ) (x : Edge) : Type 0 where
-  pub live : getD edges (edgePlace 3 e) 0 ≡ n
-  pub type : getD edges (edgePlace 4 e) 0 ≡ x .type
-  pub kind : getD edges (edgePlace 5 e) 0 ≡ readingKind (x .reading)
-  pub decimetres : getD edges (edgePlace 9 e) 0 ≡ decimetres (x .reading)
+  pub live : elive edges e ≡ n
+  pub type : etype edges e ≡ x .type
+  pub kind : ekind edges e ≡ readingKind (x .reading)
+  pub decimetres : edecimetres edges e ≡ decimetres (x .reading)
 
 -- the row of every number from 1 on, whether it is in the graph or not: its live word is 1 or 0
 abbrev pub VRows : List ℕ → List Vertex → Type 0
@@ -46,7 +48,7 @@ ERows edges es = (e : ℕ) → 1 ≤ e → ERow edges e (countBy edgeNumber e es
 
 -- the this of every oriented word from 2 on, 0 where its edge is not in the graph
 abbrev pub ThisEntries : List ℕ → List Edge → Type 0
-ThisEntries edges es = (w : ℕ) → 2 ≤ w → getD edges (halfPlace 2 w) 0 ≡ thisIn es w
+ThisEntries edges es = (w : ℕ) → 2 ≤ w → wthis edges w ≡ thisIn es w
 
 -- the incidence list of every number from 1 on, empty where it is not in the graph
 abbrev pub Lists : List ℕ → List ℕ → List Vertex → Type 0
@@ -71,3 +73,17 @@ pub record Core (s : State) (vs : List Vertex) (es : List Edge) : Type 0 where
 pub record Holds (s : State) (g : Graph) : Type 0 where
   pub core : Core s (g .vseq) (g .eseq)
   pub sound : WellFormed g
+
+-- ---- a table alone
+
+-- the two tables hold g, with some head: look-ups do not read it
+abbrev pub HoldsVE : List ℕ → List ℕ → Graph → Type 0
+HoldsVE vertices edges g = (h : Head) × Holds (state h vertices edges) g
+
+-- the vertex table holds the vertices of g, with some edge table
+abbrev pub HoldsV : List ℕ → Graph → Type 0
+HoldsV vertices g = (edges : List ℕ) × HoldsVE vertices edges g
+
+-- the edge table holds the edges of g, with some vertex table
+abbrev pub HoldsE : List ℕ → Graph → Type 0
+HoldsE edges g = (vertices : List ℕ) × HoldsVE vertices edges g

@@ -7,13 +7,14 @@ use denote.Ref.{now}
 use Rattle.lists.specs.Slices.{Slice}
 use Rattle.linked_lists.specs.declared.LinkLayout.{LinkLayout}
 use Rattle.linked_lists.specs.declared.Ends.{Ends}
-use Rattle.linked_lists.specs.Links.{unlinkT, unlinkE, insertT, insertE, CanUnlink, CanInsert}
+use Rattle.linked_lists.specs.Links.{unlinkT, unlinkE, insertT, insertE, moveT, moveE, CanUnlink, CanInsert}
 use Rattle.graph.specs.declared.Reading.{Reading}
 use Rattle.graph.specs.declared.Reading.the-variants.{Untested}
 use lib.Dec.{ltb}
 use Rattle.lists.specs.Choice.{_⇒_else_, _==_}
 use Rattle.graph.specs.Graph.{readingKind, decimetres, readingOf}
 use Rattle.graph_tables.specs.declared.Head.{Head}
+use Rattle.graph_tables.specs.declared.EdgeFields.{EdgeFields}
 use Rattle.graph_tables.specs.declared.Lookup.{Lookup}
 use Rattle.graph_tables.specs.declared.Lookup.the-variants.{Found, Missing}
 
@@ -39,52 +40,78 @@ edgePlace f e = 12 * e - 12 + f
 abbrev pub halfPlace : ℕ → ℕ → ℕ
 halfPlace f w = 6 * w - 12 + f
 
+-- the word that stands there
+abbrev pub vertexField : ℕ → List ℕ → ℕ → ℕ
+vertexField f vertices v = getD vertices (vertexPlace f v) 0
+
+abbrev pub edgeField : ℕ → List ℕ → ℕ → ℕ
+edgeField f edges e = getD edges (edgePlace f e) 0
+
+abbrev pub halfField : ℕ → List ℕ → ℕ → ℕ
+halfField f edges w = getD edges (halfPlace f w) 0
+
 -- the words by name
+abbrev pub vlive : List ℕ → ℕ → ℕ
+vlive vertices v = vertexField 0 vertices v
+
 abbrev pub vtype : List ℕ → ℕ → ℕ
-vtype vertices v = getD vertices (vertexPlace 1 v) 0
+vtype vertices v = vertexField 1 vertices v
 
 abbrev pub vvalue : List ℕ → ℕ → ℕ
-vvalue vertices v = getD vertices (vertexPlace 2 v) 0
+vvalue vertices v = vertexField 2 vertices v
 
 abbrev pub vfirst : List ℕ → ℕ → ℕ
-vfirst vertices v = getD vertices (vertexPlace 3 v) 0
+vfirst vertices v = vertexField 3 vertices v
 
 abbrev pub vlast : List ℕ → ℕ → ℕ
-vlast vertices v = getD vertices (vertexPlace 4 v) 0
+vlast vertices v = vertexField 4 vertices v
 
 abbrev pub vprev : List ℕ → ℕ → ℕ
-vprev vertices v = getD vertices (vertexPlace 6 v) 0
+vprev vertices v = vertexField 6 vertices v
 
 abbrev pub vnext : List ℕ → ℕ → ℕ
-vnext vertices v = getD vertices (vertexPlace 7 v) 0
+vnext vertices v = vertexField 7 vertices v
+
+abbrev pub elive : List ℕ → ℕ → ℕ
+elive edges e = edgeField 3 edges e
 
 abbrev pub etype : List ℕ → ℕ → ℕ
-etype edges e = getD edges (edgePlace 4 e) 0
+etype edges e = edgeField 4 edges e
 
 abbrev pub ekind : List ℕ → ℕ → ℕ
-ekind edges e = getD edges (edgePlace 5 e) 0
+ekind edges e = edgeField 5 edges e
 
 abbrev pub edecimetres : List ℕ → ℕ → ℕ
-edecimetres edges e = getD edges (edgePlace 9 e) 0
+edecimetres edges e = edgeField 9 edges e
 
 abbrev pub eprev : List ℕ → ℕ → ℕ
-eprev edges e = getD edges (edgePlace 10 e) 0
+eprev edges e = edgeField 10 edges e
 
 abbrev pub enext : List ℕ → ℕ → ℕ
-enext edges e = getD edges (edgePlace 11 e) 0
+enext edges e = edgeField 11 edges e
 
 abbrev pub wprev : List ℕ → ℕ → ℕ
-wprev edges w = getD edges (halfPlace 0 w) 0
+wprev edges w = halfField 0 edges w
 
 abbrev pub wnext : List ℕ → ℕ → ℕ
-wnext edges w = getD edges (halfPlace 1 w) 0
+wnext edges w = halfField 1 edges w
 
 abbrev pub wthis : List ℕ → ℕ → ℕ
-wthis edges w = getD edges (halfPlace 2 w) 0
+wthis edges w = halfField 2 edges w
 
 -- the reading of edge e
 abbrev pub readingAt : List ℕ → ℕ → Reading
 readingAt edges e = readingOf (ekind edges e) (edecimetres edges e)
+
+-- the words of edge e together: alpha is this of its out half, omega this of its in half
+abbrev pub edgeFields : List ℕ → ℕ → EdgeFields
+edgeFields edges e = record {
+  alpha = wthis edges (2 * e);
+  omega = wthis edges (2 * e + 1);
+  sort = etype edges e;
+  kind = ekind edges e;
+  decimetres = edecimetres edges e;
+}
 
 -- the head and the two tables
 pub record State : Type 0 where
@@ -140,7 +167,7 @@ HalfRowIn edges w = (2 ≤ w) × (6 * w ≤ length edges + 6)
 
 -- the ends of v's incidence list
 abbrev pub endsAt : List ℕ → ℕ → Ends
-endsAt vertices v = record { first = getD vertices (vertexPlace 3 v) 0; last = getD vertices (vertexPlace 4 v) 0 }
+endsAt vertices v = record { first = vfirst vertices v; last = vlast vertices v }
 
 unfoldable pub putEnds : ℕ → Ends → List ℕ → List ℕ
 putEnds v e vertices = set (set vertices (vertexPlace 3 v) (e .first)) (vertexPlace 4 v) (e .last)
@@ -156,17 +183,7 @@ cleared vertices edges = state noHead (replicate (length vertices) 0) (replicate
 
 -- ---- the steps
 
--- a node taken out and put in after p
-unfoldable pub moveT : LinkLayout → ℕ → ℕ → List ℕ → Ends → List ℕ
-moveT layout n p t e = insertT layout (unlinkT layout t e n) (unlinkE layout t e n) p n
-
-unfoldable pub moveE : LinkLayout → ℕ → ℕ → List ℕ → Ends → Ends
-moveE layout n p t e = insertE layout (unlinkT layout t e n) (unlinkE layout t e n) p n
-
-pub record CanMove (layout : LinkLayout) (n p : ℕ) (t : List ℕ) (e : Ends) : Type 0 where
-  pub out : CanUnlink layout t e n
-  pub back : CanInsert layout (unlinkT layout t e n) (unlinkE layout t e n) p n
-
+-- vertex n moved to after p in Vseq
 unfoldable pub moveVertexS : ℕ → ℕ → State → State
 moveVertexS n p s = state (withVertexEnds (moveE vertexLinks n p (s .vertices) (vertexListEnds (s .head))) (s .head))
     (moveT vertexLinks n p (s .vertices) (vertexListEnds (s .head))) (s .edges)
@@ -198,7 +215,7 @@ moveWordS w v u p s = setThisS w u (attachS u p w (detachS v w s))
 
 pub record CanMoveWord (w v u p : ℕ) (s : State) : Type 0 where
   pub here : HalfRowIn (s .edges) w
-  pub this : getD (s .edges) (halfPlace 2 w) 0 ≡ v
+  pub this : wthis (s .edges) w ≡ v
   pub out : CanDetach v w s
   pub back : CanAttach u p w (detachS v w s)
 

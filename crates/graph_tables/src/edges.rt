@@ -3,24 +3,23 @@
 use crate::EdgeRecord;
 use crate::Head;
 use crate::Places;
+use crate::fields::EDGE_LINKS;
 use crate::incidence::attach;
 use crate::incidence::detach;
 use crate::rows::put_edge;
 use crate::rows::put_fields;
 use crate::rows::put_this;
-use crate::vertices::relink;
 use graph::Reading;
 use linked_lists::Ends;
-use linked_lists::LinkLayout;
 ghost use mathlib.Core.Path.{_≡_};
 ghost use Prim.Native.Nat.{_^_, _<_};
+ghost use Rattle.linked_lists.specs.Links.{CanMove};
 ghost use Rattle.graph.specs.Graph.{readingOf, IsWords};
 ghost use Rattle.graph_tables.specs.Tables.{
   state,
   edgeListEnds,
   edgeLinks,
   EdgeRowIn,
-  CanMove,
   setEdgeS,
   entryState,
   exitState,
@@ -68,12 +67,9 @@ pub fn move_edge(head: Head, vertices: &[u32], edges: &mut [u32], n: u32, p: u32
     ensures { λ r. ⌜ state r (now (vertices .entry)) (now (edges .exit)) ≡ moveEdgeS n p
         (entryState head vertices edges) ⌝ }
 {
-    let e = relink(
+    let e = linked_lists::relink(
         edges,
-        LinkLayout {
-            stride: 12,
-            offset: 2,
-        },
+        EDGE_LINKS,
         Ends {
             first: head.efirst,
             last: head.elast,
@@ -101,10 +97,7 @@ pub fn place_edge(head: Head, vertices: &[u32], edges: &mut [u32], edge: EdgeRec
     let r = edge.reading;
     let e = linked_lists::insert_after(
         edges,
-        LinkLayout {
-            stride: 12,
-            offset: 2,
-        },
+        EDGE_LINKS,
         Ends {
             first: head.efirst,
             last: head.elast,
@@ -131,10 +124,7 @@ fn drop_edge(head: Head, vertices: &[u32], edges: &mut [u32], n: u32) -> Head
 {
     let e = linked_lists::unlink(
         edges,
-        LinkLayout {
-            stride: 12,
-            offset: 2,
-        },
+        EDGE_LINKS,
         Ends {
             first: head.efirst,
             last: head.elast,

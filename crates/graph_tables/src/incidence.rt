@@ -1,9 +1,10 @@
 // Words put into incidence lists, taken out and moved.
 // A caller has tables that hold a graph to which the edit applies, or lists that are held: `Can` of the edit.
 use crate::Head;
+use crate::fields::HALF_THIS;
+use crate::fields::INCIDENCE_LINKS;
 use crate::rows::ends_of;
 use crate::rows::put_ends;
-use linked_lists::LinkLayout;
 ghost use mathlib.Core.Path.{_≡_};
 ghost use Rattle.graph_tables.specs.Tables.{
   state,
@@ -25,15 +26,7 @@ pub fn detach(head: Head, vertices: &mut [u32], edges: &mut [u32], v: u32, w: u3
     ensures { λ _. ⌜ exitState head vertices edges ≡ detachS v w (entryState head vertices edges) ⌝ }
 {
     let e = ends_of(vertices, v);
-    let r = linked_lists::unlink(
-        edges,
-        LinkLayout {
-            stride: 6,
-            offset: 12,
-        },
-        e,
-        w,
-    );
+    let r = linked_lists::unlink(edges, INCIDENCE_LINKS, e, w);
     put_ends(vertices, v, r);
 }
 
@@ -43,16 +36,7 @@ pub fn attach(head: Head, vertices: &mut [u32], edges: &mut [u32], v: u32, p: u3
     ensures { λ _. ⌜ exitState head vertices edges ≡ attachS v p w (entryState head vertices edges) ⌝ }
 {
     let e = ends_of(vertices, v);
-    let r = linked_lists::insert_after(
-        edges,
-        LinkLayout {
-            stride: 6,
-            offset: 12,
-        },
-        e,
-        p,
-        w,
-    );
+    let r = linked_lists::insert_after(edges, INCIDENCE_LINKS, e, p, w);
     put_ends(vertices, v, r);
 }
 
@@ -61,7 +45,7 @@ fn set_this(head: Head, vertices: &[u32], edges: &mut [u32], w: u32, u: u32)
     ensures { λ _. ⌜ state head (now (vertices .entry)) (now (edges .exit)) ≡ setThisS w u
         (entryState head vertices edges) ⌝ }
 {
-    edges[6 * (w as usize) - 12 + 2] = u;
+    edges[6 * (w as usize) - 12 + HALF_THIS] = u;
 }
 
 // Takes word w out of v's list and puts it into u's after p.

@@ -3,13 +3,13 @@ use graph::Reading;
 ghost use mathlib.Core.Path.{_≡_};
 
 pub mod clear; // the empty graph
+pub mod fields; // the words of a row by name
 pub mod rows; // the words of one vertex and of one edge
 pub mod incidence; // words put into incidence lists, taken out and moved
 pub mod vertices; // vertices put in, taken out, set and moved
 pub mod edges; // edges put in, taken out, set and moved
 pub mod edits; // the nine edits
 pub mod lookups; // is a number in the graph
-pub mod choice; // a choice between two words
 
 // Ends of the two orders (0 is none), and how many vertices and edges there are.
 pub struct Head {
@@ -28,6 +28,15 @@ pub struct EdgeRecord {
     pub omega: u32,
     pub sort: u32,
     pub reading: Reading,
+}
+
+// What the row of an edge says of it, as words: its ends, its type, and kind and decimetres of its reading.
+pub struct EdgeFields {
+    pub alpha: u32,
+    pub omega: u32,
+    pub sort: u32,
+    pub kind: u32,
+    pub decimetres: u32,
 }
 
 // Where an edge is put in: after which edge of Eseq, and after which words of the two incidence lists.

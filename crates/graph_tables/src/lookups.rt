@@ -1,5 +1,7 @@
 // Is a number in the graph, and where does its row start. Any number may be asked for; 0 less 1 is past every row.
 use crate::Lookup;
+use crate::fields::EDGE_LIVE;
+use crate::fields::VERTEX_LIVE;
 use std::num::wrapping_sub_usize;
 ghost use mathlib.Core.Path.{_≡_};
 ghost use Prim.Native.Nat.{_/_};
@@ -14,7 +16,7 @@ pub fn find_vertex(vertices: &[u32], v: u32) -> Lookup
         return Lookup::Missing;
     }
     let at = 8 * n - 8;
-    if vertices[at + 0] == 0 {
+    if vertices[at + VERTEX_LIVE] == 0 {
         return Lookup::Missing;
     }
     Lookup::Found(at)
@@ -29,7 +31,7 @@ pub fn find_edge(edges: &[u32], e: u32) -> Lookup
         return Lookup::Missing;
     }
     let at = 12 * n - 12;
-    if edges[at + 3] == 0 {
+    if edges[at + EDGE_LIVE] == 0 {
         return Lookup::Missing;
     }
     Lookup::Found(at)

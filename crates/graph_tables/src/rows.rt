@@ -1,108 +1,58 @@
 // The words of one vertex and of one edge.
 // A caller has a number whose row is in the table: it looked the name up, or the tables hold a graph that has it.
+use crate::EdgeFields;
+use crate::fields::EDGE_ALPHA;
+use crate::fields::EDGE_DECIMETRES;
+use crate::fields::EDGE_KIND;
+use crate::fields::EDGE_LIVE;
+use crate::fields::EDGE_OMEGA;
+use crate::fields::EDGE_TYPE;
+use crate::fields::HALF_NEXT;
+use crate::fields::HALF_THIS;
+use crate::fields::VERTEX_FIRST;
+use crate::fields::VERTEX_LAST;
+use crate::fields::VERTEX_LIVE;
+use crate::fields::VERTEX_TYPE;
+use crate::fields::VERTEX_VALUE;
 use graph::Reading;
 use linked_lists::Ends;
 ghost use mathlib.Core.Path.{_≡_};
+ghost use Prim.Native.Nat.{_<_};
 ghost use Rattle.graph.specs.Graph.{readingKind, decimetres, readingOf, IsWords};
-ghost use Rattle.graph_tables.specs.Tables.{VertexRowIn, EdgeRowIn, HalfRowIn, vtype, vvalue, vfirst, vlast};
-ghost use Rattle.graph_tables.specs.Tables.{vprev, etype, ekind};
-ghost use Rattle.graph_tables.specs.Tables.{edecimetres, eprev, wprev, wnext, wthis, readingAt, endsAt};
-ghost use Rattle.graph_tables.specs.Tables.{putEnds, rowVT, rowET, thisET};
+ghost use Rattle.graph_tables.specs.Tables.{VertexRowIn, EdgeRowIn, HalfRowIn, vertexField, edgeField};
+ghost use Rattle.graph_tables.specs.Tables.{halfField, wnext, readingAt, edgeFields, endsAt, putEnds};
+ghost use Rattle.graph_tables.specs.Tables.{rowVT, rowET, thisET};
 
-// The type of vertex v.
-pub fn vertex_type(vertices: &[u32], v: u32) -> u32
-    requires { ⌜ VertexRowIn (now vertices) v ⌝ }
-    ensures { λ r. ⌜ r ≡ vtype (now (vertices .entry)) v ⌝ }
+// Word `field` of the row of vertex v.
+pub fn vertex_field(vertices: &[u32], v: u32, field: usize) -> u32
+    requires { ⌜ VertexRowIn (now vertices) v × (field < 8) ⌝ }
+    ensures { λ r. ⌜ r ≡ vertexField field (now (vertices .entry)) v ⌝ }
 {
-    vertices[8 * (v as usize) - 8 + 1]
+    vertices[8 * (v as usize) - 8 + field]
 }
 
-// The value of vertex v.
-pub fn vertex_value(vertices: &[u32], v: u32) -> u32
-    requires { ⌜ VertexRowIn (now vertices) v ⌝ }
-    ensures { λ r. ⌜ r ≡ vvalue (now (vertices .entry)) v ⌝ }
+// Word `field` of the row of edge e.
+pub fn edge_field(edges: &[u32], e: u32, field: usize) -> u32
+    requires { ⌜ EdgeRowIn (now edges) e × (field < 12) ⌝ }
+    ensures { λ r. ⌜ r ≡ edgeField field (now (edges .entry)) e ⌝ }
 {
-    vertices[8 * (v as usize) - 8 + 2]
+    edges[12 * (e as usize) - 12 + field]
 }
 
-// The first word of v's incidence list.
-pub fn first_word(vertices: &[u32], v: u32) -> u32
-    requires { ⌜ VertexRowIn (now vertices) v ⌝ }
-    ensures { λ r. ⌜ r ≡ vfirst (now (vertices .entry)) v ⌝ }
+// Word `field` of the half of oriented word w.
+pub fn half_field(edges: &[u32], w: u32, field: usize) -> u32
+    requires { ⌜ HalfRowIn (now edges) w × (field < 6) ⌝ }
+    ensures { λ r. ⌜ r ≡ halfField field (now (edges .entry)) w ⌝ }
 {
-    vertices[8 * (v as usize) - 8 + 3]
+    edges[6 * (w as usize) - 12 + field]
 }
 
-// The last word of v's incidence list.
-pub fn last_word(vertices: &[u32], v: u32) -> u32
-    requires { ⌜ VertexRowIn (now vertices) v ⌝ }
-    ensures { λ r. ⌜ r ≡ vlast (now (vertices .entry)) v ⌝ }
-{
-    vertices[8 * (v as usize) - 8 + 4]
-}
-
-// The vertex before v in Vseq.
-pub fn vertex_prev(vertices: &[u32], v: u32) -> u32
-    requires { ⌜ VertexRowIn (now vertices) v ⌝ }
-    ensures { λ r. ⌜ r ≡ vprev (now (vertices .entry)) v ⌝ }
-{
-    vertices[8 * (v as usize) - 8 + 6]
-}
-
-// The type of edge e.
-pub fn edge_type(edges: &[u32], e: u32) -> u32
-    requires { ⌜ EdgeRowIn (now edges) e ⌝ }
-    ensures { λ r. ⌜ r ≡ etype (now (edges .entry)) e ⌝ }
-{
-    edges[12 * (e as usize) - 12 + 4]
-}
-
-// The kind of e's reading.
-pub fn reading_kind(edges: &[u32], e: u32) -> u32
-    requires { ⌜ EdgeRowIn (now edges) e ⌝ }
-    ensures { λ r. ⌜ r ≡ ekind (now (edges .entry)) e ⌝ }
-{
-    edges[12 * (e as usize) - 12 + 5]
-}
-
-// The decimetres of e's reading.
-pub fn reading_decimetres(edges: &[u32], e: u32) -> u32
-    requires { ⌜ EdgeRowIn (now edges) e ⌝ }
-    ensures { λ r. ⌜ r ≡ edecimetres (now (edges .entry)) e ⌝ }
-{
-    edges[12 * (e as usize) - 12 + 9]
-}
-
-// The edge before e in Eseq.
-pub fn edge_prev(edges: &[u32], e: u32) -> u32
-    requires { ⌜ EdgeRowIn (now edges) e ⌝ }
-    ensures { λ r. ⌜ r ≡ eprev (now (edges .entry)) e ⌝ }
-{
-    edges[12 * (e as usize) - 12 + 10]
-}
-
-// The word before w in its list.
-pub fn word_prev(edges: &[u32], w: u32) -> u32
-    requires { ⌜ HalfRowIn (now edges) w ⌝ }
-    ensures { λ r. ⌜ r ≡ wprev (now (edges .entry)) w ⌝ }
-{
-    edges[6 * (w as usize) - 12 + 0]
-}
-
-// The word after w in its list.
+// The word after w in its list: the step of a cursor, which is walked by hand and has no field as a parameter.
 pub fn word_next(edges: &[u32], w: u32) -> u32
     requires { ⌜ HalfRowIn (now edges) w ⌝ }
     ensures { λ r. ⌜ r ≡ wnext (now (edges .entry)) w ⌝ }
 {
-    edges[6 * (w as usize) - 12 + 1]
-}
-
-// The vertex that word w is seen from.
-pub fn this(edges: &[u32], w: u32) -> u32
-    requires { ⌜ HalfRowIn (now edges) w ⌝ }
-    ensures { λ r. ⌜ r ≡ wthis (now (edges .entry)) w ⌝ }
-{
-    edges[6 * (w as usize) - 12 + 2]
+    edges[6 * (w as usize) - 12 + HALF_NEXT]
 }
 
 // The ends of v's incidence list.
@@ -111,8 +61,8 @@ pub fn ends_of(vertices: &[u32], v: u32) -> Ends
     ensures { λ r. ⌜ r ≡ endsAt (now (vertices .entry)) v ⌝ }
 {
     let at = 8 * (v as usize) - 8;
-    let first = vertices[at + 3];
-    let last = vertices[at + 4];
+    let first = vertices[at + VERTEX_FIRST];
+    let last = vertices[at + VERTEX_LAST];
     Ends { first, last }
 }
 
@@ -122,8 +72,8 @@ pub fn put_ends(vertices: &mut [u32], v: u32, ends: Ends)
     ensures { λ _. ⌜ now (vertices .exit) ≡ putEnds v ends (now (vertices .entry)) ⌝ }
 {
     let at = 8 * (v as usize) - 8;
-    vertices[at + 3] = ends.first;
-    vertices[at + 4] = ends.last;
+    vertices[at + VERTEX_FIRST] = ends.first;
+    vertices[at + VERTEX_LAST] = ends.last;
 }
 
 // Writes v's own words: whether it is there, type and value.
@@ -132,9 +82,9 @@ pub fn put_vertex(vertices: &mut [u32], v: u32, live: u32, sort: u32, value: u32
     ensures { λ _. ⌜ now (vertices .exit) ≡ rowVT v live sort value (now (vertices .entry)) ⌝ }
 {
     let at = 8 * (v as usize) - 8;
-    vertices[at + 0] = live;
-    vertices[at + 1] = sort;
-    vertices[at + 2] = value;
+    vertices[at + VERTEX_LIVE] = live;
+    vertices[at + VERTEX_TYPE] = sort;
+    vertices[at + VERTEX_VALUE] = value;
 }
 
 pub fn kind_of(reading: Reading) -> u32
@@ -175,9 +125,28 @@ pub fn reading_at(edges: &[u32], e: u32) -> Reading
     requires { ⌜ EdgeRowIn (now edges) e ⌝ }
     ensures { λ r. ⌜ r ≡ readingAt (now (edges .entry)) e ⌝ }
 {
-    let k = reading_kind(edges, e);
-    let d = reading_decimetres(edges, e);
+    let k = edge_field(edges, e, EDGE_KIND);
+    let d = edge_field(edges, e, EDGE_DECIMETRES);
     reading_of(k, d)
+}
+
+// What the row of edge e says of it. Save, removal and the edits of type and reading read an edge by this.
+pub fn edge_fields(edges: &[u32], e: u32) -> EdgeFields
+    requires { ⌜ EdgeRowIn (now edges) e ⌝ }
+    ensures { λ r. ⌜ r ≡ edgeFields (now (edges .entry)) e ⌝ }
+{
+    let alpha = edge_field(edges, e, EDGE_ALPHA);
+    let omega = edge_field(edges, e, EDGE_OMEGA);
+    let sort = edge_field(edges, e, EDGE_TYPE);
+    let kind = edge_field(edges, e, EDGE_KIND);
+    let decimetres = edge_field(edges, e, EDGE_DECIMETRES);
+    EdgeFields {
+        alpha,
+        omega,
+        sort,
+        kind,
+        decimetres,
+    }
 }
 
 // Writes e's own words: whether it is there, type and reading.
@@ -188,23 +157,23 @@ pub fn put_edge(edges: &mut [u32], e: u32, live: u32, sort: u32, reading: Readin
     let k = kind_of(reading);
     let d = decimetres_of(reading);
     let at = 12 * (e as usize) - 12;
-    edges[at + 3] = live;
-    edges[at + 4] = sort;
-    edges[at + 5] = k;
-    edges[at + 9] = d;
+    edges[at + EDGE_LIVE] = live;
+    edges[at + EDGE_TYPE] = sort;
+    edges[at + EDGE_KIND] = k;
+    edges[at + EDGE_DECIMETRES] = d;
 }
 
-// Writes type and reading of e, which is there. The two words of a reading are written as they stand, so that no branch
-// asks for its kind.
+// Makes e live, with its type and reading. The two words of a reading are written as they stand, so that no branch asks
+// for its kind.
 pub fn put_fields(edges: &mut [u32], e: u32, sort: u32, kind: u32, heard: u32)
     requires { ⌜ EdgeRowIn (now edges) e × IsWords kind heard ⌝ }
     ensures { λ _. ⌜ now (edges .exit) ≡ rowET e 1 sort (readingOf kind heard) (now (edges .entry)) ⌝ }
 {
     let at = 12 * (e as usize) - 12;
-    edges[at + 3] = 1;
-    edges[at + 4] = sort;
-    edges[at + 5] = kind;
-    edges[at + 9] = heard;
+    edges[at + EDGE_LIVE] = 1;
+    edges[at + EDGE_TYPE] = sort;
+    edges[at + EDGE_KIND] = kind;
+    edges[at + EDGE_DECIMETRES] = heard;
 }
 
 // Writes e's two ends.
@@ -213,6 +182,6 @@ pub fn put_this(edges: &mut [u32], e: u32, a: u32, z: u32)
     ensures { λ _. ⌜ now (edges .exit) ≡ thisET e a z (now (edges .entry)) ⌝ }
 {
     let w = 2 * (e as usize);
-    edges[6 * w - 12 + 2] = a;
-    edges[6 * (w + 1) - 12 + 2] = z;
+    edges[6 * w - 12 + HALF_THIS] = a;
+    edges[6 * (w + 1) - 12 + HALF_THIS] = z;
 }

@@ -1,20 +1,19 @@
 // Vertices put in, taken out, set and moved.
 // A caller has tables that hold a graph to which the edit applies, or lists that are held: `Can` of the edit.
 use crate::Head;
+use crate::fields::VERTEX_LINKS;
 use crate::rows::put_vertex;
 use linked_lists::Ends;
-use linked_lists::LinkLayout;
 ghost use mathlib.Core.Path.{_≡_};
+ghost use Rattle.linked_lists.specs.Links.{CanMove};
 ghost use Rattle.graph_tables.specs.Tables.{
   state,
   vertexListEnds,
   vertexLinks,
   VertexRowIn,
-  moveT,
-  moveE,
   entryState,
 };
-ghost use Rattle.graph_tables.specs.Tables.{CanMove, setVertexS, moveVertexS};
+ghost use Rattle.graph_tables.specs.Tables.{setVertexS, moveVertexS};
 ghost use Rattle.graph_tables.specs.Tables.{insertVertexS, CanInsertVertex, removeVertexS, CanRemoveVertex};
 
 // Sets type and value of v.
@@ -26,28 +25,15 @@ pub fn set_vertex(head: Head, vertices: &mut [u32], edges: &[u32], v: u32, sort:
     put_vertex(vertices, v, 1, sort, value);
 }
 
-// Takes node n out and puts it after p.
-pub fn relink(table: &mut [u32], layout: LinkLayout, ends: Ends, n: u32, p: u32) -> Ends
-    requires { ⌜ CanMove layout n p (now table) ends ⌝ }
-    ensures { λ r. ⌜ (now (table .exit) ≡ moveT layout n p (now (table .entry)) ends)
-        × (r ≡ moveE layout n p (now (table .entry)) ends) ⌝ }
-{
-    let o = linked_lists::unlink(table, layout, ends, n);
-    linked_lists::insert_after(table, layout, o, p, n)
-}
-
 // Puts vertex n after p in Vseq.
 pub fn move_vertex(head: Head, vertices: &mut [u32], edges: &[u32], n: u32, p: u32) -> Head
     requires { ⌜ CanMove vertexLinks n p (now vertices) (vertexListEnds head) ⌝ }
     ensures { λ r. ⌜ state r (now (vertices .exit)) (now (edges .entry)) ≡ moveVertexS n p
         (entryState head vertices edges) ⌝ }
 {
-    let e = relink(
+    let e = linked_lists::relink(
         vertices,
-        LinkLayout {
-            stride: 8,
-            offset: 2,
-        },
+        VERTEX_LINKS,
         Ends {
             first: head.vfirst,
             last: head.vlast,
@@ -81,10 +67,7 @@ pub fn insert_vertex(
 {
     let e = linked_lists::insert_after(
         vertices,
-        LinkLayout {
-            stride: 8,
-            offset: 2,
-        },
+        VERTEX_LINKS,
         Ends {
             first: head.vfirst,
             last: head.vlast,
@@ -111,10 +94,7 @@ pub fn remove_vertex(head: Head, vertices: &mut [u32], edges: &[u32], n: u32) ->
 {
     let e = linked_lists::unlink(
         vertices,
-        LinkLayout {
-            stride: 8,
-            offset: 2,
-        },
+        VERTEX_LINKS,
         Ends {
             first: head.vfirst,
             last: head.vlast,

@@ -2,22 +2,16 @@
 // A caller has a store and lent words that stand for a machine; any call may be asked for.
 use commands::Answer;
 use commands::HistoryCall;
-use graph::MOST_BENCHES;
 use graph_tables::Head;
-use marks::codes::both_code;
-use marks::codes::name_code;
-use marks::codes::new_code;
 use marks::codes::standing_code;
 use timeline::Current;
 use timeline::Position;
 ghost use mathlib.Core.Path.{_≡_};
 ghost use Prim.Native.Nat.{ℕ, _^_, _<_};
-ghost use mathlib.Core.List.{List};
 ghost use lib.ListN.{length};
 ghost use Rattle.graph.specs.Graph.{Graph};
 ghost use Rattle.graph.specs.WellFormed.{Bounds, Within};
-ghost use Rattle.history.specs.Machine.{fresh, name, Step, stepsBetween, madeBy};
-ghost use Rattle.timeline.specs.Steps.{Behind};
+ghost use Rattle.history.specs.Machine.{fresh};
 ghost use Rattle.marks.specs.Marked.{markWords};
 ghost use Rattle.graph_tables.specs.Holds.{Holds};
 ghost use Rattle.graph_tables.specs.Capacities.{Sized};
@@ -27,23 +21,15 @@ ghost use Rattle.lists.specs.Choice.{_⇒_else_, _==_};
 ghost use Rattle.history_calls.specs.Outcomes.{
   done,
   begunAt,
-  markSet,
-  placesSet,
-  markDropped,
-  committed,
-  betweenMarks,
-  marksStanding,
   changesFree,
-  markNamed,
-  namesSet,
-  benchCode,
-  benchSet,
-  madeCode,
   Leads,
   wayTo,
   wayOf,
   Leaves,
 };
+
+pub mod benches; // kinds 58 and 59
+pub mod mark_calls; // kinds 17, 18, 22, 49, 50 and 56
 
 // The record that every change updates, the set of standing marks, and the bench of later steps.
 pub struct Store {
@@ -146,7 +132,8 @@ fn found_code(a: u32) -> u32
 }
 
 // Kind 19 is one step back, kind 20 one step on, kind 21 leads to the place of a mark, kind 57 to that of the mark with
-// a name. No other call leads anywhere.
+// a name. No other call leads anywhere. Where they lead is asked before a call too, by copies::leads_to and
+// store_calls::guard::place_ahead.
 pub fn way_of(store: Store, marks: &[u32], call: HistoryCall) -> Way
     requires { ⌜ length (now marks) ≡ markWords ⌝ }
     ensures { λ r. ⌜ r ≡ wayOf store (now (marks .entry)) call ⌝ }
@@ -234,185 +221,11 @@ fn go(
     }
 }
 
-// Kind 17: mark a at the present place.
-pub fn set_mark(store: Store, marks: &mut [u32], a: u32) -> Called
-    requires { ⌜ length (now marks) ≡ markWords ⌝ }
-    ensures { λ r. ⌜ r ≡ markSet store a ⌝ }
-    ensures { λ r. ⌜ now (marks .exit) ≡ placesSet store a (now (marks .entry)) ⌝ }
-{
-    let current = store.current;
-    let code = new_code(store.set, a);
-    if code != 0 {
-        return stay(store, code, 0);
-    }
-    let set = marks::set_mark(store.set, marks, a, current.position.place);
-    Called {
-        store: Store {
-            current,
-            set,
-            bench: store.bench,
-        },
-        answer: Answer { code: 0, number: 0 },
-    }
-}
-
-// Kind 56: mark a has the name b, c.
-pub fn name_mark(store: Store, marks: &mut [u32], a: u32, b: u32, c: u32) -> Called
-    requires { ⌜ length (now marks) ≡ markWords ⌝ }
-    ensures { λ r. ⌜ r ≡ markNamed store (now (marks .entry)) a (name b c) ⌝ }
-    ensures { λ r. ⌜ now (marks .exit) ≡ namesSet store a (name b c) (now (marks .entry)) ⌝ }
-{
-    let code = name_code(store.set, marks, a, b, c);
-    if code != 0 {
-        return stay(store, code, 0);
-    }
-    marks::name_mark(marks, a, b, c);
-    stay(store, 0, 0)
-}
-
-// Kind 18: mark a goes.
-pub fn drop_mark(store: Store, a: u32) -> Called
-    ensures { λ r. ⌜ r ≡ markDropped store a ⌝ }
-{
-    let current = store.current;
-    let code = standing_code(store.set, a);
-    if code != 0 {
-        return stay(store, code, 0);
-    }
-    let set = marks::drop_mark(store.set, a);
-    Called {
-        store: Store {
-            current,
-            set,
-            bench: store.bench,
-        },
-        answer: Answer { code: 0, number: 0 },
-    }
-}
-
-// Kind 22: the present graph is the start, and no mark stands; the bench stays.
-pub fn commit(store: Store) -> Called
-    ensures { λ r. ⌜ r ≡ committed store ⌝ }
-{
-    let head = store.current.head;
-    let position = timeline::begin();
-    let set = marks::no_marks();
-    Called {
-        store: Store {
-            current: Current { head, position },
-            set,
-            bench: store.bench,
-        },
-        answer: Answer {
-            code: 0,
-            number: store.current.position.place,
-        },
-    }
-}
-
-// Kind 49: the steps between marks a and b.
-pub fn between(store: Store, marks: &[u32], a: u32, b: u32) -> Called
-    requires { ⌜ length (now marks) ≡ markWords ⌝ }
-    ensures { λ r. ⌜ r ≡ betweenMarks store (now (marks .entry)) a b ⌝ }
-{
-    let c = standing_code(store.set, a);
-    let d = standing_code(store.set, b);
-    let code = both_code(c, d);
-    if code != 0 {
-        return stay(store, code, 0);
-    }
-    let p = marks::place_of(marks, a);
-    let q = marks::place_of(marks, b);
-    let number = marks::between(p, q);
-    stay(store, 0, number)
-}
-
-// Kind 50: how many marks stand.
-pub fn standing(store: Store) -> Called
-    ensures { λ r. ⌜ r ≡ marksStanding store ⌝ }
-{
-    let number = marks::count_marks(store.set);
-    stay(store, 0, number)
-}
-
 // Kind 51: free changes.
 fn free_changes(store: Store, free: u32) -> Called
     ensures { λ r. ⌜ r ≡ changesFree store free ⌝ }
 {
     stay(store, 0, free)
-}
-
-// Code 20 or 0.
-fn bench_code(bench: u32) -> u32
-    ensures { λ r. ⌜ r ≡ benchCode bench ⌝ }
-{
-    if MOST_BENCHES <= bench {
-        return 20;
-    }
-    0
-}
-
-// Kind 58: later steps are made by this bench.
-pub fn set_bench(store: Store, bench: u32) -> Called
-    ensures { λ r. ⌜ r ≡ benchSet store bench ⌝ }
-{
-    let current = store.current;
-    let code = bench_code(bench);
-    if code != 0 {
-        return stay(store, code, 0);
-    }
-    Called {
-        store: Store {
-            current,
-            set: store.set,
-            bench,
-        },
-        answer: Answer { code: 0, number: 0 },
-    }
-}
-
-// The steps that a bench made between two places, in either order.
-fn made_between(journal: &[u32], p: u32, q: u32, bench: u32) -> u32
-    requires { ⌜ ((g : Graph) × (ss : List Step) × (u : ℕ) × (v : ℕ) × Behind (now journal) g ss p u
-        × Behind (now journal) g ss q v) ⌝ }
-    ensures { λ r. ⌜ ((g : Graph) → (ss : List Step) → (u v : ℕ) → Behind (now (journal .entry)) g ss p u
-        → Behind (now (journal .entry)) g ss q v → r ≡ madeBy bench (stepsBetween p q ss)) ⌝ }
-{
-    if q < p {
-        return timeline::made_by(journal, q, p, bench);
-    }
-    timeline::made_by(journal, p, q, bench)
-}
-
-// Code 11, 13, 20 or 0 of kind 59.
-fn made_code(set: u64, a: u32, b: u32, bench: u32) -> u32
-    ensures { λ r. ⌜ r ≡ madeCode set a b bench ⌝ }
-{
-    let c = standing_code(set, a);
-    let d = standing_code(set, b);
-    let code = both_code(c, d);
-    if code != 0 {
-        return code;
-    }
-    bench_code(bench)
-}
-
-// Kind 59: of the steps that lie between two marks, how many a bench made.
-pub fn made_by(store: Store, journal: &[u32], marks: &[u32], a: u32, b: u32, bench: u32) -> Called
-    requires { ⌜ ((vertices edges : List ℕ) × Stands store (memory vertices edges (now journal) (now marks))) ⌝ }
-    ensures { λ r. ⌜ ((vertices edges : List ℕ) → (free : ℕ) → Performs (HistoryCall.MadeBy a b bench) free store
-        (memory vertices edges (now (journal .entry)) (now (marks .entry))) r
-        (memory vertices edges (now (journal .entry)) (now (marks .entry)))) ⌝ }
-    ensures { λ r. ⌜ r .store ≡ store ⌝ }
-{
-    let code = made_code(store.set, a, b, bench);
-    if code != 0 {
-        return stay(store, code, 0);
-    }
-    let p = marks::place_of(marks, a);
-    let q = marks::place_of(marks, b);
-    let number = made_between(journal, p, q, bench);
-    stay(store, 0, number)
 }
 
 // Any history call, where so many changes are free. A refused one leaves every lent word; else those of the tables and
@@ -433,15 +246,15 @@ pub fn perform(
         (memory (now (vertices .exit)) (now (edges .exit)) (now (journal .entry)) (now (marks .exit))) ⌝ }
 {
     match call {
-        HistoryCall::SetMark(a) => set_mark(store, marks, a),
-        HistoryCall::DropMark(a) => drop_mark(store, a),
-        HistoryCall::Commit => commit(store),
-        HistoryCall::Between(a, b) => between(store, marks, a, b),
-        HistoryCall::Standing => standing(store),
+        HistoryCall::SetMark(a) => mark_calls::set_mark(store, marks, a),
+        HistoryCall::DropMark(a) => mark_calls::drop_mark(store, a),
+        HistoryCall::Commit => mark_calls::commit(store),
+        HistoryCall::Between(a, b) => mark_calls::between(store, marks, a, b),
+        HistoryCall::Standing => mark_calls::standing(store),
         HistoryCall::Free => free_changes(store, free),
-        HistoryCall::NameMark(a, b, c) => name_mark(store, marks, a, b, c),
-        HistoryCall::SetBench(bench) => set_bench(store, bench),
-        HistoryCall::MadeBy(a, b, bench) => made_by(store, journal, marks, a, b, bench),
+        HistoryCall::NameMark(a, b, c) => mark_calls::name_mark(store, marks, a, b, c),
+        HistoryCall::SetBench(bench) => benches::set_bench(store, bench),
+        HistoryCall::MadeBy(a, b, bench) => benches::made_by(store, journal, marks, a, b, bench),
         _ => go(store, vertices, edges, journal, marks, call),
     }
 }

@@ -1,21 +1,20 @@
 -- The header's tests one by one, and what its words are where it is sound.
-use Prim.Native.Nat.{ℕ, zero, suc, _*_, _≤_, _<_}
+use Prim.Native.Nat.{ℕ, zero, suc, _*_, _<_}
 use mathlib.Core.Path.{_≡_, refl, sym, ap, _∙_}
 use mathlib.Core.Logic.{_↔_, _⊎_, inl, inr}
 use mathlib.Core.Bool.{Bool, true, false, _&&_}
 use mathlib.Core.List.{List, [], _∷_}
 use native.Mathlib.Omega.{arith}
 use native.Mathlib.Nat.{mul-zero}
-use lib.Dec.{leb, eqb}
+use lib.Dec.{eqb}
 use lib.ListN.{length, getD, take, length-take}
-use borrow.Author.Tests.{eq-eqb, ne-eqb, eqb-true, leb-true, le-ltb}
-use Rattle.lists.specs.Choice.{_==_, _⇒_else_}
+use borrow.Author.Tests.{eq-eqb, ne-eqb, eqb-true}
+use Rattle.lists.specs.Choice.{_==_}
 use Rattle.lists.specs.Lists.{equalLists}
 use Rattle.lists.proofs.Bools.{and-true, and-false}
 use Rattle.image.specs.Image.{vertexSize, oldVertexSize, vertexOffset, edgeOffset, incidenceOffset, lengthAs, headerOf, headerAs, soundHeader, vertexCount, edgeCount, recordSize}
-use Rattle.image.specs.Checks.{bounds, checked, soundCounts}
 use Rattle.image.proofs.Sizes.{Size, old, new, record-size, size-shown}
-use Rattle.image.proofs.RecordWords.{same-eq}
+use Rattle.lists.proofs.Equality.{words-eq}
 
 tests : ℕ → List ℕ → Bool
 tests size ws =
@@ -40,7 +39,7 @@ module _ (size : ℕ) where
     where
       go : (t : Bool) → equalLists (take 6 ws) (headerOf size (vertexCount ws) (edgeCount ws)) ≡ t → (t && (length ws == lengthAs size (vertexCount ws) (edgeCount ws))) ≡ false
       go false e = refl
-      go true e = absurd (omega (arith, ap length (same-eq (take 6 ws) (headerOf size (vertexCount ws) (edgeCount ws)) e), length-take 6 ws))
+      go true e = absurd (omega (arith, ap length (words-eq (take 6 ws) (headerOf size (vertexCount ws) (edgeCount ws)) e), length-take 6 ws))
 
   law : (ws : List ℕ) → headerAs size ws ≡ tests size ws
   unfolding tests headerAs
@@ -139,7 +138,7 @@ sound-length ws h = header-words ws h .long
 
 pub sound-front : (ws : List ℕ) → soundHeader ws ≡ true → take 6 ws ≡ headerOf (recordSize ws) (vertexCount ws) (edgeCount ws)
 unfolding soundHeader headerAs
-sound-front ws h = same-eq _ _ (and-true (equalLists (take 6 ws) (headerOf (recordSize ws) (vertexCount ws) (edgeCount ws))) _ h .0)
+sound-front ws h = words-eq _ _ (and-true (equalLists (take 6 ws) (headerOf (recordSize ws) (vertexCount ws) (edgeCount ws))) _ h .0)
 
 -- a header is sound where it fits records of either size
 pub sound-as : (size : ℕ) → Size size → (ws : List ℕ) → headerAs size ws ≡ true → soundHeader ws ≡ true
@@ -178,21 +177,3 @@ sound-either ws = (
     to : (size : ℕ) → Size size → headerAs size ws ≡ true → (headerAs vertexSize ws ≡ true) ⊎ (headerAs oldVertexSize ws ≡ true)
     to size new h = inl h
     to size old h = inr h
-
-pub counts-le : (vcap ecap v e : ℕ) → soundCounts vcap ecap v e ≡ true → (v ≤ vcap) × (e ≤ ecap)
-unfolding soundCounts
-counts-le vcap ecap v e h =
-    let a = and-true (leb v vcap) (leb e ecap && ((v == 0) ⇒ (e == 0) else true)) h in
-    let b = and-true (leb e ecap) ((v == 0) ⇒ (e == 0) else true) (a .1) in
-    (leb-true v vcap (a .0), leb-true e ecap (b .0))
-
-pub counts-none : (vcap ecap v e : ℕ) → soundCounts vcap ecap v e ≡ true → v ≡ 0 → e ≡ 0
-unfolding soundCounts
-counts-none vcap ecap v e h z =
-    let a = and-true (leb v vcap) (leb e ecap && ((v == 0) ⇒ (e == 0) else true)) h in
-    let b = and-true (leb e ecap) ((v == 0) ⇒ (e == 0) else true) (a .1) in
-    eqb-true e 0 (rw (eq-eqb v 0 z) at (b .1))
-
--- capacities within the limits are checked as they are
-pub checked-same : (v e t : ℕ) → v ≤ 1000 → e ≤ 4000 → checked v e t ≡ bounds v e t
-checked-same v e t h k = rw (le-ltb 1000 v h, le-ltb 4000 e k)

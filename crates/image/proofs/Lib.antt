@@ -9,25 +9,7 @@ pub mod Counts
 pub mod Room
 pub mod WordSize
 pub mod Examples
--- the code
-pub mod Readings
+-- header and parts
 pub mod Headers
 pub mod Parts
-pub mod Turns
-pub mod Verdicts
-pub mod VertexPass
-pub mod EdgePass
-pub mod ListPass
-pub mod DegreePass
-pub mod ScratchPass
-pub mod SoundLoads
-pub mod SavedSound
-pub mod Offsets
-pub mod WithDegrees
-pub mod ReadOrder
-pub mod FirstBad
-pub mod Fill
-pub mod Follows
-pub mod LoadCodes
-pub mod HeaderCode
 pub mod EdgePart

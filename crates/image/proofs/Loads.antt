@@ -19,7 +19,8 @@ use Rattle.image.specs.Image.{headerAs, soundHeader, vertexPart, edgePar
 use Rattle.image.proofs.Sizes.{Size, old, new, record-size, size-shown}
 use Rattle.image.proofs.Headers.{sound-as}
 use Rattle.image.proofs.Formed.{formed}
-use Rattle.image.proofs.RecordWords.{same-eq, same-refl, vertices-length, edges-length, edges-back, Fits, vertices-back}
+use Rattle.image.proofs.RecordWords.{vertices-length, edges-length, edges-back, Fits, vertices-back}
+use Rattle.lists.proofs.Equality.{words-eq, words-refl}
 use Rattle.image.proofs.Ends.{sound-fits, incidences-length}
 
 -- ---- saved words, in records of either size
@@ -78,7 +79,7 @@ module _ (size : ℕ) (z : Size size) (g : Graph) where
     header-fits =
         let head = headerOf size (length (g .vseq)) (length (g .eseq)) in
         let total = lengthAs size (length (g .vseq)) (length (g .eseq)) in
-        and-both (equalLists head head) (length (saveAs size g) == total) (same-refl head) (eq-eqb (length (saveAs size g)) total length-saved)
+        and-both (equalLists head head) (length (saveAs size g) == total) (words-refl head) (eq-eqb (length (saveAs size g)) total length-saved)
 
     pub header-sound : soundHeader (saveAs size g) ≡ true
     header-sound = sound-as size z (saveAs size g) header-fits
@@ -153,9 +154,9 @@ module _ (b : Bounds) (g : Graph) (h : wellFormed b g ≡ true) where
       (and-both (soundHeader ws && wellFormed b g) (equalLists ws (save g) || equalLists ws (saveOld g))
       (and-both (soundHeader ws) (wellFormed b g) (subst (λ (l : List ℕ). soundHeader l ≡ true) (saved-shown g ws s) (header-sound (recordSize ws) (record-size ws) g b h)) h)
       (elim s [
-        | inl e ↦ subst (λ (l : List ℕ). (equalLists l (save g) || equalLists l (saveOld g)) ≡ true) e (rw (same-refl (save g)))
+        | inl e ↦ subst (λ (l : List ℕ). (equalLists l (save g) || equalLists l (saveOld g)) ≡ true) e (rw (words-refl (save g)))
         | inr e ↦ subst (λ (l : List ℕ). (equalLists l (save g) || equalLists l (saveOld g)) ≡ true) e
-            (or-right (equalLists (saveOld g) (save g)) (equalLists (saveOld g) (saveOld g)) (same-refl (saveOld g)))
+            (or-right (equalLists (saveOld g) (save g)) (equalLists (saveOld g) (saveOld g)) (words-refl (saveOld g)))
       ]))
 
   pub saved-loads : loadable b (save g) ≡ true
@@ -178,8 +179,8 @@ loaded b ws h =
     record { header = c .0; formed = c .1; saves = s; again = saved-shown g ws s }
   where
     either : (x y : Bool) → equalLists ws (save (load ws)) ≡ x → equalLists ws (saveOld (load ws)) ≡ y → (x || y) ≡ true → SavesAs (load ws) ws
-    either true y e f q = inl (sym (same-eq ws (save (load ws)) e))
-    either false true e f q = inr (sym (same-eq ws (saveOld (load ws)) f))
+    either true y e f q = inl (sym (words-eq ws (save (load ws)) e))
+    either false true e f q = inr (sym (words-eq ws (saveOld (load ws)) f))
     either false false e f q = ft q
 
 -- REFERENCE 10.6

@@ -2,16 +2,16 @@
 use Prim.Native.Nat.{ℕ, zero, suc, _+_, _*_, _-_, _≤_}
 use mathlib.Core.Path.{_≡_, refl, sym, ap, subst, _∙_}
 use mathlib.Core.Bool.{Bool, true, false, not, _&&_}
-use mathlib.Core.List.{List, [], _∷_}
+use mathlib.Core.List.{List, [], _∷_, _++_}
 use native.Mathlib.Omega.{arith}
-use lib.ListN.{length, getD, take, drop, length-drop}
-use lib.Seq.{take-all}
+use lib.ListN.{length, getD, take, drop, length-drop, take-append-drop}
+use lib.Seq.{take-all, drop-drop, length-take-le}
 use borrow.Author.Tests.{ne-eqb}
 use Rattle.lists.specs.Choice.{_⇒_else_, _==_, within}
 use Rattle.lists.proofs.Bools.{tf, within-range}
-use Rattle.image.specs.Image.{edgeSize, edgeOffset, incidenceOffset, recordSize, soundHeader, vertexCount, edgeCount, vertexPart, edgePart, incidencePart, part}
+use Rattle.image.specs.Image.{edgeSize, vertexOffset, edgeOffset, incidenceOffset, recordSize, soundHeader, vertexCount, edgeCount, vertexPart, edgePart, incidencePart, part}
 use Rattle.image.specs.Parts.{hasPart, partBound, partStart, partEnd}
-use Rattle.image.proofs.Headers.{HeaderWords, header-words}
+use Rattle.image.proofs.Headers.{HeaderWords, header-words, sound-length}
 
 module _ (ws : List ℕ) (h : soundHeader ws ≡ true) where
   -- each part by its number
@@ -111,3 +111,26 @@ starts-behind-header k ws e = go (soundHeader ws) (within 1 3 k) refl refl e
     go true true p q r = let l = within-range 1 3 k q in behind p k (l .0) (l .1)
     go true false p q r = absurd (tf (sym r))
     go false t p q r = absurd (tf (sym r))
+
+-- header and parts are the words
+pub split-words : (size : ℕ) (ws : List ℕ) → take 6 ws ++ (vertexPart size ws ++ (edgePart size ws ++ incidencePart size ws)) ≡ ws
+split-words size ws =
+    let v = vertexCount ws in
+    let e = edgeCount ws in
+    let o = edgeOffset size v in
+    let p : drop (size * v) (drop 6 ws) ≡ drop o ws = drop-drop (size * v) 6 ws in
+    let q : drop (edgeSize * e) (drop o ws) ≡ drop (incidenceOffset size v e) ws = drop-drop (edgeSize * e) o ws in
+    let r : edgePart size ws ++ incidencePart size ws ≡ drop o ws = ap (λ (l : List ℕ). edgePart size ws ++ l) (sym q) ∙ take-append-drop (edgeSize * e) (drop o ws) in
+    ap (λ (l : List ℕ). take 6 ws ++ (vertexPart size ws ++ l)) (r ∙ sym p)
+    ∙ ap (λ (l : List ℕ). take 6 ws ++ l) (take-append-drop (size * v) (drop 6 ws))
+    ∙ take-append-drop 6 ws
+
+-- the lengths of the parts of words with a sound header
+module _ (ws : List ℕ) (h : soundHeader ws ≡ true) where
+  pub long-vertices : length (vertexPart (recordSize ws) ws) ≡ recordSize ws * vertexCount ws
+  long-vertices = length-take-le (recordSize ws * vertexCount ws) (drop vertexOffset ws) (omega (arith, length-drop vertexOffset ws, sound-length ws h))
+
+  pub long-edges : length (edgePart (recordSize ws) ws) ≡ edgeSize * edgeCount ws
+  long-edges =
+      let o = edgeOffset (recordSize ws) (vertexCount ws) in
+      length-take-le (edgeSize * edgeCount ws) (drop o ws) (omega (arith, length-drop o ws, sound-length ws h))

@@ -1,32 +1,16 @@
 -- Words of records, and records back from their words.
 use Prim.Native.Nat.{ℕ, _*_}
 use mathlib.Core.Path.{_≡_, refl, ap₂}
-use mathlib.Core.Bool.{true}
 use mathlib.Core.List.{List, [], _∷_}
 use native.Mathlib.Omega.{arith}
 use lib.ListN.{length, length-append}
 use lib.Seq.{take-at, drop-at}
-use borrow.Author.Tests.{eqb-true, eq-eqb}
-use Rattle.lists.specs.Choice.{_==_}
-use Rattle.lists.specs.Lists.{concatMap, equalLists}
-use Rattle.lists.proofs.Bools.{ft, and-true, and-both}
+use Rattle.lists.specs.Lists.{concatMap}
 use Rattle.graph.specs.Graph.{Vertex, Edge}
 use Rattle.graph.specs.WellFormed.{wordsAt}
 use Rattle.image.specs.Image.{vertexRecord, edgeSize, edgeRecord, incidencesOf, edgesFrom, verticesFrom}
 use Rattle.graph.proofs.Readings.{reading-back}
 use Rattle.image.proofs.Sizes.{Size, degree-length}
-
-pub same-eq : (xs ys : List ℕ) → equalLists xs ys ≡ true → xs ≡ ys
-same-eq [] [] e = refl
-same-eq [] (y ∷ ys) e = ft e
-same-eq (x ∷ xs) [] e = ft e
-same-eq (x ∷ xs) (y ∷ ys) e =
-    let a = and-true (x == y) (equalLists xs ys) e in
-    ap₂ _∷_ (eqb-true x y (a .0)) (same-eq xs ys (a .1))
-
-pub same-refl : (xs : List ℕ) → equalLists xs xs ≡ true
-same-refl [] = refl
-same-refl (x ∷ xs) = and-both (x == x) (equalLists xs xs) (eq-eqb x x refl) (same-refl xs)
 
 pub record-length : (size : ℕ) → Size size → (v : Vertex) → length (vertexRecord size v) ≡ size
 record-length size z v = omega (arith, degree-length size z (length (v .incidences)))

@@ -134,6 +134,11 @@ pub record ListAt (ws : List ℕ) (i : ℕ) (v : Vertex) : Type 0 where
 
 -- ---- loading: the only graph that can have saved as these words
 
+-- the numbers of k records of size words
+unfoldable pub numbersIn : ℕ → ℕ → List ℕ → List ℕ
+numbersIn size zero ws = []
+numbersIn size (suc k) ws = getD ws 0 0 ∷ numbersIn size k (drop size ws)
+
 -- the edges of k records
 unfoldable pub edgesFrom : ℕ → List ℕ → List Edge
 edgesFrom zero ws = []

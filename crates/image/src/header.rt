@@ -1,16 +1,15 @@
 // The header: counts, offsets, total and length.
 ghost use mathlib.Core.Path.{_≡_};
-ghost use Prim.Native.Nat.{_≤_};
 ghost use Rattle.image.specs.Image.{soundHeader};
 ghost use Rattle.image.specs.Parts.{hasPart};
-ghost use Rattle.image.specs.Checks.{smaller, soundCounts};
 use crate::by_size::edge_offset;
 use crate::by_size::incidence_offset;
 use crate::by_size::length;
 use crate::layout::HEADER;
 use crate::layout::record_size;
-use crate::words::word;
+use lists::words::word;
 
+// Length, offsets and total fit the counts, in records of one size.
 pub fn sound(words: &[u32]) -> bool
     ensures { λ r. ⌜ r ≡ soundHeader (now (words .entry)) ⌝ }
 {
@@ -44,30 +43,4 @@ pub fn has_part(words: &[u32], which: u32) -> bool
         return false;
     }
     which <= 3
-}
-
-// A capacity, or the limit where it is above.
-pub fn smaller(limit: u32, n: u32) -> u32
-    ensures { λ r. ⌜ (r ≡ smaller limit n) × (r ≤ limit) ⌝ }
-{
-    if limit < n {
-        return limit;
-    }
-    n
-}
-
-// Counts within the capacities, and no edges without a vertex.
-pub fn counts(vcap: u32, ecap: u32, v: u32, e: u32) -> bool
-    ensures { λ r. ⌜ r ≡ soundCounts vcap ecap v e ⌝ }
-{
-    if vcap < v {
-        return false;
-    }
-    if ecap < e {
-        return false;
-    }
-    if v == 0 {
-        return e == 0;
-    }
-    true
 }

@@ -4,8 +4,8 @@ ghost use mathlib.Core.Path.{_≡_};
 ghost use Prim.Native.Nat.{_≤_};
 ghost use Rattle.image.specs.Image.{vertexSize, edgeOffset, incidenceOffset, imageLength, recordSize};
 use crate::by_size;
-use crate::words::wide;
-use crate::words::word;
+use lists::numbers::wide;
+use lists::words::word;
 
 pub const HEADER: usize = 6;
 // A vertex record, as it is saved and as older images have it, without a degree.

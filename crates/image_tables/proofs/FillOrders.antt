@@ -15,7 +15,7 @@ use Rattle.linked_lists.specs.Links.{ValidLayout, Held, insertT, insertE, CanAp
 use Rattle.linked_lists.proofs.Counted.{ordered}
 use Rattle.graph.specs.Graph.{Vertex, Edge, Graph, vertexNumber, edgeNumber, readingKind, decimetres, readingOf, IsWords}
 use Rattle.graph.specs.WellFormed.{Bounds, Ordered, WellFormed, VertexIn, EdgeIn, Within}
-use Rattle.graph.specs.Edits.{WordsFit}
+use Rattle.graph.specs.Edits.{Insertable}
 use Rattle.graph.proofs.Readings.{reading-back}
 use Rattle.image.specs.Image.{vertexRecord, edgeRecord, recordSize, load}
 use Rattle.image.proofs.Sizes.{size-range, record-size}
@@ -83,7 +83,7 @@ module _ (size : ℕ) (b : Bounds) (g : Graph) (wf : WellFormed g) (wi : Within 
   abbrev p : ℕ
   p = s .head .vlast
 
-  fits-v : WordsFit vertexNumber (map withoutList u) (x .number) p
+  fits-v : Insertable vertexNumber (map withoutList u) (x .number) p
   fits-v = record {
     real = next-real vertexNumber u x (t .left) (g .vseq) (t .all) (wf .vorder);
     fresh = count-map vertexNumber withoutList (λ y. refl) (x .number) u ∙ next-fresh vertexNumber u x (t .left) (g .vseq) (t .all) (wf .vorder);
@@ -135,7 +135,7 @@ module _ (b : Bounds) (g : Graph) (wf : WellFormed g) (wi : Within b g) (few : l
   abbrev e : ℕ
   e = s .head .elast
 
-  fits-e : WordsFit edgeNumber w (y .number) e
+  fits-e : Insertable edgeNumber w (y .number) e
   fits-e = record {
     real = next-real edgeNumber w y (t .left) (g .eseq) (t .all) (wf .eorder);
     fresh = next-fresh edgeNumber w y (t .left) (g .eseq) (t .all) (wf .eorder);

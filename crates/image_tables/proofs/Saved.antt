@@ -24,8 +24,8 @@ use Rattle.graph_tables.specs.Holds.{Holds}
 use Rattle.graph_tables.specs.Read.{vertexAt, edgeAt, graphOf}
 use Rattle.graph_tables.proofs.GraphRead.{graph-is}
 use Rattle.image_tables.specs.Words.{edgeWords, vertexPartOf, edgePartOf, incidencePartOf, HoldsSome, CanSave}
-use Rattle.image_tables.proofs.Stores.{then-by, sets-apart}
-use Rattle.lists.proofs.Stores.{sets-over}
+use Rattle.image_tables.proofs.Stores.{then-by}
+use Rattle.lists.proofs.Stores.{sets-over, sets-apart}
 
 -- ---- the words
 

@@ -1,10 +1,10 @@
 -- Stores in a row.
-use Prim.Native.Nat.{ℕ, suc, _+_, _*_, _≤_, _<_}
-use mathlib.Core.Path.{_≡_, refl, ap, ap₂, _∙_}
+use Prim.Native.Nat.{ℕ, suc, _+_, _*_}
+use mathlib.Core.Path.{_≡_, refl, ap₂, _∙_}
 use mathlib.Core.List.{List, [], _∷_, _++_}
 use native.Mathlib.Omega.{arith}
 use lib.ListN.{length, set}
-use lib.Seq.{sets, set-comm}
+use lib.Seq.{sets}
 use Rattle.graph_tables.specs.Tables.{etype, ekind, edecimetres, wthis}
 use Rattle.image_tables.specs.Words.{edgeWords}
 use Rattle.lists.proofs.Stores.{sets-append}
@@ -28,15 +28,6 @@ six-by l edges at e {a} {z} {t} {k} {d} p q ea ez edges′ ek ed =
     ∙ (λ i. sets l at (e ∷ ea i ∷ ez i ∷ edges′ i ∷ ek i ∷ ed i ∷ []))
 
 -- ---- stores at different places
-
-set-apart : (l : List ℕ) (i a to : ℕ) (vs : List ℕ) → i < to → sets (set l i a) to vs ≡ set (sets l to vs) i a
-set-apart l i a to [] h = refl
-set-apart l i a to (v ∷ vs) h = ap (λ (k : List ℕ). sets k (suc to) vs) (set-comm l i to a v (λ e. omega arith)) ∙ set-apart (set l to v) i a (suc to) vs (omega arith)
-
-pub sets-apart : (l : List ℕ) (at to : ℕ) (us vs : List ℕ) → at + length us ≤ to → sets (sets l at us) to vs ≡ sets (sets l to vs) at us
-sets-apart l at to [] vs h = refl
-sets-apart l at to (u ∷ us) vs h =
-    sets-apart (set l at u) (suc at) to us vs (omega arith) ∙ ap (λ (k : List ℕ). sets k (suc at) us) (set-apart l at u to vs (omega arith))
 
 pub four-by : (l : List ℕ) {l₁ : List ℕ} (at a b c d : ℕ) → l₁ ≡ sets l at (a ∷ b ∷ c ∷ []) → set l₁ (at + 3) d ≡ sets l at (a ∷ b ∷ c ∷ d ∷ [])
 four-by l at a b c d e = let f : at + 3 ≡ suc (suc (suc at)) = omega arith in rw (e, f)

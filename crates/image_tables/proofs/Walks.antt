@@ -8,13 +8,12 @@ use lib.Seq.{sets}
 use Rattle.lists.specs.Lists.{concatMap}
 use Rattle.linked_lists.specs.declared.LinkLayout.{LinkLayout}
 use Rattle.linked_lists.specs.declared.Ends.{Ends}
-use Rattle.linked_lists.specs.Lists.{Fresh, All}
+use Rattle.linked_lists.specs.Lists.{Fresh, Every}
 use Rattle.linked_lists.specs.Links.{ValidLayout, backward, forward, Inside, linkOf, Chain, Held, nodesFrom, nodes}
 use Rattle.linked_lists.proofs.Pigeonhole.{held-length}
 use Rattle.linked_lists.proofs.Model.{nodes-chain, node-below, held-nodes}
 use Rattle.image_tables.specs.Words.{HoldsSome}
-use Rattle.lists.proofs.Stores.{sets-append}
-use Rattle.image_tables.proofs.Stores.{sets-apart}
+use Rattle.lists.proofs.Stores.{sets-append, sets-apart}
 
 pub each-one : (l : List ℕ) → concatMap (λ x. x ∷ []) l ≡ l
 each-one [] = refl
@@ -30,7 +29,7 @@ pub record On (layout : LinkLayout) (t : List ℕ) (e : Ends) (x : ℕ) (rest : 
   pub here : x ≡ linkOf forward layout t e from
   pub chain : Chain (linkOf forward layout t e) (linkOf backward layout t e) from rest 0
   pub real : Fresh 0 rest
-  pub inside : All (Inside layout (length t)) rest
+  pub inside : Every (Inside layout (length t)) rest
   pub few : length rest ≤ length t + layout .offset
 
 module _ (layout : LinkLayout) (t : List ℕ) (e : Ends) where

@@ -1,22 +1,23 @@
 // The tables filled from the parts of an image: vertices, edges, then the words of the lists.
 use graph_tables::Head;
+use graph_tables::fields::EDGE_LINKS;
+use graph_tables::fields::HALF_THIS;
+use graph_tables::fields::INCIDENCE_LINKS;
 use graph_tables::rows::ends_of;
+use graph_tables::rows::half_field;
 use graph_tables::rows::put_ends;
 use graph_tables::rows::put_fields;
 use graph_tables::rows::put_this;
-use graph_tables::rows::this;
 use graph_tables::vertices::insert_vertex;
 use image::layout::EDGE;
 use linked_lists::Ends;
-use linked_lists::LinkLayout;
 use linked_lists::append;
 ghost use mathlib.Core.Path.{_≡_};
 ghost use mathlib.Core.List.{[], map};
 ghost use Prim.Native.Nat.{_+_, _≤_};
 ghost use lib.ListN.{length, getD};
 ghost use Rattle.image.specs.Image.{load as loadOf};
-ghost use Rattle.graph.specs.Graph.{readingOf, IsWords};
-ghost use Rattle.graph_tables.specs.Tables.{state, EdgeRowIn, CanInsertVertex, rowET, entryState, exitState};
+ghost use Rattle.graph_tables.specs.Tables.{state, CanInsertVertex, entryState, exitState};
 ghost use Rattle.graph_tables.specs.Holds.{Core};
 ghost use Rattle.image_tables.specs.Filling.{withoutList, vertexS, edgeS, wordS, CanEdge, CanWord};
 ghost use Rattle.image_tables.specs.Filling.{CanLoad};
@@ -48,10 +49,7 @@ fn edge(head: Head, part: &[u32], at: usize, vertices: &[u32], edges: &mut [u32]
     let n = part[at];
     let ends = append(
         edges,
-        LinkLayout {
-            stride: 12,
-            offset: 2,
-        },
+        EDGE_LINKS,
         Ends {
             first: head.efirst,
             last: head.elast,
@@ -75,17 +73,9 @@ fn word(head: Head, vertices: &mut [u32], edges: &mut [u32], w: u32)
     requires { ⌜ CanWord w (state head (now vertices) (now edges)) ⌝ }
     ensures { λ _. ⌜ exitState head vertices edges ≡ wordS w (entryState head vertices edges) ⌝ }
 {
-    let v = this(edges, w);
+    let v = half_field(edges, w, HALF_THIS);
     let before = ends_of(vertices, v);
-    let ends = append(
-        edges,
-        LinkLayout {
-            stride: 6,
-            offset: 12,
-        },
-        before,
-        w,
-    );
+    let ends = append(edges, INCIDENCE_LINKS, before, w);
     put_ends(vertices, v, ends);
 }
 

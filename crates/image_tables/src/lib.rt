@@ -31,8 +31,8 @@ pub fn save(head: Head, vertices: &[u32], edges: &[u32], out: &mut [u32]) -> usi
     write::vertices(head, vertices, edges, out, HEADER, incidence_offset(v, e))
 }
 
-// Fills the tables, whatever they held, from words that `image::check` has found sound. Which words hold the graph
-// is left open, and so are the words of rows that hold nothing.
+// Fills the tables, whatever they held, from words that `image_check::check` has found sound. Which words hold the
+// graph is left open, and so are the words of rows that hold nothing.
 pub fn load(words: &[u32], vertices: &mut [u32], edges: &mut [u32]) -> Head
     requires { ⌜ CanLoad (now words) (now vertices) (now edges) ⌝ }
     ensures { λ r. ⌜ Holds (exitState r vertices edges) (loadOf (now (words .entry))) ⌝ }

@@ -1,20 +1,20 @@
 // The parts of an image, from the tables: each function writes words from a place on.
 // A caller has tables that hold a graph and room for its image, as 106 saw to.
 use graph_tables::Head;
-use graph_tables::rows::edge_type;
+use graph_tables::fields::EDGE_LINKS;
+use graph_tables::fields::INCIDENCE_LINKS;
+use graph_tables::fields::VERTEX_LINKS;
+use graph_tables::fields::VERTEX_TYPE;
+use graph_tables::fields::VERTEX_VALUE;
+use graph_tables::rows::edge_fields;
 use graph_tables::rows::ends_of;
-use graph_tables::rows::reading_decimetres;
-use graph_tables::rows::reading_kind;
-use graph_tables::rows::this;
-use graph_tables::rows::vertex_type;
-use graph_tables::rows::vertex_value;
+use graph_tables::rows::vertex_field;
 use image::layout::EDGE;
 use image::layout::HEADER;
 use image::layout::VERTEX;
 use image::layout::edge_offset;
 use image::layout::incidence_offset;
 use linked_lists::Ends;
-use linked_lists::LinkLayout;
 ghost use mathlib.Core.Path.{_≡_};
 ghost use mathlib.Core.List.{[], _∷_};
 ghost use Prim.Native.Nat.{ℕ, _+_, _≤_, _<_, _^_};
@@ -51,28 +51,21 @@ pub fn header(out: &mut [u32], v: u32, e: u32)
 
 // The record of edge e. The two words of its reading are saved as they stand, so that no branch asks for its kind.
 fn edge(edges: &[u32], e: u32, out: &mut [u32], at: usize)
-    requires { ⌜ EdgeRowIn (now edges) e × (e < 2 ^ 31) × HasRoom at (edgeWords (now edges) e) (now out) ⌝ }
+    requires { ⌜ EdgeRowIn (now edges) e × HasRoom at (edgeWords (now edges) e) (now out) ⌝ }
     ensures { λ _. ⌜ now (out .exit) ≡ sets (now (out .entry)) at (edgeWords (now (edges .entry)) e) ⌝ }
 {
-    let a = this(edges, 2 * e);
-    let z = this(edges, 2 * e + 1);
-    let t = edge_type(edges, e);
-    let k = reading_kind(edges, e);
-    let d = reading_decimetres(edges, e);
-    three(out, at, e, a, z);
-    three(out, at + 3, t, k, d);
+    let w = edge_fields(edges, e);
+    three(out, at, e, w.alpha, w.omega);
+    three(out, at + 3, w.sort, w.kind, w.decimetres);
 }
 
 // The edge part.
 pub fn edges(head: Head, edges: &[u32], out: &mut [u32], from: usize)
-    requires { ⌜ HoldsSome edgeLinks (now edges) (edgeListEnds head) × (length (now edges) < 2 ^ 31)
+    requires { ⌜ HoldsSome edgeLinks (now edges) (edgeListEnds head)
         × HasRoom from (edgePartOf head (now edges)) (now out) ⌝ }
     ensures { λ _. ⌜ now (out .exit) ≡ sets (now (out .entry)) from (edgePartOf head (now (edges .entry))) ⌝ }
 {
-    let layout = LinkLayout {
-        stride: 12,
-        offset: 2,
-    };
+    let layout = EDGE_LINKS;
     let ends = Ends {
         first: head.efirst,
         last: head.elast,
@@ -94,10 +87,7 @@ fn list(vertices: &[u32], edges: &[u32], v: u32, out: &mut [u32], from: usize) -
         (listWords (now (vertices .entry)) (now (edges .entry)) v))
         × (r ≡ from + length (listWords (now (vertices .entry)) (now (edges .entry)) v)) ⌝ }
 {
-    let layout = LinkLayout {
-        stride: 6,
-        offset: 12,
-    };
+    let layout = INCIDENCE_LINKS;
     let ends = ends_of(vertices, v);
     let mut at = from;
     let mut w = linked_lists::next(edges, layout, ends, 0);
@@ -121,8 +111,8 @@ fn vertex(vertices: &[u32], edges: &[u32], v: u32, out: &mut [u32], at: usize, t
         × (r ≡ to + length (listWords (now (vertices .entry)) (now (edges .entry)) v)) ⌝ }
 {
     let end = list(vertices, edges, v, out, to);
-    let t = vertex_type(vertices, v);
-    let x = vertex_value(vertices, v);
+    let t = vertex_field(vertices, v, VERTEX_TYPE);
+    let x = vertex_field(vertices, v, VERTEX_VALUE);
     three(out, at, v, t, x);
     out[at + 3] = (end - to) as u32;
     end
@@ -148,10 +138,7 @@ pub fn vertices(
         behind (incidencePartOf head (now (vertices .entry)) (now (edges .entry))))
         × (r ≡ behind + length (incidencePartOf head (now (vertices .entry)) (now (edges .entry)))) ⌝ }
 {
-    let layout = LinkLayout {
-        stride: 8,
-        offset: 2,
-    };
+    let layout = VERTEX_LINKS;
     let ends = Ends {
         first: head.vfirst,
         last: head.vlast,

@@ -13,9 +13,6 @@ use Rattle.graph.specs.declared.Edit.{Edit}
 use Rattle.graph.specs.declared.Edit.the-variants.{InsertVertex, RemoveVertex, InsertEdge, RemoveEdge, SetVertex, SetEdge, MoveVertex, MoveEdge, MoveWord}
 use Rattle.graph.specs.Graph.{readingKind, decimetres, readingOf, IsWords}
 use Rattle.graph.proofs.Readings.{reading-back}
-use Rattle.graph_tables.specs.Tables.{State, removeEdgeS}
-use Rattle.journal.specs.declared.removal.EdgeWords.{EdgeWords}
-use Rattle.journal.specs.Written.{Written, edgeWords, removalOf}
 use Rattle.journal.proofs.Stamps.{stamped-row, stamped-cost}
 use Rattle.journal.specs.Rows.{rowWords, editOf, editAt, storeFrom, RowStep, costing, rowAt, stepAt, rowed, benchAt, signed, SameBelow, turned}
 
@@ -203,18 +200,6 @@ words-written t t′ i w c l a b = ap (λ (x : List ℕ). set x (12 * w + 10) c)
 pub rowed-by : (i : ℕ) (e : Edit) (c : ℕ) (t t′ l : List ℕ) → l ≡ rowWords e → t′ ≡ set (storeFrom (12 * i) l t) (12 * i + 10) c → t′ ≡ rowed i e (costing c) t
 unfolding rowed
 rowed-by i e c t t′ l q p = p ∙ ap (λ (x : List ℕ). set (storeFrom (12 * i) x t) (12 * i + 10) c) q
-
-pub removed-words : (n : ℕ) (w : EdgeWords) → IsWords (w .kind) (w .decimetres)
-    → 4 ∷ n ∷ w .alpha ∷ w .omega ∷ w .sort ∷ w .kind ∷ w .decimetres ∷ w .order ∷ w .out ∷ w .into ∷ [] ≡ rowWords (removalOf n w)
-removed-words n w h = λ j. 4 ∷ n ∷ w .alpha ∷ w .omega ∷ w .sort ∷ sym (h .0) j ∷ sym (h .1) j ∷ w .order ∷ w .out ∷ w .into ∷ []
-
--- an edge taken out by the words that were read off its row
-pub removal-written : (s : State) (n c i : ℕ) (t : List ℕ) (w : EdgeWords) → w ≡ edgeWords (s .edges) n → (s′ : State) (t′ : List ℕ)
-    → s′ ≡ removeEdgeS n (w .alpha) (w .omega) s → t′ ≡ rowed i (removalOf n w) (costing c) t → Written (removalOf n (edgeWords (s .edges) n)) (costing c) i s t s′ t′
-removal-written s n c i t w e s′ t′ p q = record {
-  state = p ∙ ap (λ (x : EdgeWords). removeEdgeS n (x .alpha) (x .omega) s) e;
-  row = q ∙ ap (λ (x : EdgeWords). rowed i (removalOf n x) (costing c) t) e;
-}
 
 pub edge-words : (n s k d s′ k′ d′ : ℕ) → IsWords k d → IsWords k′ d′ → 6 ∷ n ∷ s ∷ k ∷ d ∷ s′ ∷ k′ ∷ d′ ∷ 0 ∷ 0 ∷ [] ≡ rowWords (SetEdge n s (readingOf k d) s′ (readingOf k′ d′))
 edge-words n s k d s′ k′ d′ w v = λ j. 6 ∷ n ∷ s ∷ sym (w .0) j ∷ sym (w .1) j ∷ s′ ∷ sym (v .0) j ∷ sym (v .1) j ∷ 0 ∷ 0 ∷ []

@@ -3,14 +3,13 @@
 // A caller has room for the row, or rows that the run wrote.
 use graph::Edit;
 use graph_tables::rows::reading_of;
+use lists::numbers::wide;
 ghost use mathlib.Core.Path.{_≡_};
 ghost use mathlib.Core.List.{[], _∷_};
 ghost use Prim.Native.Nat.{_+_, _*_, _≤_};
 ghost use lib.ListN.{length, set};
 ghost use Rattle.graph.specs.Edits.{inverse};
 ghost use Rattle.journal.specs.Rows.{editOf, turned, editAt, storeFrom, rowAt, stepAt, benchAt, signed};
-
-pub mod removal; // the words of an edge that goes
 
 // Five words, half of an edit.
 pub struct Five {
@@ -111,12 +110,6 @@ fn get_edit(journal: &[u32], q: usize, back: bool) -> Edit
     let h = journal[q + 8];
     let i = journal[q + 9];
     decode_turned(k, Five { a, b, c, d, e }, f, g, h, i, back)
-}
-
-fn wide(x: u32) -> usize
-    ensures { λ r. ⌜ r ≡ x ⌝ }
-{
-    x as usize
 }
 
 // The edit of a row, or what undoes it.

@@ -9,12 +9,12 @@ use native.Mathlib.Omega.{arith}
 use lib.ListN.{length}
 use borrow.Author.Tests.{eq-eqb, ne-eqb}
 use Rattle.lists.specs.Choice.{indicator}
-use Rattle.lists.specs.Lists.{member, after}
+use Rattle.lists.specs.Lists.{member, successor}
 use Rattle.lists.specs.Keyed.{countBy, removeBy, insertAfterBy, prevBy}
 use Rattle.lists.proofs.Picks.{same, differ, same?, is-yes, is-no, is-zero}
 use Rattle.linked_lists.specs.declared.LinkLayout.{LinkLayout}
 use Rattle.linked_lists.specs.declared.Ends.{Ends}
-use Rattle.linked_lists.specs.Lists.{Fresh, Distinct, All}
+use Rattle.linked_lists.specs.Lists.{Fresh, Distinct, Every}
 use Rattle.linked_lists.specs.Links.{ValidLayout, backward, forward, Inside, linkOf, Held, unlinkT, unlinkE, insertT, insertE, CanUnlink, CanInsert}
 use Rattle.linked_lists.proofs.HeldLaws.{can-unlink, held-unlink, can-insert, held-insert, held-pred, held-inside}
 use Rattle.linked_lists.proofs.Frames.{frame-unlink, frame-insert}
@@ -49,7 +49,7 @@ distinct-times (y ∷ l) d x = elim (same? y x) [
 new : (x : ℕ) → 1 ≤ x → (l : List ℕ) → times x l ≡ 0 → Fresh x (0 ∷ l)
 new x r l f = ((λ q. omega arith), fresh-is x l f)
 
-apart-is : (l l′ : List ℕ) → ((k : ℕ) → 1 ≤ times k l → times k l′ ≡ 0) → All (λ k. Fresh k l′) l
+apart-is : (l l′ : List ℕ) → ((k : ℕ) → 1 ≤ times k l → times k l′ ≡ 0) → Every (λ k. Fresh k l′) l
 apart-is [] l′ h = tt
 apart-is (y ∷ l) l′ h = (fresh-is y l′ (h y (omega (arith, is-yes y y refl))), apart-is l l′ (λ k i. h k (omega arith)))
 
@@ -67,7 +67,7 @@ module _ (layout : LinkLayout) (t : List ℕ) (e : Ends) (l : List ℕ) (valid :
   pub prev-is : (x : ℕ) → 1 ≤ times x l → linkOf backward layout t e x ≡ prevBy (λ k. k) 0 x l
   prev-is x c = held-pred layout t e l x h (has-is x l c)
 
-  pub next-is : (x : ℕ) → 1 ≤ times x l → linkOf forward layout t e x ≡ after x l
+  pub next-is : (x : ℕ) → 1 ≤ times x l → linkOf forward layout t e x ≡ successor x l
   next-is x c = next-after layout t e l h x (has-is x l c)
 
   pub can-rem : (x : ℕ) → 1 ≤ times x l → CanUnlink layout t e x
@@ -86,7 +86,7 @@ module _ (layout : LinkLayout) (t : List ℕ) (e : Ends) (l : List ℕ) (valid :
 
   -- another list of the same layout
   module _ (e′ : Ends) (l′ : List ℕ) (h′ : Held layout t e′ l′) (apart : (k : ℕ) → times k l + times k l′ ≤ 1) where
-    other : All (λ k. Fresh k l′) l
+    other : Every (λ k. Fresh k l′) l
     other = apart-is l l′ (λ k i. omega (arith, apart k))
 
     pub frame-rem : (x : ℕ) → 1 ≤ times x l → Held layout (unlinkT layout t e x) e′ l′

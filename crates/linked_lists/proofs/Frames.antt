@@ -11,8 +11,8 @@ use Rattle.lists.specs.Choice.{_⇒_else_, _==_}
 use Rattle.lists.specs.Lists.{member}
 use Rattle.linked_lists.specs.declared.LinkLayout.{LinkLayout}
 use Rattle.linked_lists.specs.declared.Ends.{Ends}
-use Rattle.linked_lists.specs.Lists.{Fresh, All}
-use Rattle.linked_lists.specs.Links.{ValidLayout, Side, backward, forward, linkAddress, HasAddress, lacksAddress, Inside, linkOf, putT, joinT, Chain, Held, unlinkT, insertT}
+use Rattle.linked_lists.specs.Lists.{Fresh, Every}
+use Rattle.linked_lists.specs.Links.{ValidLayout, Direction, backward, forward, linkAddress, HasAddress, lacksAddress, Inside, linkOf, putT, joinT, Chain, Held, unlinkT, insertT}
 use Rattle.linked_lists.proofs.Words.{nodes-apart}
 use Rattle.linked_lists.proofs.HeldLaws.{before-x, after-x, after-last}
 use Rattle.linked_lists.proofs.ListLaws.{Split, split, SplitAfter, split-after, all-left, all-right, all-last, all-head}
@@ -20,10 +20,10 @@ use Rattle.linked_lists.proofs.Puts.{length-join}
 
 -- no word of node k of one layout is a word of node a of another
 abbrev pub Off : LinkLayout → LinkLayout → ℕ → ℕ → Type 0
-Off layout′ layout a k = HasAddress layout a → (r s : Side) → linkAddress r layout′ k ≡ linkAddress s layout a → ⊥
+Off layout′ layout a k = HasAddress layout a → (r s : Direction) → linkAddress r layout′ k ≡ linkAddress s layout a → ⊥
 
 -- a word that is not the one put is kept; one that is neither of the two that a join puts is kept
-pub put-other : (s : Side) (layout : LinkLayout) (k v : ℕ) (t : List ℕ) (i : ℕ) → (HasAddress layout k → i ≡ linkAddress s layout k → ⊥) →
+pub put-other : (s : Direction) (layout : LinkLayout) (k v : ℕ) (t : List ℕ) (i : ℕ) → (HasAddress layout k → i ≡ linkAddress s layout k → ⊥) →
     getD (putT s layout k v t) i 0 ≡ getD t i 0
 unfolding putT
 put-other s layout k v t i h = go (k == 0) (lacksAddress layout k) refl
@@ -40,25 +40,25 @@ unfolding joinT
 join-other layout a b t i ha hb = put-other backward layout b a (putT forward layout a b t) i hb ∙ put-other forward layout a b t i ha
 
 -- a chain depends only on the links of its nodes, and on those of its two ends
-chain-agree : (n p n′ p′ : ℕ → ℕ) (a : ℕ) (l : List ℕ) (b : ℕ) → n′ a ≡ n a → All (λ k. (n′ k ≡ n k) × (p′ k ≡ p k)) l → p′ b ≡ p b →
+chain-agree : (n p n′ p′ : ℕ → ℕ) (a : ℕ) (l : List ℕ) (b : ℕ) → n′ a ≡ n a → Every (λ k. (n′ k ≡ n k) × (p′ k ≡ p k)) l → p′ b ≡ p b →
     Chain n p a l b → Chain n′ p′ a l b
 chain-agree n p n′ p′ a [] b ha hl hb h = (ha ∙ h .0, hb ∙ h .1)
 chain-agree n p n′ p′ a (x ∷ l) b ha hl hb h =
     ((ha ∙ h .0 .0, hl .0 .1 ∙ h .0 .1), chain-agree n p n′ p′ x l b (hl .0 .0) (hl .1) hb (h .1))
 
 -- where a table agrees at a node's words, the node's links agree
-link-agree : (s : Side) (layout : LinkLayout) (t t′ : List ℕ) (e : Ends) (k : ℕ) → getD t′ (linkAddress s layout k) 0 ≡ getD t (linkAddress s layout k) 0
+link-agree : (s : Direction) (layout : LinkLayout) (t t′ : List ℕ) (e : Ends) (k : ℕ) → getD t′ (linkAddress s layout k) 0 ≡ getD t (linkAddress s layout k) 0
     → linkOf s layout t′ e k ≡ linkOf s layout t e k
 unfolding linkOf
 link-agree s layout t t′ e k h = simp h
 
-link-zero : (s : Side) (layout : LinkLayout) (t t′ : List ℕ) (e : Ends) → linkOf s layout t′ e 0 ≡ linkOf s layout t e 0
+link-zero : (s : Direction) (layout : LinkLayout) (t t′ : List ℕ) (e : Ends) → linkOf s layout t′ e 0 ≡ linkOf s layout t e 0
 unfolding linkOf
 link-zero s layout t t′ e = refl
 
 module _ (layout′ layout : LinkLayout) (a b : ℕ) (t : List ℕ) (e : Ends) where
-  agree : (l : List ℕ) → All (Off layout′ layout a) l → All (Off layout′ layout b) l →
-      All (λ k. (linkOf forward layout′ (joinT layout a b t) e k ≡ linkOf forward layout′ t e k) × (linkOf backward layout′ (joinT layout a b t) e k ≡ linkOf backward layout′ t e k)) l
+  agree : (l : List ℕ) → Every (Off layout′ layout a) l → Every (Off layout′ layout b) l →
+      Every (λ k. (linkOf forward layout′ (joinT layout a b t) e k ≡ linkOf forward layout′ t e k) × (linkOf backward layout′ (joinT layout a b t) e k ≡ linkOf backward layout′ t e k)) l
   agree [] ha hb = tt
   agree (k ∷ l) ha hb = (
     (
@@ -69,7 +69,7 @@ module _ (layout′ layout : LinkLayout) (a b : ℕ) (t : List ℕ) (e : Ends) w
   )
 
   -- a list off the two nodes that are joined is still held
-  pub frame-join : (l : List ℕ) → All (Off layout′ layout a) l → All (Off layout′ layout b) l → Held layout′ t e l → Held layout′ (joinT layout a b t) e l
+  pub frame-join : (l : List ℕ) → Every (Off layout′ layout a) l → Every (Off layout′ layout b) l → Held layout′ t e l → Held layout′ (joinT layout a b t) e l
   frame-join l ha hb h =
       record {
         chain =
@@ -82,7 +82,7 @@ module _ (layout′ layout : LinkLayout) (a b : ℕ) (t : List ℕ) (e : Ends) w
 -- ---- the same layout, other nodes
 
 module _ (layout : LinkLayout) (valid : ValidLayout layout) where
-  off-nodes : (a n : ℕ) (l : List ℕ) → Fresh 0 l → All (Inside layout n) l → Fresh a l → All (Off layout layout a) l
+  off-nodes : (a n : ℕ) (l : List ℕ) → Fresh 0 l → Every (Inside layout n) l → Fresh a l → Every (Off layout layout a) l
   off-nodes a n [] z i f = tt
   off-nodes a n (k ∷ l) z i f =
       ((λ o r s. nodes-apart layout r s k a valid (i .0 (λ q. z .0 (sym q)) .0) o (λ q. f .0 (sym q))), off-nodes a n l (z .1) (i .1) (f .1))
@@ -94,7 +94,7 @@ module _ (layout : LinkLayout) (valid : ValidLayout layout) where
 -- ---- a list of other nodes in the same layout, after a whole step
 
 module _ (layout : LinkLayout) (valid : ValidLayout layout) (t : List ℕ) (e : Ends) (l : List ℕ) (e′ : Ends) (l′ : List ℕ)
-    (h : Held layout t e l) (h′ : Held layout t e′ l′) (apart : All (λ k. Fresh k l′) l) where
+    (h : Held layout t e l) (h′ : Held layout t e′ l′) (apart : Every (λ k. Fresh k l′) l) where
   pub frame-unlink : (x : ℕ) → member x l ≡ true → Held layout (unlinkT layout t e x) e′ l′
   frame-unlink x m = go (split x l m)
     where
@@ -103,7 +103,7 @@ module _ (layout : LinkLayout) (valid : ValidLayout layout) (t : List ℕ) (e : 
           let u = s .before in
           let v = s .after in
           let g : Held layout t e (u ++ x ∷ v) = rw (s .whole) at h in
-          let d : All (λ k. Fresh k l′) (u ++ x ∷ v) = rw (s .whole) at apart in
+          let d : Every (λ k. Fresh k l′) (u ++ x ∷ v) = rw (s .whole) at apart in
           frame-nodes layout valid (linkOf backward layout t e x) (linkOf forward layout t e x) t e′ l′
           (rw (before-x layout t e u v x g) (all-last (λ k. Fresh k l′) 0 u (h′ .distinct .0) (all-left (λ k. Fresh k l′) u (x ∷ v) d)))
           (rw (after-x layout t e u v x g) (all-head (λ k. Fresh k l′) 0 v (h′ .distinct .0) (all-right (λ k. Fresh k l′) u (x ∷ v) d .1)))
@@ -117,7 +117,7 @@ module _ (layout : LinkLayout) (valid : ValidLayout layout) (t : List ℕ) (e : 
           let u = s .before in
           let v = s .after in
           let g : Held layout t e (u ++ v) = rw (s .whole) at h in
-          let d : All (λ k. Fresh k l′) (u ++ v) = rw (s .whole) at apart in
+          let d : Every (λ k. Fresh k l′) (u ++ v) = rw (s .whole) at apart in
           let fp : Fresh p l′ = rw (s .last) (all-last (λ k. Fresh k l′) 0 u (h′ .distinct .0) (all-left (λ k. Fresh k l′) u v d)) in
           let fn : Fresh (linkOf forward layout t e p) l′ =
           rw (s .last, after-last layout t e u v g) (all-head (λ k. Fresh k l′) 0 v (h′ .distinct .0) (all-right (λ k. Fresh k l′) u v d)) in
@@ -127,11 +127,12 @@ module _ (layout : LinkLayout) (valid : ValidLayout layout) (t : List ℕ) (e : 
 
 -- ---- a word that is no link word of the layout
 
-pub unlink-word : (layout : LinkLayout) (t : List ℕ) (e : Ends) (x i : ℕ) → ((s : Side) (k : ℕ) → HasAddress layout k → i ≡ linkAddress s layout k → ⊥) → getD (unlinkT layout t e x) i 0 ≡ getD t i 0
+pub unlink-word : (layout : LinkLayout) (t : List ℕ) (e : Ends) (x i : ℕ) → ((s : Direction) (k : ℕ) → HasAddress layout k → i ≡ linkAddress s layout k → ⊥)
+    → getD (unlinkT layout t e x) i 0 ≡ getD t i 0
 unlink-word layout t e x i h =
     join-other layout (linkOf backward layout t e x) (linkOf forward layout t e x) t i (h forward (linkOf backward layout t e x)) (h backward (linkOf forward layout t e x))
 
-pub insert-word : (layout : LinkLayout) (t : List ℕ) (e : Ends) (p x i : ℕ) → ((s : Side) (k : ℕ) → HasAddress layout k → i ≡ linkAddress s layout k → ⊥)
+pub insert-word : (layout : LinkLayout) (t : List ℕ) (e : Ends) (p x i : ℕ) → ((s : Direction) (k : ℕ) → HasAddress layout k → i ≡ linkAddress s layout k → ⊥)
     → getD (insertT layout t e p x) i 0 ≡ getD t i 0
 insert-word layout t e p x i h =
     join-other layout x (linkOf forward layout t e p) (joinT layout p x t) i (h forward x) (h backward (linkOf forward layout t e p)) ∙
@@ -139,9 +140,9 @@ insert-word layout t e p x i h =
 
 -- ---- a table that agrees at the words of the layout
 
-module _ (layout : LinkLayout) (t t′ : List ℕ) (e : Ends) (same : (s : Side) (k : ℕ) → HasAddress layout k → getD t′ (linkAddress s layout k) 0 ≡ getD t (linkAddress s layout k) 0) where
-  all-agree : (n : ℕ) (l : List ℕ) → Fresh 0 l → All (Inside layout n) l →
-      All (λ k. (linkOf forward layout t′ e k ≡ linkOf forward layout t e k) × (linkOf backward layout t′ e k ≡ linkOf backward layout t e k)) l
+module _ (layout : LinkLayout) (t t′ : List ℕ) (e : Ends) (same : (s : Direction) (k : ℕ) → HasAddress layout k → getD t′ (linkAddress s layout k) 0 ≡ getD t (linkAddress s layout k) 0) where
+  all-agree : (n : ℕ) (l : List ℕ) → Fresh 0 l → Every (Inside layout n) l →
+      Every (λ k. (linkOf forward layout t′ e k ≡ linkOf forward layout t e k) × (linkOf backward layout t′ e k ≡ linkOf backward layout t e k)) l
   all-agree n [] z o = tt
   all-agree n (k ∷ l) z o =
       let st : HasAddress layout k = o .0 (λ q. z .0 (sym q)) .0 in

@@ -8,7 +8,7 @@ use lib.ListN.{length}
 use Rattle.lists.specs.Lists.{member}
 use Rattle.linked_lists.specs.declared.LinkLayout.{LinkLayout}
 use Rattle.linked_lists.specs.declared.Ends.{Ends}
-use Rattle.linked_lists.specs.Lists.{Fresh, All, remove, insertAfter, predOf}
+use Rattle.linked_lists.specs.Lists.{Fresh, Every, remove, insertAfter, predOf}
 use Rattle.linked_lists.specs.Links.{ValidLayout, backward, forward, Inside, linkOf, joinT, joinE, Held, unlinkT, unlinkE, insertT, insertE, CanUnlink, CanInsert}
 use Rattle.linked_lists.proofs.ListLaws.{lastOr, headOr, Split, split, SplitAfter, split-after, remove-at, insert-at, pred-at, all-left, all-right, all-last, all-head, all-drop}
 use Rattle.linked_lists.proofs.ListLaws.{all-put, all-mid, fresh-mid, fresh-last, fresh-first, fresh-left, fresh-right, distinct-left, distinct-drop, distinct-put}
@@ -19,10 +19,10 @@ use Rattle.linked_lists.proofs.Puts.{length-join, join-next, join-prev,
 inside-0 : (layout : LinkLayout) (n : ℕ) → Inside layout n 0
 inside-0 layout n h = absurd (h refl)
 
-inside-last : (layout : LinkLayout) (n : ℕ) (u : List ℕ) → All (Inside layout n) u → Inside layout n (lastOr 0 u)
+inside-last : (layout : LinkLayout) (n : ℕ) (u : List ℕ) → Every (Inside layout n) u → Inside layout n (lastOr 0 u)
 inside-last layout n u h = all-last (Inside layout n) 0 u (inside-0 layout n) h
 
-inside-head : (layout : LinkLayout) (n : ℕ) (v : List ℕ) → All (Inside layout n) v → Inside layout n (headOr 0 v)
+inside-head : (layout : LinkLayout) (n : ℕ) (v : List ℕ) → Every (Inside layout n) v → Inside layout n (headOr 0 v)
 inside-head layout n v h = all-head (Inside layout n) 0 v (inside-0 layout n) h
 
 -- ---- out

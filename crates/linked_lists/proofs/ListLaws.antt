@@ -10,7 +10,7 @@ use Rattle.lists.specs.Lists.{member}
 use Rattle.lists.specs.Keyed.{insertAfterBy, prevBy, lastBy}
 use Rattle.lists.proofs.Bools.{tf, ft}
 use Rattle.lists.proofs.Picks.{pick-yes, pick-no, pick-self}
-use Rattle.linked_lists.specs.Lists.{Fresh, Distinct, All, remove}
+use Rattle.linked_lists.specs.Lists.{Fresh, Distinct, Every, remove}
 
 -- the last of a ∷ u, and the first of v ++ b ∷ []
 abbrev pub lastOr : ℕ → List ℕ → ℕ
@@ -23,31 +23,31 @@ headOr b (x ∷ v) = x
 -- ---- All, Fresh, Distinct of ++
 
 module _ (P : ℕ → Type 0) where
-  pub all-left : (u v : List ℕ) → All P (u ++ v) → All P u
+  pub all-left : (u v : List ℕ) → Every P (u ++ v) → Every P u
   all-left [] v h = tt
   all-left (x ∷ u) v h = (h .0, all-left u v (h .1))
 
-  pub all-right : (u v : List ℕ) → All P (u ++ v) → All P v
+  pub all-right : (u v : List ℕ) → Every P (u ++ v) → Every P v
   all-right [] v h = h
   all-right (x ∷ u) v h = all-right u v (h .1)
 
-  pub all-last : (a : ℕ) (u : List ℕ) → P a → All P u → P (lastOr a u)
+  pub all-last : (a : ℕ) (u : List ℕ) → P a → Every P u → P (lastOr a u)
   all-last a [] h k = h
   all-last a (x ∷ u) h k = all-last x u (k .0) (k .1)
 
-  pub all-head : (b : ℕ) (v : List ℕ) → P b → All P v → P (headOr b v)
+  pub all-head : (b : ℕ) (v : List ℕ) → P b → Every P v → P (headOr b v)
   all-head b [] h k = h
   all-head b (x ∷ v) h k = k .0
 
-  pub all-drop : (u : List ℕ) (x : ℕ) (v : List ℕ) → All P (u ++ x ∷ v) → All P (u ++ v)
+  pub all-drop : (u : List ℕ) (x : ℕ) (v : List ℕ) → Every P (u ++ x ∷ v) → Every P (u ++ v)
   all-drop [] x v h = h .1
   all-drop (y ∷ u) x v h = (h .0, all-drop u x v (h .1))
 
-  pub all-put : (u : List ℕ) (x : ℕ) (v : List ℕ) → P x → All P (u ++ v) → All P (u ++ x ∷ v)
+  pub all-put : (u : List ℕ) (x : ℕ) (v : List ℕ) → P x → Every P (u ++ v) → Every P (u ++ x ∷ v)
   all-put [] x v a h = (a, h)
   all-put (y ∷ u) x v a h = (h .0, all-put u x v a (h .1))
 
-  pub all-mid : (u : List ℕ) (x : ℕ) (v : List ℕ) → All P (u ++ x ∷ v) → P x
+  pub all-mid : (u : List ℕ) (x : ℕ) (v : List ℕ) → Every P (u ++ x ∷ v) → P x
   all-mid [] x v h = h .0
   all-mid (y ∷ u) x v h = all-mid u x v (h .1)
 
@@ -72,7 +72,7 @@ distinct-right [] v h = h
 distinct-right (x ∷ u) v h = distinct-right u v (h .1)
 
 -- no node of u is in v
-pub distinct-apart : (u v : List ℕ) → Distinct (u ++ v) → All (λ k. Fresh k v) u
+pub distinct-apart : (u v : List ℕ) → Distinct (u ++ v) → Every (λ k. Fresh k v) u
 distinct-apart [] v h = tt
 distinct-apart (x ∷ u) v h = (fresh-right x u v (h .0), distinct-apart u v (h .1))
 
@@ -82,11 +82,11 @@ fresh-last k a [] h e = h .0 e
 fresh-last k a (x ∷ u) h e = fresh-last k x u (h .1) e
 
 -- each node of u is another than z: z is not in u
-pub fresh-all : (z : ℕ) (u w : List ℕ) → All (λ k. Fresh k (z ∷ w)) u → Fresh z u
+pub fresh-all : (z : ℕ) (u w : List ℕ) → Every (λ k. Fresh k (z ∷ w)) u → Fresh z u
 fresh-all z [] w h = tt
 fresh-all z (x ∷ u) w h = ((λ e. h .0 .0 (sym e)), fresh-all z u w (h .1))
 
-pub fresh-head : (b : ℕ) (u v : List ℕ) → Fresh b u → All (λ k. Fresh k v) u → Fresh (headOr b v) u
+pub fresh-head : (b : ℕ) (u v : List ℕ) → Fresh b u → Every (λ k. Fresh k v) u → Fresh (headOr b v) u
 fresh-head b u [] h k = h
 fresh-head b u (z ∷ v) h k = fresh-all z u v k
 

@@ -10,10 +10,10 @@ use borrow.Author.Tests.{eqb-true, eqb-false, ltb-true, ltb-false}
 use Rattle.linked_lists.specs.declared.LinkLayout.{LinkLayout}
 use Rattle.linked_lists.specs.declared.Ends.{Ends}
 use Rattle.lists.specs.Choice.{_⇒_else_, _==_}
-use Rattle.linked_lists.specs.Links.{ValidLayout, Side, backward, forward, linkAddress, nodeAddress, HasAddress, lacksAddress, Inside, endOf, withEnd, linkOf, putT, putE, joinT, joinE}
+use Rattle.linked_lists.specs.Links.{ValidLayout, Direction, backward, forward, linkAddress, nodeAddress, HasAddress, lacksAddress, Inside, endOf, withEnd, linkOf, putT, putE, joinT, joinE}
 use Rattle.linked_lists.proofs.Words.{nodes-apart, sides-apart}
 
-pub length-put : (s : Side) (layout : LinkLayout) (k v : ℕ) (t : List ℕ) → length (putT s layout k v t) ≡ length t
+pub length-put : (s : Direction) (layout : LinkLayout) (k v : ℕ) (t : List ℕ) → length (putT s layout k v t) ≡ length t
 unfolding putT
 length-put s layout k v t = go (k == 0) (lacksAddress layout k)
   where
@@ -22,16 +22,16 @@ length-put s layout k v t = go (k == 0) (lacksAddress layout k)
     go false true = refl
     go false false = simp length-set
 
-word-below : (s : Side) (layout : LinkLayout) (n k : ℕ) → nodeAddress layout k + 1 < n → linkAddress s layout k < n
+word-below : (s : Direction) (layout : LinkLayout) (n k : ℕ) → nodeAddress layout k + 1 < n → linkAddress s layout k < n
 word-below backward layout n k h = omega arith
 word-below forward layout n k h = omega arith
 
-end-same : (s : Side) (v : ℕ) (e : Ends) → endOf s (withEnd s v e) ≡ v
+end-same : (s : Direction) (v : ℕ) (e : Ends) → endOf s (withEnd s v e) ≡ v
 end-same backward v e = refl
 end-same forward v e = refl
 
 -- the link that was put
-pub link-same : (s : Side) (layout : LinkLayout) (k v : ℕ) (t : List ℕ) (e : Ends) → Inside layout (length t) k →
+pub link-same : (s : Direction) (layout : LinkLayout) (k v : ℕ) (t : List ℕ) (e : Ends) → Inside layout (length t) k →
     linkOf s layout (putT s layout k v t) (putE s k v e) k ≡ v
 unfolding linkOf putT putE
 link-same s layout k v t e i = go (k == 0) (lacksAddress layout k) refl refl
@@ -43,7 +43,7 @@ link-same s layout k v t e i = go (k == 0) (lacksAddress layout k) refl refl
     go false false h g = getD-set-same t (linkAddress s layout k) v 0 (word-below s layout (length t) k (i (eqb-false k 0 h) .1))
 
 -- a link whose word, or end, is another than the one put
-link-apart : (r s : Side) (layout : LinkLayout) (j k v : ℕ) (t : List ℕ) (e : Ends) →
+link-apart : (r s : Direction) (layout : LinkLayout) (j k v : ℕ) (t : List ℕ) (e : Ends) →
     (j ≡ 0 → k ≡ 0 → endOf r (withEnd s v e) ≡ endOf r e) →
     (HasAddress layout j → HasAddress layout k → linkAddress r layout j ≡ linkAddress s layout k → ⊥) →
     linkOf r layout (putT s layout k v t) (putE s k v e) j ≡ linkOf r layout t e j
@@ -63,7 +63,7 @@ link-apart r s layout j k v t e he hw = go (j == 0) (k == 0) (lacksAddress layou
 
 module _ (layout : LinkLayout) (j k v : ℕ) (t : List ℕ) (e : Ends) (valid : ValidLayout layout) where
   -- another node's link
-  pub link-node : (r s : Side) → (j ≡ k → ⊥) → linkOf r layout (putT s layout k v t) (putE s k v e) j ≡ linkOf r layout t e j
+  pub link-node : (r s : Direction) → (j ≡ k → ⊥) → linkOf r layout (putT s layout k v t) (putE s k v e) j ≡ linkOf r layout t e j
   link-node r s ne =
       link-apart r s layout j k v t e (λ a b. absurd (ne (a ∙ sym b))) (λ a b. nodes-apart layout r s j k valid a b ne)
 

@@ -11,10 +11,18 @@ use borrow.Author.Tests.{eqb-false, ne-eqb, le-ltb}
 use Rattle.lists.specs.Choice.{_⇒_else_, _==_}
 use Rattle.linked_lists.specs.declared.LinkLayout.{LinkLayout}
 use Rattle.linked_lists.specs.declared.Ends.{Ends}
-use Rattle.linked_lists.specs.Links.{Side, backward, forward, nodeAddress, linkAddress, HasAddress, Inside, linkOf, CanAppend, putT, putE, joinT, joinE, unlinkT, unlinkE, insertT, insertE}
+use Rattle.linked_lists.specs.Links.{Direction, backward, forward, nodeAddress, linkAddress, HasAddress, Inside, linkOf, CanUnlink, CanInsert, CanAppend, putT, putE, joinT, joinE, unlinkT}
+use Rattle.linked_lists.specs.Links.{unlinkE, insertT, insertE, moveT, moveE}
 
 pub inside-by : (layout : LinkLayout) {m m′ n n′ : ℕ} → m ≡ m′ → n ≡ n′ → Inside layout n′ m′ → Inside layout n m
 inside-by layout p q h = rw (p, q) h
+
+-- what a call asks, of the table and ends that another left
+pub unlink-by : (layout : LinkLayout) (t : List ℕ) {e e′ : Ends} (x : ℕ) → e ≡ e′ → CanUnlink layout t e′ x → CanUnlink layout t e x
+unlink-by layout t x q h = rw q h
+
+pub insert-by : (layout : LinkLayout) {t t′ : List ℕ} {e e′ : Ends} (p x : ℕ) → t ≡ t′ → e ≡ e′ → CanInsert layout t′ e′ p x → CanInsert layout t e p x
+insert-by layout p x q r h = rw (q, r) h
 
 module _ (layout : LinkLayout) (t : List ℕ) (e : Ends) where
   -- the join of `unlink`
@@ -29,6 +37,11 @@ module _ (layout : LinkLayout) (t : List ℕ) (e : Ends) where
     unfolding joinT joinE
     join-steps a b p q = (q .0 ∙ ap (putT backward layout b a) (p .0), q .1 ∙ ap (putE backward b a) (p .1))
 
+-- a link of a node is a word of the table
+pub link-word : (layout : LinkLayout) (t : List ℕ) (e : Ends) (s : Direction) (x : ℕ) → (x ≡ 0 → ⊥) → HasAddress layout x → linkOf s layout t e x ≡ getD t (linkAddress s layout x) 0
+unfolding linkOf
+link-word layout t e s x z h = rw (ne-eqb x 0 z, le-ltb (layout .stride * x) (layout .offset) h)
+
 -- a node's own words, which need no test that it is one
 module _ (layout : LinkLayout) (t : List ℕ) (e : Ends) (x : ℕ) (node : x ≡ 0 → ⊥) (has : HasAddress layout x) where
   pub word-prev : {a : ℕ} → a ≡ nodeAddress layout x → getD t a 0 ≡ linkOf backward layout t e x
@@ -39,11 +52,11 @@ module _ (layout : LinkLayout) (t : List ℕ) (e : Ends) (x : ℕ) (node : x ≡
   unfolding linkOf
   word-next k = simp (k, le-ltb _ _ has, ne-eqb _ _ node)
 
-  put-at : (s : Side) (v : ℕ) (u : List ℕ) → putT s layout x v u ≡ set u (linkAddress s layout x) v
+  put-at : (s : Direction) (v : ℕ) (u : List ℕ) → putT s layout x v u ≡ set u (linkAddress s layout x) v
   unfolding putT
   put-at s v u = rw (ne-eqb x 0 node, le-ltb (layout .stride * x) (layout .offset) has) refl
 
-  no-end : (s : Side) (v : ℕ) (f : Ends) → putE s x v f ≡ f
+  no-end : (s : Direction) (v : ℕ) (f : Ends) → putE s x v f ≡ f
   unfolding putE
   no-end s v f = rw (ne-eqb x 0 node) refl
 
@@ -115,3 +128,11 @@ module _ (layout : LinkLayout) (t : List ℕ) (e : Ends) (x : ℕ) (can : CanApp
           let h = le-ltb (layout .stride * p) (layout .offset) (can .back .prev (eqb-false p 0 r) .0) in
           let v : putT forward layout p x t ≡ set t (nodeAddress layout p + 1) x = rw (r, h) in
           (rw (y, k) (sym (table-is ∙ ap after v)), rw (n, can .end, none, r))
+
+-- the two calls of `relink`
+module _ (layout : LinkLayout) (x p : ℕ) (t : List ℕ) (e : Ends) where
+  pub moved : {t′ t″ : List ℕ} {o r : Ends} →
+      (t′ ≡ unlinkT layout t e x) × (o ≡ unlinkE layout t e x) → (t″ ≡ insertT layout t′ o p x) × (r ≡ insertE layout t′ o p x) →
+      (t″ ≡ moveT layout x p t e) × (r ≡ moveE layout x p t e)
+  unfolding moveT moveE
+  moved a b = (b .0 ∙ (λ i. insertT layout (a .0 i) (a .1 i) p x), b .1 ∙ (λ i. insertE layout (a .0 i) (a .1 i) p x))

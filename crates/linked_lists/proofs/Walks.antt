@@ -8,7 +8,7 @@ use native.Mathlib.Omega.{arith}
 use lib.ListN.{length}
 use borrow.Author.Tests.{eq-eqb, ne-eqb}
 use Rattle.lists.specs.Choice.{_⇒_else_, _==_}
-use Rattle.lists.specs.Lists.{member, first, dropThrough, after, before}
+use Rattle.lists.specs.Lists.{member, first, dropThrough, successor, before}
 use Rattle.lists.proofs.Bools.{ft, or-right}
 use Rattle.lists.proofs.Picks.{same, differ, same?}
 use Rattle.linked_lists.specs.declared.LinkLayout.{LinkLayout}
@@ -55,7 +55,7 @@ not-first k [] f e = f .0 e
 not-first k (y ∷ l) f e = f .1 .0 e
 
 -- the node after x is none, or is in the list
-pub after-in : (x : ℕ) (l : List ℕ) → (after x l ≡ 0) ⊎ (member (after x l) l ≡ true)
+pub after-in : (x : ℕ) (l : List ℕ) → (successor x l ≡ 0) ⊎ (member (successor x l) l ≡ true)
 after-in x l = go (dropThrough x l) (λ k. has-behind k x l)
   where
     go : (v : List ℕ) → ((k : ℕ) → member k v ≡ true → member k l ≡ true) → (first v ≡ 0) ⊎ (member (first v) l ≡ true)
@@ -91,7 +91,7 @@ suffix-first : (l : List ℕ) → suffix (first l) l ≡ l
 suffix-first [] = refl
 suffix-first (y ∷ l) = suffix-here y y l refl
 
-suffix-after : (x : ℕ) (l : List ℕ) → Distinct (0 ∷ l) → suffix (after x l) l ≡ dropThrough x l
+suffix-after : (x : ℕ) (l : List ℕ) → Distinct (0 ∷ l) → suffix (successor x l) l ≡ dropThrough x l
 suffix-after x [] d = refl
 suffix-after x (y ∷ l) d =
     let f : Fresh y (0 ∷ l) = ((λ q. d .0 .0 (sym q)), d .1 .0) in
@@ -99,7 +99,7 @@ suffix-after x (y ∷ l) d =
       | same e i ↦ rw (behind-here x y l e) (suffix-later (first l) y l (not-first y l f) ∙ suffix-first l)
       | differ e i ↦
           rw (behind-later x y l e)
-          (suffix-later (after x l) y l (not-first y (dropThrough x l) (f .0, fresh-behind y x l (f .1))) ∙ suffix-after x l (d .0 .1, d .1 .1))
+          (suffix-later (successor x l) y l (not-first y (dropThrough x l) (f .0, fresh-behind y x l (f .1))) ∙ suffix-after x l (d .0 .1, d .1 .1))
     ]
 
 -- ---- a held list
@@ -110,13 +110,13 @@ module _ (layout : LinkLayout) (t : List ℕ) (e : Ends) (l : List ℕ) (h : Hel
   next-first = head-link (linkOf forward layout t e) (linkOf backward layout t e) 0 l 0 (h .chain) .0 ∙ head-first l
 
   -- a node's next link is the node after it in the list
-  pub next-after : (x : ℕ) → member x l ≡ true → linkOf forward layout t e x ≡ after x l
+  pub next-after : (x : ℕ) → member x l ≡ true → linkOf forward layout t e x ≡ successor x l
   next-after x m = go (split x l m)
     where
-      go : Split x l → linkOf forward layout t e x ≡ after x l
+      go : Split x l → linkOf forward layout t e x ≡ successor x l
       go s =
           let g : Held layout t e (s .before ++ x ∷ s .after) = rw (s .whole) at h in
-          let q : after x l ≡ first (s .after) = ap (λ k. after x k) (s .whole) ∙ ap first (behind-at x (s .before) (s .after) (s .fresh)) in
+          let q : successor x l ≡ first (s .after) = ap (λ k. successor x k) (s .whole) ∙ ap first (behind-at x (s .before) (s .after) (s .fresh)) in
           after-x layout t e (s .before) (s .after) x g ∙ head-first (s .after) ∙ sym q
 
 -- ---- the walk of `before`, from a in search of b, along the list that the table holds
@@ -143,7 +143,7 @@ module _ (layout : LinkLayout) (t : List ℕ) (e : Ends) (valid : ValidLayout la
   pub walk-start : (b x : ℕ) → x ≡ linkOf forward layout t e a → Walk (nodes layout t e) a b x
   walk-start b x q =
       let l = nodes layout t e in
-      let n : x ≡ after a l = q ∙ next-after layout t e l held a walk-in in
+      let n : x ≡ successor a l = q ∙ next-after layout t e l held a walk-in in
       record { place = rw n (after-in a l); rest = rw (n, suffix-after a l (held .distinct)) }
 
   module _ (b x : ℕ) (w : Walk (nodes layout t e) a b x) where

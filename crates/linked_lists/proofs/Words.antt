@@ -5,7 +5,7 @@ use native.Mathlib.Decide.{decLt, ℕ-discrete}
 use native.Mathlib.Omega.{arith}
 use mathlib.Core.Path.{_≡_, ap}
 use Rattle.linked_lists.specs.declared.LinkLayout.{LinkLayout}
-use Rattle.linked_lists.specs.Links.{ValidLayout, Side, backward, forward, linkAddress, nodeAddress, HasAddress, Inside}
+use Rattle.linked_lists.specs.Links.{ValidLayout, Direction, backward, forward, linkAddress, nodeAddress, HasAddress, Inside}
 
 pub product : (layout : LinkLayout) (n x : ℕ) → ValidLayout layout → (x ≡ 0 → ⊥) → Inside layout n x → n < 2 ^ 62 → layout .stride * x < 2 ^ 64
 product layout n x f h i b = omega (arith, i h .1)
@@ -22,10 +22,10 @@ order : (x y : ℕ) → (x ≡ y → ⊥) → Order x y
 order x y h = elim (decLt x y) [ yes l ↦ less l | no g ↦ more (omega arith) ]
 
 -- the words of two nodes on any two sides are apart
-pub nodes-apart : (layout : LinkLayout) (s r : Side) (x y : ℕ) → ValidLayout layout → HasAddress layout x → HasAddress layout y → (x ≡ y → ⊥) → linkAddress s layout x ≡ linkAddress r layout y → ⊥
+pub nodes-apart : (layout : LinkLayout) (s r : Direction) (x y : ℕ) → ValidLayout layout → HasAddress layout x → HasAddress layout y → (x ≡ y → ⊥) → linkAddress s layout x ≡ linkAddress r layout y → ⊥
 nodes-apart layout s r x y f hx hy ne = go s r (order x y ne)
   where
-    go : (s r : Side) → Order x y → linkAddress s layout x ≡ linkAddress r layout y → ⊥
+    go : (s r : Direction) → Order x y → linkAddress s layout x ≡ linkAddress r layout y → ⊥
     go backward backward (less h) e = omega (arith, step (layout .stride) x y h)
     go backward forward (less h) e = omega (arith, step (layout .stride) x y h)
     go forward backward (less h) e = omega (arith, step (layout .stride) x y h)

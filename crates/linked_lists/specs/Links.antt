@@ -1,5 +1,5 @@
--- Doubly linked lists in a table of words: where the links stand, what it is to hold a list, and what unlinking and
--- inserting leave.
+-- Doubly linked lists in a table of words: where the links stand, what it is to hold a list, and what unlinking,
+-- inserting and moving leave.
 -- Vseq, Eseq and the incidence list of each vertex are lists of this kind.
 use Prim.Native.Nat.{ℕ, zero, suc, _+_, _-_, _*_, _≤_, _<_}
 use mathlib.Core.Path.{_≡_}
@@ -11,7 +11,7 @@ use Rattle.lists.specs.Choice.{_⇒_else_, _==_}
 use Rattle.lists.specs.Lists.{member}
 use Rattle.linked_lists.specs.declared.LinkLayout.{LinkLayout}
 use Rattle.linked_lists.specs.declared.Ends.{Ends}
-use Rattle.linked_lists.specs.Lists.{Distinct, All}
+use Rattle.linked_lists.specs.Lists.{Distinct, Every}
 
 -- ---- where the links stand
 
@@ -21,15 +21,15 @@ pub record ValidLayout (layout : LinkLayout) : Type 0 where
   pub near : layout .offset ≤ 65536
 
 -- the prev side of a node, and its next side
-pub data Side : Type 0 where
-  backward forward : Side
+pub data Direction : Type 0 where
+  backward forward : Direction
 
 -- where node x's words start
 abbrev pub nodeAddress : LinkLayout → ℕ → ℕ
 nodeAddress layout x = layout .stride * x - layout .offset
 
 -- where node x's word of a side stands
-abbrev pub linkAddress : Side → LinkLayout → ℕ → ℕ
+abbrev pub linkAddress : Direction → LinkLayout → ℕ → ℕ
 linkAddress backward layout x = nodeAddress layout x
 linkAddress forward layout x = nodeAddress layout x + 1
 
@@ -49,23 +49,23 @@ Inside layout n x = (x ≡ 0 → ⊥) → HasAddress layout x × (nodeAddress la
 -- ---- one link
 
 -- node 0 is the ends: its next node is the first, its prev node the last
-abbrev pub endOf : Side → Ends → ℕ
+abbrev pub endOf : Direction → Ends → ℕ
 endOf backward e = e .last
 endOf forward e = e .first
 
-abbrev pub withEnd : Side → ℕ → Ends → Ends
+abbrev pub withEnd : Direction → ℕ → Ends → Ends
 withEnd backward v e = record { first = e .first; last = v }
 withEnd forward v e = record { first = v; last = e .last }
 
 -- the link of node k on a side: read off the ends at 0, and off the table elsewhere
-unfoldable pub linkOf : Side → LinkLayout → List ℕ → Ends → ℕ → ℕ
+unfoldable pub linkOf : Direction → LinkLayout → List ℕ → Ends → ℕ → ℕ
 linkOf s layout t e k = (k == 0) ⇒ endOf s e else lacksAddress layout k ⇒ 0 else getD t (linkAddress s layout k) 0
 
 -- the table, and the ends, once the link of node k is v
-unfoldable pub putT : Side → LinkLayout → ℕ → ℕ → List ℕ → List ℕ
+unfoldable pub putT : Direction → LinkLayout → ℕ → ℕ → List ℕ → List ℕ
 putT s layout k v t = (k == 0) ⇒ t else lacksAddress layout k ⇒ t else set t (linkAddress s layout k) v
 
-unfoldable pub putE : Side → ℕ → ℕ → Ends → Ends
+unfoldable pub putE : Direction → ℕ → ℕ → Ends → Ends
 putE s k v e = (k == 0) ⇒ withEnd s v e else e
 
 -- ---- the list that is held
@@ -84,7 +84,7 @@ Chain n p a (x ∷ l) b = Link n p a x × Chain n p x l b
 pub record Held (layout : LinkLayout) (t : List ℕ) (e : Ends) (l : List ℕ) : Type 0 where
   pub chain : Chain (linkOf forward layout t e) (linkOf backward layout t e) 0 l 0
   pub distinct : Distinct (0 ∷ l)
-  pub inside : All (Inside layout (length t)) l
+  pub inside : Every (Inside layout (length t)) l
 
 -- some list is held that has the node x
 abbrev pub HeldAt : LinkLayout → List ℕ → Ends → ℕ → Type 0
@@ -143,3 +143,15 @@ pub record CanInsert (layout : LinkLayout) (t : List ℕ) (e : Ends) (p x : ℕ)
 pub record CanAppend (layout : LinkLayout) (t : List ℕ) (e : Ends) (x : ℕ) : Type 0 where
   pub back : CanInsert layout t e (e .last) x
   pub end : linkOf forward layout t e (e .last) ≡ 0
+
+-- x taken out and put in again directly after p
+unfoldable pub moveT : LinkLayout → ℕ → ℕ → List ℕ → Ends → List ℕ
+moveT layout x p t e = insertT layout (unlinkT layout t e x) (unlinkE layout t e x) p x
+
+unfoldable pub moveE : LinkLayout → ℕ → ℕ → List ℕ → Ends → Ends
+moveE layout x p t e = insertE layout (unlinkT layout t e x) (unlinkE layout t e x) p x
+
+-- what moving x after p asks
+pub record CanMove (layout : LinkLayout) (x p : ℕ) (t : List ℕ) (e : Ends) : Type 0 where
+  pub out : CanUnlink layout t e x
+  pub back : CanInsert layout (unlinkT layout t e x) (unlinkE layout t e x) p x

@@ -15,9 +15,9 @@ Distinct [] = Unit {0}
 Distinct (x ∷ l) = Fresh x l × Distinct l
 
 -- P holds of each number of the list
-abbrev pub All : (ℕ → Type 0) → List ℕ → Type 0
-All P [] = Unit {0}
-All P (x ∷ l) = P x × All P l
+abbrev pub Every : (ℕ → Type 0) → List ℕ → Type 0
+Every P [] = Unit {0}
+Every P (x ∷ l) = P x × Every P l
 
 -- l without x
 abbrev pub remove : ℕ → List ℕ → List ℕ

@@ -8,7 +8,7 @@ ghost use Rattle.lists.specs.Lists.{before as isBefore};
 ghost use Rattle.linked_lists.specs.Links.{ValidLayout, Inside, HasAddress, nodeAddress, linkOf, putT, putE};
 ghost use Rattle.linked_lists.specs.Links.{backward, forward, joinT, joinE};
 ghost use Rattle.linked_lists.specs.Links.{unlinkT, unlinkE, insertT, insertE, CanUnlink, CanInsert, HeldAt};
-ghost use Rattle.linked_lists.specs.Links.{CanAppend, nodes};
+ghost use Rattle.linked_lists.specs.Links.{CanAppend, CanMove, moveT, moveE, nodes};
 
 // Where a list's links stand in a table: node x has its prev word at stride * x - offset, its next word just after it.
 pub struct LinkLayout {
@@ -22,8 +22,8 @@ pub struct Ends {
     pub last: u32,
 }
 
-// The place of node x's prev word.
-fn place(n: usize, layout: LinkLayout, x: u32) -> usize
+// Where node x's prev word stands.
+fn address(n: usize, layout: LinkLayout, x: u32) -> usize
     requires { ⌜ ValidLayout layout ⌝ }
     requires { ⌜ (x ≡ 0 → ⊥) ⌝ }
     requires { ⌜ Inside layout n x ⌝ }
@@ -42,21 +42,8 @@ pub fn next(table: &[u32], layout: LinkLayout, ends: Ends, x: u32) -> u32
     if x == 0 {
         return ends.first;
     }
-    let at = place(table.len(), layout, x);
+    let at = address(table.len(), layout, x);
     table[at + 1]
-}
-
-// The node before x, 0 before the first; the last node where x is 0.
-pub fn prev(table: &[u32], layout: LinkLayout, ends: Ends, x: u32) -> u32
-    requires { ⌜ ValidLayout layout ⌝ }
-    requires { ⌜ Inside layout (length (now table)) x ⌝ }
-    ensures { λ r. ⌜ r ≡ linkOf backward layout (now (table .entry)) ends x ⌝ }
-{
-    if x == 0 {
-        return ends.last;
-    }
-    let at = place(table.len(), layout, x);
-    table[at]
 }
 
 // Makes v the node after x.
@@ -72,7 +59,7 @@ fn put_next(table: &mut [u32], layout: LinkLayout, ends: Ends, x: u32, v: u32) -
             last: ends.last,
         };
     }
-    let at = place(table.len(), layout, x);
+    let at = address(table.len(), layout, x);
     table[at + 1] = v;
     ends
 }
@@ -90,7 +77,7 @@ fn put_prev(table: &mut [u32], layout: LinkLayout, ends: Ends, x: u32, v: u32) -
             last: v,
         };
     }
-    let at = place(table.len(), layout, x);
+    let at = address(table.len(), layout, x);
     table[at] = v;
     ends
 }
@@ -112,7 +99,7 @@ pub fn unlink(table: &mut [u32], layout: LinkLayout, ends: Ends, x: u32) -> Ends
     ensures { λ r. ⌜ (now (table .exit) ≡ unlinkT layout (now (table .entry)) ends x)
         × (r ≡ unlinkE layout (now (table .entry)) ends x) ⌝ }
 {
-    let at = place(table.len(), layout, x);
+    let at = address(table.len(), layout, x);
     let p = table[at];
     let n = table[at + 1];
     join(table, layout, ends, p, n)
@@ -125,11 +112,21 @@ pub fn insert_after(table: &mut [u32], layout: LinkLayout, ends: Ends, p: u32, x
         × (r ≡ insertE layout (now (table .entry)) ends p x) ⌝ }
 {
     let n = next(table, layout, ends, p);
-    let at = place(table.len(), layout, x);
+    let at = address(table.len(), layout, x);
     let e = put_next(table, layout, ends, p, x);
     table[at] = p;
     table[at + 1] = n;
     put_prev(table, layout, e, n, x)
+}
+
+// Takes node x out and puts it after node p, or at the front where p is 0.
+pub fn relink(table: &mut [u32], layout: LinkLayout, ends: Ends, x: u32, p: u32) -> Ends
+    requires { ⌜ CanMove layout x p (now table) ends ⌝ }
+    ensures { λ r. ⌜ (now (table .exit) ≡ moveT layout x p (now (table .entry)) ends)
+        × (r ≡ moveE layout x p (now (table .entry)) ends) ⌝ }
+{
+    let without = unlink(table, layout, ends, x);
+    insert_after(table, layout, without, p, x)
 }
 
 // One word or another: by whether there is a node.
@@ -150,8 +147,8 @@ pub fn append(table: &mut [u32], layout: LinkLayout, ends: Ends, x: u32) -> Ends
         × (r ≡ insertE layout (now (table .entry)) ends (ends .last) x) ⌝ }
 {
     let p = ends.last;
-    let before = place(table.len(), layout, either(p, x, p));
-    let at = place(table.len(), layout, x);
+    let before = address(table.len(), layout, either(p, x, p));
+    let at = address(table.len(), layout, x);
     let first = either(p, x, ends.first);
     table[before + 1] = x;
     table[at] = p;

@@ -2,7 +2,11 @@ pub mod Bools
 pub mod Picks
 pub mod KeyedLaws
 pub mod Sums
+pub mod WordLaws
+pub mod Equality
 pub mod Stores
+pub mod Without
+pub mod Ranges
 pub mod Counts
 pub mod KeyedAll
 pub mod Places

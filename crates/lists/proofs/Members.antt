@@ -1,13 +1,15 @@
 -- The elements of lists of numbers: by count, and those that a list operation picks.
-use Prim.Native.Nat.{ℕ, suc, _+_, _≤_}
-use mathlib.Core.Path.{_≡_, refl, subst}
-use mathlib.Core.Bool.{Bool, true, false}
+use Prim.Native.Nat.{ℕ, zero, suc, _+_, _≤_}
+use mathlib.Core.Path.{_≡_, refl, sym, _∙_, subst}
+use mathlib.Core.Bool.{Bool, true, false, _||_, true≢false}
 use mathlib.Core.List.{List, [], _∷_, map}
 use native.Mathlib.Omega.{arith}
 use lib.ListN.{length}
 use borrow.Author.Tests.{eqb-true, eq-eqb}
 use Rattle.lists.specs.Choice.{_⇒_else_, _==_, toBit}
-use Rattle.lists.specs.Lists.{filter, member, count, first, dropThrough, after, dedupFrom, dedup, All, done, more}
+use Rattle.lists.specs.Lists.{filter, member, count, first, dropThrough, successor, dedupFrom, dedup, All, done, more}
+use Rattle.lists.proofs.Bools.{ft}
+use Rattle.lists.proofs.Sums.{has-count}
 
 module _ {P : ℕ → Type 0} where
   -- what holds of each number that stands in a list holds of every element, and the other way round
@@ -39,7 +41,7 @@ module _ {P : ℕ → Type 0} where
       go ih true = s
       go ih false = ih
 
-  pub all-after : P 0 → (a : ℕ) {xs : List ℕ} → All P xs → P (after a xs)
+  pub all-after : P 0 → (a : ℕ) {xs : List ℕ} → All P xs → P (successor a xs)
   all-after z a s = all-first z (all-behind a s)
 
   all-from : (seen : List ℕ) {xs : List ℕ} → All P xs → All P (dedupFrom seen xs)
@@ -65,3 +67,29 @@ keep-length p (x ∷ xs) = go (keep-length p xs) (p x)
     go : length (filter p xs) ≤ length xs → (t : Bool) → length (t ⇒ (x ∷ filter p xs) else filter p xs) ≤ suc (length xs)
     go ih true = omega arith
     go ih false = omega arith
+
+-- ---- membership
+
+pub has-self : (n : ℕ) (ns : List ℕ) → member n (n ∷ ns) ≡ true
+has-self n ns = rw (eq-eqb n n refl)
+
+pub has-later : (u v : ℕ) (vs : List ℕ) → member u vs ≡ true → member u (v ∷ vs) ≡ true
+has-later u v vs h = go (v == u)
+  where
+    go : (t : Bool) → (t || member u vs) ≡ true
+    go true = refl
+    go false = h
+
+pub not-has : (u v : ℕ) (vs : List ℕ) → member v vs ≡ false → member u vs ≡ true → u ≡ v → ⊥
+not-has u v vs f h e = true≢false (sym h ∙ subst (λ (y : ℕ). member y vs ≡ false) (sym e) f)
+
+pub positive : (u : ℕ) (vs : List ℕ) → member 0 vs ≡ false → member u vs ≡ true → 1 ≤ u
+positive zero vs f h = ft (sym f ∙ h)
+positive (suc u) vs f h = omega arith
+
+pub none-there : (n : ℕ) (xs : List ℕ) → count n xs ≡ 0 → member n xs ≡ false
+none-there n xs e = go (member n xs) refl
+  where
+    go : (t : Bool) → member n xs ≡ t → t ≡ false
+    go true f = absurd (omega (arith, has-count n xs f))
+    go false f = refl

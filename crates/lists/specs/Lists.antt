@@ -30,6 +30,12 @@ module _ {A : Type 0} where
     done : All P []
     more : {x : A} {xs : List A} → P x → All P xs → All P (x ∷ xs)
 
+  -- the list without element i, counted from 0
+  abbrev pub without : ℕ → List A → List A
+  without i [] = []
+  without zero (x ∷ xs) = xs
+  without (suc i) (x ∷ xs) = x ∷ without i xs
+
   -- f of each element, one after another
   abbrev pub concatMap : (A → List ℕ) → List A → List ℕ
   concatMap f [] = []
@@ -72,8 +78,8 @@ abbrev pub dropThrough : ℕ → List ℕ → List ℕ
 dropThrough a [] = []
 dropThrough a (x ∷ xs) = (x == a) ⇒ xs else dropThrough a xs
 
-abbrev pub after : ℕ → List ℕ → ℕ
-after a xs = first (dropThrough a xs)
+abbrev pub successor : ℕ → List ℕ → ℕ
+successor a xs = first (dropThrough a xs)
 
 -- is b behind a
 abbrev pub before : ℕ → ℕ → List ℕ → Bool

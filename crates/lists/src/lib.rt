@@ -1,4 +1,8 @@
-// Shared definitions and laws on choices, lists and counts, and one function: the word of a slice at any place.
+// Shared definitions and laws on choices, lists and counts; the word of a slice at any place, and small functions that
+// many crates call.
+pub mod words; // words.rt: words of slices at places that need not be there
+pub mod numbers; // numbers.rt: widening, the smaller of two, a choice
+
 ghost use mathlib.Core.Path.{_≡_};
 ghost use lib.ListN.{getD};
 

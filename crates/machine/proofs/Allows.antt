@@ -7,14 +7,16 @@ use lib.Dec.{leb}
 use borrow.Author.Tests.{eqb-true, eqb-false, leb-false, not-false}
 use Rattle.lists.specs.Choice.{_⇒_else_, _==_, within}
 use Rattle.graph.specs.declared.Change.{Change}
-use Rattle.graph.specs.declared.Change.the-variants.{CreateVertex, DeleteVertex, CreateEdge, DeleteEdge, RetypeVertex, RetypeEdge, SetValue, SetReading, SetAlpha, SetOmega, VertexBefore}
-use Rattle.graph.specs.declared.Change.the-variants.{VertexAfter, EdgeBefore, EdgeAfter, WordBefore, WordAfter}
+use Rattle.graph.specs.declared.SingleChange.{SingleChange}
+use Rattle.graph.specs.declared.SingleChange.the-variants.{CreateVertex, CreateEdge, DeleteEdge, RetypeVertex, RetypeEdge, SetValue, SetReading, SetAlpha, SetOmega, VertexBefore}
+use Rattle.graph.specs.declared.SingleChange.the-variants.{VertexAfter, EdgeBefore, EdgeAfter, WordBefore, WordAfter}
+use Rattle.graph.specs.declared.Change.the-variants.{Single, DeleteVertex}
 use Rattle.graph.specs.Graph.{Graph, hasVertex, hasEdge, edgeOf, this, isReading}
 use Rattle.graph.specs.WellFormed.{Bounds, WellFormed}
-use Rattle.graph.specs.Changes.{VertexThere, EdgeThere, Allowed}
+use Rattle.graph.specs.Changes.{VertexThere, EdgeThere, SinglyAllowed, Allowed}
 use Rattle.graph.proofs.Numbers.{vertex-none, edge-none, vertex-once, edge-once}
 use Rattle.machine.specs.Codes.{lacksVertex, lacksEdge, changeCode}
-use Rattle.commands.specs.Fits.{ChangeFits}
+use Rattle.commands.specs.Fits.{SingleFits, ChangeFits}
 use Rattle.lists.proofs.Bools.{within-range, or-none}
 
 -- a chain that gives 0 has passed its first row
@@ -63,35 +65,38 @@ module _ (b : Bounds) (g : Graph) (w : WellFormed g) where
       let s = zero (not (this g x == this g y)) 8 _ (omega arith) (z .2) in
       (z .0, z .1, eqb-true (this g x) (this g y) (not-false (this g x == this g y) (s .0)), apart x y (s .1))
 
-  pub allows : (c : Change) → ChangeFits c → changeCode b g c ≡ 0 → Allowed b g c
-  allows (CreateVertex n t x) f e =
+  pub singly-allows : (c : SingleChange) → SingleFits c → changeCode b g (Single c) ≡ 0 → SinglyAllowed b g c
+  singly-allows (CreateVertex n t x) f e =
       let p = zero (not (within 1 (b .vertices) n)) 2 _ (omega arith) e in
       let q = zero (hasVertex g n) 3 _ (omega arith) (p .1) in
       let r = ranged (b .vertices) n (p .0) in
       (r .0, r .1, vertex-none g n (q .0), type t (q .1), f)
-  allows (DeleteVertex a) f e = vertex a (zero (lacksVertex g a) 4 0 (omega arith) e .0)
-  allows (CreateEdge n a o t) f e =
+  singly-allows (CreateEdge n a o t) f e =
       let p = zero (not (within 1 (b .edges) n)) 2 _ (omega arith) e in
       let q = zero (hasEdge g n) 3 _ (omega arith) (p .1) in
       let r = ranged (b .edges) n (p .0) in
       let v = vertices a o _ (q .1) in
       (r .0, r .1, edge-none g n (q .0), v .0, v .1, type t (v .2))
-  allows (DeleteEdge a) f e = edge a (zero (lacksEdge g a) 5 0 (omega arith) e .0)
-  allows (RetypeVertex a t) f e = let p = zero (lacksVertex g a) 4 _ (omega arith) e in (vertex a (p .0), type t (p .1))
-  allows (RetypeEdge a t) f e = let p = zero (lacksEdge g a) 5 _ (omega arith) e in (edge a (p .0), type t (p .1))
-  allows (SetValue a x) f e = (vertex a (zero (lacksVertex g a) 4 0 (omega arith) e .0), f)
-  allows (SetReading a k d) f e =
+  singly-allows (DeleteEdge a) f e = edge a (zero (lacksEdge g a) 5 0 (omega arith) e .0)
+  singly-allows (RetypeVertex a t) f e = let p = zero (lacksVertex g a) 4 _ (omega arith) e in (vertex a (p .0), type t (p .1))
+  singly-allows (RetypeEdge a t) f e = let p = zero (lacksEdge g a) 5 _ (omega arith) e in (edge a (p .0), type t (p .1))
+  singly-allows (SetValue a x) f e = (vertex a (zero (lacksVertex g a) 4 0 (omega arith) e .0), f)
+  singly-allows (SetReading a k d) f e =
       let p = zero (lacksEdge g a) 5 _ (omega arith) e in
       (edge a (p .0), not-false (isReading k d) (zero (not (isReading k d)) 7 0 (omega arith) (p .1) .0))
-  allows (SetAlpha n v) f e =
+  singly-allows (SetAlpha n v) f e =
       let p = zero (lacksVertex g v) 4 _ (omega arith) e in
       (edge n (zero (lacksEdge g n) 5 0 (omega arith) (p .1) .0), vertex v (p .0))
-  allows (SetOmega n v) f e =
+  singly-allows (SetOmega n v) f e =
       let p = zero (lacksVertex g v) 4 _ (omega arith) e in
       (edge n (zero (lacksEdge g n) 5 0 (omega arith) (p .1) .0), vertex v (p .0))
-  allows (VertexBefore x y) f e = two-vertices x y e
-  allows (VertexAfter x y) f e = two-vertices x y e
-  allows (EdgeBefore x y) f e = two-edges x y e
-  allows (EdgeAfter x y) f e = two-edges x y e
-  allows (WordBefore x y) f e = two-words x y e
-  allows (WordAfter x y) f e = two-words x y e
+  singly-allows (VertexBefore x y) f e = two-vertices x y e
+  singly-allows (VertexAfter x y) f e = two-vertices x y e
+  singly-allows (EdgeBefore x y) f e = two-edges x y e
+  singly-allows (EdgeAfter x y) f e = two-edges x y e
+  singly-allows (WordBefore x y) f e = two-words x y e
+  singly-allows (WordAfter x y) f e = two-words x y e
+
+  pub allows : (c : Change) → ChangeFits c → changeCode b g c ≡ 0 → Allowed b g c
+  allows (Single c) f e = singly-allows c f e
+  allows (DeleteVertex a) f e = vertex a (zero (lacksVertex g a) 4 0 (omega arith) e .0)

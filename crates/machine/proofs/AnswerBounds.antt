@@ -48,7 +48,7 @@ use Rattle.commands.specs.declared.Command.{Command}
 use Rattle.commands.specs.declared.Command.the-variants.{Alter, History, Ask, Quote, Unknown}
 use Rattle.commands.specs.Tables.{Row, lowest}
 use Rattle.commands.specs.Commands.{commandOf, callOf}
-use Rattle.commands.specs.Fits.{Words}
+use Rattle.commands.specs.Fits.{WordsFit}
 use Rattle.graph.specs.Changes.{cost}
 use Rattle.graph.specs.Same.{alters}
 use Rattle.history.specs.Machine.{stepOf}
@@ -160,7 +160,7 @@ module _ (w : Parameters) (m : Machine) (k : Limits w) (i : Invariant w m) where
 
 -- ---- a list of calls
 
-pub answers-fit : (w : Parameters) (m : Machine) (xs : List Call) → Limits w → Invariant w m → All Words xs → All Word (answerWords (answers w m xs))
+pub answers-fit : (w : Parameters) (m : Machine) (xs : List Call) → Limits w → Invariant w m → All WordsFit xs → All Word (answerWords (answers w m xs))
 unfolding answers
 answers-fit w m [] k i done = done
 answers-fit w m (x ∷ xs) k i (more f fs) =
@@ -173,7 +173,7 @@ all-fit [] h = done
 all-fit (w ∷ ws) h = more (h 0) (all-fit ws (λ i. h (suc i)))
 
 -- calls of words that have 32 bits
-pub calls-fit : {ws : List ℕ} → All Word ws → All Words (callsOf ws)
+pub calls-fit : {ws : List ℕ} → All Word ws → All WordsFit (callsOf ws)
 calls-fit (more a (more b (more c (more d (more e s))))) = more (record { b-fits = c; c-fits = d }) (calls-fit s)
 calls-fit done = done
 calls-fit (more a done) = done

@@ -11,11 +11,11 @@ use Rattle.lists.specs.Lists.{all}
 use Rattle.lists.proofs.Bools.{and-true, within-range}
 use Rattle.type_rows.specs.Rows.{rowFits, goodRows}
 use Rattle.image.specs.Image.{vertexSize, vertexOffset, incidenceOffset, imageLength, vertexCount, edgeCount, recordSize}
-use Rattle.image.specs.Checks.{codeOf, loadCode, verdict}
-use Rattle.image.specs.FirstBad.{isDegree, FirstBad, FirstDegree}
-use Rattle.image.specs.declared.Verdict.{Verdict}
-use Rattle.image.specs.declared.Verdict.the-variants.{Sound, BadHeader, BadRecord, BadIncidence}
-use Rattle.image.proofs.LoadCodes.{bad-record, bad-degree, bad-incidence}
+use Rattle.image_check.specs.Checks.{codeOf, loadCode, verdict}
+use Rattle.image_check.specs.FirstBad.{isDegree, FirstBad, FirstDegree}
+use Rattle.image_check.specs.declared.Verdict.{Verdict}
+use Rattle.image_check.specs.declared.Verdict.the-variants.{Sound, BadHeader, BadRecord, BadIncidence}
+use Rattle.image_check.proofs.LoadCodes.{bad-record, bad-degree, bad-incidence}
 use Rattle.machine.specs.Calls.{boundsIn}
 use Rattle.machine.specs.Run.{Lent, parametersOf, listRefusal, listNumber}
 use Rattle.machine.proofs.ListRows.{startRows}

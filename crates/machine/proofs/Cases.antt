@@ -11,7 +11,7 @@ use Rattle.lists.proofs.Sums.{all-bool}
 use Rattle.graph.specs.Graph.{Graph, empty}
 use Rattle.graph.specs.WellFormed.{wellFormed}
 use Rattle.image.specs.Image.{save, saveOld}
-use Rattle.image.proofs.RecordWords.{same-eq}
+use Rattle.lists.proofs.Equality.{words-eq}
 use Rattle.image.proofs.Loads.{one-graph}
 use Rattle.history.specs.Machine.{fresh, present}
 use Rattle.machine.specs.Calls.{boundsIn}
@@ -28,7 +28,7 @@ unfolding twelve ifEqual
 computed = refl
 
 pub cases-hold : All (λ (c : Case). c .found ≡ c .said) twelve
-cases-hold = all-bool (λ (c : Case). equalLists (c .found) (c .said)) (λ c e. same-eq (c .found) (c .said) e) twelve computed
+cases-hold = all-bool (λ (c : Case). equalLists (c .found) (c .said)) (λ c e. words-eq (c .found) (c .said) e) twelve computed
 
 formed : wellFormed (boundsIn parameters) seven ≡ true
 unfolding wellFormed ifEqual
@@ -36,7 +36,7 @@ formed = refl
 
 -- graphs that save as the same words are the same
 same-graph : (g : Graph) → wellFormed (boundsIn parameters) g ≡ true → equalLists (save g) (save seven) ≡ true → g ≡ seven
-same-graph g f e = one-graph (boundsIn parameters) (boundsIn parameters) g seven f formed (inl (same-eq (save g) (save seven) e)) (inl refl)
+same-graph g f e = one-graph (boundsIn parameters) (boundsIn parameters) g seven f formed (inl (words-eq (save g) (save seven) e)) (inl refl)
 
 -- the calls that make Seven
 pub made : present (last parameters (fresh empty) making) ≡ seven

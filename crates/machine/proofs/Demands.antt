@@ -12,7 +12,7 @@ use Rattle.graph.specs.Graph.{Graph}
 use Rattle.graph.specs.WellFormed.{wellFormed}
 use Rattle.image.specs.Image.{SavesAs}
 use Rattle.image.proofs.Loads.{loads-back, saved-same, saved-loads, saves-loads, loads, loaded}
-use Rattle.image.proofs.LoadCodes.{code-loads}
+use Rattle.image_check.proofs.LoadCodes.{code-loads}
 use Rattle.image.proofs.WordSize.{Word}
 use Rattle.history.specs.Machine.{Machine}
 use Rattle.commands.specs.declared.Command.{Command}

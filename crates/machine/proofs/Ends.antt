@@ -15,12 +15,12 @@ use Rattle.machine.specs.Calls.{Parameters, boundsIn}
 use Rattle.machine.specs.Machine.{last}
 use Rattle.machine.specs.Run.{Lent, parametersOf, listRefusal}
 use Rattle.machine.specs.Demand.{after}
-use Rattle.commands.specs.Fits.{Words}
+use Rattle.commands.specs.Fits.{WordsFit}
 use Rattle.machine.proofs.AnswerBounds.{calls-fit}
 use Rattle.machine.proofs.Graphs.{Formed, end-formed}
 use Rattle.machine.proofs.ListRows.{passed, start-formed}
 
-module _ (w : Parameters) (g : Graph) (xs : List Call) (h : Formed w g) (f : All Words xs) where
+module _ (w : Parameters) (g : Graph) (xs : List Call) (h : Formed w g) (f : All WordsFit xs) where
   pub end-fits : length (save (present (last w (fresh g) xs))) ≤ imageLength (w .vertices) (w .edges)
   end-fits = image-fits (boundsIn w) (present (last w (fresh g) xs)) (end-formed w g xs h f)
 

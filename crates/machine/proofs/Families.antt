@@ -12,8 +12,9 @@ use Rattle.lists.specs.Lists.{All, done, more}
 use Rattle.lists.proofs.Bools.{ft}
 use Rattle.lists.proofs.Sums.{all-bool}
 use Rattle.graph.specs.declared.Change.{Change}
-use Rattle.graph.specs.declared.Change.the-variants.{CreateVertex, DeleteVertex, CreateEdge, DeleteEdge, RetypeVertex, RetypeEdge, SetValue, SetReading, SetAlpha, SetOmega, VertexBefore}
-use Rattle.graph.specs.declared.Change.the-variants.{VertexAfter, EdgeBefore, EdgeAfter, WordBefore, WordAfter}
+use Rattle.graph.specs.declared.SingleChange.the-variants.{CreateVertex, CreateEdge, DeleteEdge, RetypeVertex, RetypeEdge, SetValue, SetReading, SetAlpha, SetOmega, VertexBefore}
+use Rattle.graph.specs.declared.SingleChange.the-variants.{VertexAfter, EdgeBefore, EdgeAfter, WordBefore, WordAfter}
+use Rattle.graph.specs.declared.Change.the-variants.{Single, DeleteVertex}
 use Rattle.graph.specs.Changes.{cost}
 use Rattle.graph.specs.Same.{alters}
 use Rattle.history.specs.Machine.{Step, stepOf, Machine, present}
@@ -58,22 +59,22 @@ module _ (w : Parameters) (m : Machine) where
 
   room-only : (c : Change) → lowest (historyTable (w .changes) m (changeCall c) ++ (lastTable (present m) (changeCall c) ++ laterTable m (changeCall c))) ≡ (tooDear (w .changes) m c ⇒ 10 else 0)
   unfolding changeOf
-  room-only (CreateVertex n t x) = refl
+  room-only (Single (CreateVertex n t x)) = refl
   room-only (DeleteVertex a) = refl
-  room-only (CreateEdge n a o t) = refl
-  room-only (DeleteEdge a) = refl
-  room-only (RetypeVertex a t) = refl
-  room-only (RetypeEdge a t) = refl
-  room-only (SetValue a x) = refl
-  room-only (SetReading a k d) = refl
-  room-only (SetAlpha e v) = refl
-  room-only (SetOmega e v) = refl
-  room-only (VertexBefore a b) = refl
-  room-only (VertexAfter a b) = refl
-  room-only (EdgeBefore a b) = refl
-  room-only (EdgeAfter a b) = refl
-  room-only (WordBefore a b) = refl
-  room-only (WordAfter a b) = refl
+  room-only (Single (CreateEdge n a o t)) = refl
+  room-only (Single (DeleteEdge a)) = refl
+  room-only (Single (RetypeVertex a t)) = refl
+  room-only (Single (RetypeEdge a t)) = refl
+  room-only (Single (SetValue a x)) = refl
+  room-only (Single (SetReading a k d)) = refl
+  room-only (Single (SetAlpha e v)) = refl
+  room-only (Single (SetOmega e v)) = refl
+  room-only (Single (VertexBefore a b)) = refl
+  room-only (Single (VertexAfter a b)) = refl
+  room-only (Single (EdgeBefore a b)) = refl
+  room-only (Single (EdgeAfter a b)) = refl
+  room-only (Single (WordBefore a b)) = refl
+  room-only (Single (WordAfter a b)) = refl
 
   pub change-refusal : (c : Change) → refusal w m (Alter c) ≡ changeRule (boundsIn w) (w .changes) c .code m
   unfolding refusal

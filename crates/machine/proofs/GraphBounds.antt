@@ -15,12 +15,12 @@ use Rattle.lists.proofs.KeyedLaws.{find-none}
 use Rattle.lists.proofs.Firsts.{distinct-firsts}
 use Rattle.lists.proofs.Members.{all-counted, counted-all, all-firsts, all-keys, keep-length}
 use Rattle.graph.specs.declared.Change.{Change}
+use Rattle.graph.specs.declared.Change.the-variants.{Single, DeleteVertex}
 use Rattle.graph.specs.Graph.{Vertex, Edge, Graph, vertexNumber, edgeNumber, noVertex, noEdge, edgeIn, vertex, edge, vertexNumbers, edgeNumbers, outWord, inWord, edgeOf, this, that, thisIn}
 use Rattle.graph.specs.Graph.{listOf, readingKind, decimetres}
 use Rattle.graph.specs.WellFormed.{Bounds, wellFormed, WellFormed, VertexIn, EdgeIn, Within}
 use Rattle.graph.specs.Changes.{edgesAt, cost}
 use Rattle.graph.specs.Questions.{onSide, degree}
-use Rattle.graph.proofs.ChangeLaws.{Kind, deletion, single, kind?}
 use Rattle.graph.proofs.Facts.{to-facts}
 use Rattle.graph.proofs.Incidence.{this-out, this-into, pick-le}
 use Rattle.graph.proofs.Lists.{ordered-list}
@@ -155,15 +155,5 @@ module _ (b : Bounds) (g : Graph) (h : wellFormed b g ≡ true) where
       in-list = all-firsts (all-keys edgeOf (all-imp (λ k f. (omega (arith, f .0), omega (arith, f .1))) (list-words a)))
 
   pub cost-le : (c : Change) → cost c g ≤ 1 + b .edges
-  cost-le c = go (kind? c)
-    where
-      go : {d : Change} → Kind d → cost d g ≤ 1 + b .edges
-      go (deletion a) = omega (arith, edges-at-le a)
-      go (single e k) = omega (arith, k g)
-
-pub cost-real : (c : Change) (g : Graph) → 1 ≤ cost c g
-cost-real c g = go (kind? c)
-  where
-    go : {d : Change} → Kind d → 1 ≤ cost d g
-    go (deletion a) = omega arith
-    go (single e k) = omega (arith, k g)
+  cost-le (Single c) = omega arith
+  cost-le (DeleteVertex a) = omega (arith, edges-at-le a)

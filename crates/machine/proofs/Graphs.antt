@@ -17,7 +17,7 @@ use Rattle.commands.specs.declared.Command.{Command}
 use Rattle.commands.specs.declared.Command.the-variants.{Alter, History, Ask, Quote, Unknown}
 use Rattle.commands.specs.Calls.{Call}
 use Rattle.commands.specs.Commands.{commandOf}
-use Rattle.commands.specs.Fits.{Words, CommandFits}
+use Rattle.commands.specs.Fits.{WordsFit, CommandFits}
 use Rattle.commands.proofs.Fitting.{command-fits}
 use Rattle.machine.proofs.Accepts.{accepted-step, refused-step}
 use Rattle.machine.proofs.Allows.{allows}
@@ -70,7 +70,7 @@ makes-formed w m (Ask q) f a e = tt
 makes-formed w m (Quote p) f a e = tt
 makes-formed w m Unknown f a e = tt
 
-pub step-formed : (w : Parameters) (m : Machine) (x : Call) → Words x → AllFormed w m → AllFormed w (step w m x)
+pub step-formed : (w : Parameters) (m : Machine) (x : Call) → WordsFit x → AllFormed w m → AllFormed w (step w m x)
 step-formed w m x f a = go (refusal w m c == 0) refl
   where
     c : Command
@@ -80,7 +80,7 @@ step-formed w m x f a = go (refusal w m c == 0) refl
     go true e = rw (accepted-step w m c e) (next-formed w (deedOf w c m .effect) m (makes-formed w m c (command-fits x f) a e) a)
     go false e = rw (refused-step w m c e) a
 
-pub last-formed : (w : Parameters) (m : Machine) (xs : List Call) → All Words xs → AllFormed w m → AllFormed w (last w m xs)
+pub last-formed : (w : Parameters) (m : Machine) (xs : List Call) → All WordsFit xs → AllFormed w m → AllFormed w (last w m xs)
 unfolding last
 last-formed w m [] done a = a
 last-formed w m (x ∷ xs) (more f fs) a = last-formed w (step w m x) xs fs (step-formed w m x f a)
@@ -89,5 +89,5 @@ pub fresh-formed : (w : Parameters) (g : Graph) → Formed w g → AllFormed w (
 fresh-formed w g h = record { start = h; steps = done }
 
 -- after any list of calls
-pub end-formed : (w : Parameters) (g : Graph) (xs : List Call) → Formed w g → All Words xs → Formed w (present (last w (fresh g) xs))
+pub end-formed : (w : Parameters) (g : Graph) (xs : List Call) → Formed w g → All WordsFit xs → Formed w (present (last w (fresh g) xs))
 end-formed w g xs h fs = present-formed w (last w (fresh g) xs) (last-formed w (fresh g) xs fs (fresh-formed w g h))

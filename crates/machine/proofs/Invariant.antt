@@ -17,13 +17,13 @@ use Rattle.commands.specs.declared.Command.{Command}
 use Rattle.commands.specs.declared.Command.the-variants.{Alter, History, Ask, Quote, Unknown}
 use Rattle.commands.specs.Calls.{Call}
 use Rattle.commands.specs.Commands.{commandOf}
-use Rattle.commands.specs.Fits.{Words}
+use Rattle.commands.specs.Fits.{WordsFit}
 use Rattle.machine.proofs.Accepts.{accepted-step, refused-step}
 use Rattle.machine.proofs.Families.{Makes, change-effect, history-makes}
 use Rattle.machine.specs.Calls.{Parameters}
 use Rattle.machine.specs.Codes.{free, refusal}
 use Rattle.machine.specs.Machine.{deedOf, stepTo, step}
-use Rattle.machine.proofs.GraphBounds.{cost-real}
+use Rattle.graph.proofs.ChangeLaws.{cost-real}
 use Rattle.machine.proofs.Graphs.{Formed, AllFormed, step-formed, fresh-formed}
 use Rattle.machine.proofs.MarkLaws.{PlacesInRange, fresh-places, places-step}
 use Rattle.machine.proofs.CostsFit.{CostsFit, costs-fit-fresh, costs-fit-step}
@@ -84,7 +84,7 @@ pub record Invariant (w : Parameters) (m : Machine) : Type 0 where
 pub fresh-invariant : (w : Parameters) (g : Graph) → Formed w g → Invariant w (fresh g)
 fresh-invariant w g h = record { formed = fresh-formed w g h; places = fresh-places g; costs-fit = costs-fit-fresh w g; costed = done }
 
-pub step-invariant : (w : Parameters) (m : Machine) (x : Call) → Words x → Invariant w m → Invariant w (step w m x)
+pub step-invariant : (w : Parameters) (m : Machine) (x : Call) → WordsFit x → Invariant w m → Invariant w (step w m x)
 step-invariant w m x f i = record {
   formed = step-formed w m x f (i .formed);
   places = places-step w m x (i .places);

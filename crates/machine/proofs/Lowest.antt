@@ -16,11 +16,11 @@ use Rattle.graph.specs.Same.{alters}
 use Rattle.history.specs.Machine.{Machine, present}
 use Rattle.commands.specs.Calls.{Call}
 use Rattle.machine.specs.Calls.{Parameters}
-use Rattle.machine.specs.HistoryCodes.{isChange}
+use Rattle.commands.specs.Kinds.{isChange}
 use Rattle.commands.specs.Commands.{changeOf, callOf}
 use Rattle.machine.specs.Codes.{free, codeTable, refusal}
 use Rattle.machine.specs.HistoryCodes.{noRoom}
-use Rattle.commands.specs.Tables.{Row, inTurn, lowest, First, found, later, NoneApplies, none, passed}
+use Rattle.commands.specs.Tables.{Row, inTurn, lowest, FirstApplies, found, later, NoneApplies, none, passed}
 use Rattle.commands.specs.declared.Command.{Command}
 use Rattle.machine.proofs.Families.{Coded}
 use Rattle.machine.specs.Run.{Lent, listTable, listRefusal}
@@ -37,15 +37,15 @@ list-codes l = refl
 -- ---- any table of codes from 1 on
 
 module _ (k : ℕ) where
-  pub turn-to : (rs : List Row) → inTurn rs ≡ suc k → First (suc k) rs
+  pub turn-to : (rs : List Row) → inTurn rs ≡ suc k → FirstApplies (suc k) rs
   turn-to [] e = absurd (omega arith)
   turn-to (r ∷ rs) e = go (λ i. turn-to rs i) (r .applies) refl e
     where
-      go : (inTurn rs ≡ suc k → First (suc k) rs) → (t : Bool) → r .applies ≡ t → (t ⇒ r .code else inTurn rs) ≡ suc k → First (suc k) (r ∷ rs)
+      go : (inTurn rs ≡ suc k → FirstApplies (suc k) rs) → (t : Bool) → r .applies ≡ t → (t ⇒ r .code else inTurn rs) ≡ suc k → FirstApplies (suc k) (r ∷ rs)
       go ih true f i = found f i
       go ih false f i = later f (ih i)
 
-  pub turn-from : {rs : List Row} → First (suc k) rs → inTurn rs ≡ suc k
+  pub turn-from : {rs : List Row} → FirstApplies (suc k) rs → inTurn rs ≡ suc k
   turn-from (found f e) = rw f e
   turn-from (later f h) = rw f (turn-from h)
 
@@ -61,15 +61,15 @@ pub none-from : {rs : List Row} → NoneApplies rs → inTurn rs ≡ 0
 none-from none = refl
 none-from (passed f h) = rw f (none-from h)
 
-pub turn-either : (rs : List Row) → Coded rs → NoneApplies rs ⊎ ((k : ℕ) × First (suc k) rs)
+pub turn-either : (rs : List Row) → Coded rs → NoneApplies rs ⊎ ((k : ℕ) × FirstApplies (suc k) rs)
 turn-either rs c = go (inTurn rs) refl
   where
-    go : (n : ℕ) → inTurn rs ≡ n → NoneApplies rs ⊎ ((k : ℕ) × First (suc k) rs)
+    go : (n : ℕ) → inTurn rs ≡ n → NoneApplies rs ⊎ ((k : ℕ) × FirstApplies (suc k) rs)
     go zero e = inl (none-to rs c e)
     go (suc k) e = inr (k, turn-to k rs e)
 
 -- a row with another code does not apply, where a later one is the first
-pub later-than : {k : ℕ} {r : Row} {rs : List Row} → First k (r ∷ rs) → (r .code ≡ k → ⊥) → (r .applies ≡ false) × First k rs
+pub later-than : {k : ℕ} {r : Row} {rs : List Row} → FirstApplies k (r ∷ rs) → (r .code ≡ k → ⊥) → (r .applies ≡ false) × FirstApplies k rs
 later-than (found f e) n = absurd (n e)
 later-than (later f h) n = (f, h)
 
@@ -116,7 +116,7 @@ coded w m x = all-bool (λ (r : Row). leb 1 (r .code)) (λ r e. leb-true 1 (r .c
 
 module _ (w : Parameters) (m : Machine) (c : Command) where
   -- a code is given exactly where its row applies and no row before it does
-  pub code-given : (k : ℕ) → (refusal w m c ≡ suc k) ↔ First (suc k) (codeTable w m (callOf c))
+  pub code-given : (k : ℕ) → (refusal w m c ≡ suc k) ↔ FirstApplies (suc k) (codeTable w m (callOf c))
   unfolding refusal
   code-given k = (turn-to k (codeTable w m (callOf c)), turn-from k)
 
@@ -134,7 +134,7 @@ no-room w m x k =
 
 -- ---- the table of a list
 
-pub list-code-given : (l : Lent) (k : ℕ) → (listRefusal l ≡ suc k) ↔ First (suc k) (listTable l)
+pub list-code-given : (l : Lent) (k : ℕ) → (listRefusal l ≡ suc k) ↔ FirstApplies (suc k) (listTable l)
 unfolding listRefusal
 list-code-given l k = (turn-to k (listTable l), turn-from k)
 
@@ -143,5 +143,5 @@ unfolding listTable
 list-coded l = all-bool (λ (r : Row). leb 1 (r .code)) (λ r e. leb-true 1 (r .code) e) (listTable l) refl
 
 -- a list has a code, or no row applies
-pub list-either : (l : Lent) → NoneApplies (listTable l) ⊎ ((k : ℕ) × First (suc k) (listTable l))
+pub list-either : (l : Lent) → NoneApplies (listTable l) ⊎ ((k : ℕ) × FirstApplies (suc k) (listTable l))
 list-either l = turn-either (listTable l) (list-coded l)

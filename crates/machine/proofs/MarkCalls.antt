@@ -2,7 +2,7 @@
 -- whose effect does.
 use Prim.Native.Nat.{ℕ, suc, _≤_, _<_}
 use mathlib.Core.Path.{_≡_, refl, sym, ap, _∙_}
-use mathlib.Core.Logic.{_⊎_, inl, inr, _≢_}
+use mathlib.Core.Logic.{_≢_}
 use mathlib.Core.Bool.{Bool, true, false, not, _&&_, _||_}
 use mathlib.Core.List.{List, [], _∷_, _++_}
 use native.Mathlib.Omega.{arith}
@@ -10,26 +10,26 @@ use lib.Dec.{leb, ltb}
 use lib.ListN.{take}
 use borrow.Author.Tests.{eqb-true, eqb-false, ne-eqb, leb-false, le-leb, lt-leb}
 use Rattle.lists.specs.Choice.{_⇒_else_, _==_, within}
-use Rattle.lists.proofs.Bools.{tf, or-true, or-none, within-range}
+use Rattle.lists.proofs.Bools.{tf, or-none, within-range}
 use Rattle.graph.specs.declared.Change.{Change}
 use Rattle.graph.specs.Changes.{cost}
 use Rattle.graph.specs.Same.{alters}
 use Rattle.history.specs.Machine.{Machine, Name, sameName, present}
-use Rattle.commands.specs.declared.Command.{Command}
 use Rattle.commands.specs.declared.Command.the-variants.{Alter}
 use Rattle.commands.specs.Calls.{Call}
 use Rattle.commands.specs.Commands.{changeOf, commandOf}
 use Rattle.machine.specs.Rules.{Effect, steps, marks, unmarks, goes, names, benches, clears, nothing, changeDeed}
-use Rattle.machine.specs.Calls.{Parameters, known}
+use Rattle.machine.specs.Calls.{Parameters}
+use Rattle.commands.specs.Kinds.{known}
 use Rattle.machine.specs.Codes.{refusal}
-use Rattle.machine.specs.Machine.{deedOf, answerTo, answer}
+use Rattle.machine.specs.Machine.{deedOf, answer}
 use Rattle.machine.specs.Marks.{eventOf, callSets, setsMark, callEnds, endsMark}
 use Rattle.machine.specs.Names.{callNames, callGives, namesMark, givesName}
 use Rattle.machine.specs.Benches.{setsBench, callSigns, signs}
 use Rattle.machine.proofs.Accepts.{code-is, number-is}
 use Rattle.machine.proofs.Families.{change-effect}
-use Rattle.machine.proofs.GraphBounds.{cost-real}
-use Rattle.machine.proofs.OnWords.{ofKind, unknown, next-kind}
+use Rattle.graph.proofs.ChangeLaws.{cost-real}
+use Rattle.commands.proofs.ByKind.{ofKind, unknown, next-kind, by-kind}
 
 -- ---- the same by the effect
 
@@ -150,10 +150,10 @@ module _ (w : Parameters) (m : Machine) (k q : ℕ) (x : Call) where
       (next 20 (refl, refl, refl, λ n. refl, λ b. refl, λ b bs. refl)
       (next 21 (refl, refl, refl, λ n. refl, λ b. refl, λ b bs. refl) (next 22 (refl, refl, refl, λ n. refl, λ b. refl, λ b bs. refl) (λ h. absurd (omega arith)))))))
 
-  late-kind : x .kind ≤ 54 → 30 ≤ x .kind → ByKind w m k q x
+  late-kind : 30 ≤ x .kind → x .kind ≤ 54 → ByKind w m k q x
   unfolding commandOf
-  late-kind top =
-      next 30 (refl, refl, refl, λ n. refl, λ b. refl, λ b bs. refl)
+  late-kind low top =
+      (next 30 (refl, refl, refl, λ n. refl, λ b. refl, λ b bs. refl)
       (next 31 (refl, refl, refl, λ n. refl, λ b. refl, λ b bs. refl)
       (next 32 (refl, refl, refl, λ n. refl, λ b. refl, λ b bs. refl)
       (next 33 (refl, refl, refl, λ n. refl, λ b. refl, λ b bs. refl)
@@ -176,14 +176,14 @@ module _ (w : Parameters) (m : Machine) (k q : ℕ) (x : Call) where
       (next 50 (refl, refl, refl, λ n. refl, λ b. refl, λ b bs. refl)
       (next 51 (refl, refl, refl, λ n. refl, λ b. refl, λ b bs. refl)
       (next 52 (refl, refl, refl, λ n. refl, λ b. refl, λ b bs. refl)
-      (next 53 (refl, refl, refl, λ n. refl, λ b. refl, λ b bs. refl) (next 54 (refl, refl, refl, λ n. refl, λ b. refl, λ b bs. refl) (λ h. absurd (omega arith))))))))))))))))))))))))))
+      (next 53 (refl, refl, refl, λ n. refl, λ b. refl, λ b bs. refl) (next 54 (refl, refl, refl, λ n. refl, λ b. refl, λ b bs. refl) (λ h. absurd (omega arith))))))))))))))))))))))))))) low
 
-  latest-kind : x .kind ≤ 59 → 56 ≤ x .kind → ByKind w m k q x
+  latest-kind : 56 ≤ x .kind → x .kind ≤ 59 → ByKind w m k q x
   unfolding commandOf
-  latest-kind top =
-      next 56 (refl, refl, refl, λ n. refl, λ b. refl, λ b bs. refl)
+  latest-kind low top =
+      (next 56 (refl, refl, refl, λ n. refl, λ b. refl, λ b bs. refl)
       (next 57 (refl, refl, refl, λ n. refl, λ b. refl, λ b bs. refl)
-      (next 58 (refl, refl, refl, λ n. refl, λ b. refl, λ b bs. refl) (next 59 (refl, refl, refl, λ n. refl, λ b. refl, λ b bs. refl) (λ h. absurd (omega arith)))))
+      (next 58 (refl, refl, refl, λ n. refl, λ b. refl, λ b bs. refl) (next 59 (refl, refl, refl, λ n. refl, λ b. refl, λ b bs. refl) (λ h. absurd (omega arith)))))) low
 
   -- a kind that is not named
   other-kind : known (x .kind) ≡ false → ByKind w m k q x
@@ -217,29 +217,17 @@ module _ (w : Parameters) (m : Machine) (k q : ℕ) (x : Call) where
             λ b bs. rw (ne-eqb (x .kind) 22 (omega arith), le-leb 1 (x .kind) (omega arith), lt-leb (x .kind) 16 (omega arith)),
           )
 
-  by-kind : ByKind w m k q x
-  by-kind = go (known (x .kind)) refl
+  each-kind : ByKind w m k q x
+  each-kind = by-kind x (ByKind w m k q x) (λ l h. first (leb (x .kind) 16) refl l h) late-kind latest-kind other-kind
     where
-      first : (t : Bool) → leb (x .kind) 16 ≡ t → (1 ≤ x .kind) → (x .kind ≤ 22) → ByKind w m k q x
+      first : (t : Bool) → leb (x .kind) 16 ≡ t → 1 ≤ x .kind → x .kind ≤ 22 → ByKind w m k q x
       first true e l h = change-kind (rw (le-leb 1 (x .kind) l, e))
       first false e l h = let i = leb-false (x .kind) 16 e in history-kind h (omega arith)
-
-      later : (within 30 54 (x .kind) ≡ true) ⊎ (within 56 59 (x .kind) ≡ true) → ByKind w m k q x
-      later (inl h) = let r = within-range 30 54 (x .kind) h in late-kind (r .1) (r .0)
-      later (inr h) = let r = within-range 56 59 (x .kind) h in latest-kind (r .1) (r .0)
-
-      either : (within 1 22 (x .kind) ≡ true) ⊎ ((within 30 54 (x .kind) || within 56 59 (x .kind)) ≡ true) → ByKind w m k q x
-      either (inl h) = let r = within-range 1 22 (x .kind) h in first (leb (x .kind) 16) refl (r .0) (r .1)
-      either (inr h) = later (or-true (within 30 54 (x .kind)) (within 56 59 (x .kind)) h)
-
-      go : (t : Bool) → known (x .kind) ≡ t → ByKind w m k q x
-      go true e = either (or-true (within 1 22 (x .kind)) _ e)
-      go false e = other-kind e
 
   -- ---- events
 
   pub sets-is : setsMark k (eventOf w m x) ≡ ((answer w m x .code == 0) && setsBy (deedOf w (commandOf x) m .effect) k)
-  sets-is = ap (λ (t : Bool). (answer w m x .code == 0) && t) (by-kind .0)
+  sets-is = ap (λ (t : Bool). (answer w m x .code == 0) && t) (each-kind .0)
 
   pub ends-is : endsMark k q (eventOf w m x) ≡ ((answer w m x .code == 0) && endsBy (deedOf w (commandOf x) m .effect) k q (m .line .place))
   ends-is = go (refusal w m (commandOf x) == 0) refl
@@ -248,20 +236,20 @@ module _ (w : Parameters) (m : Machine) (k q : ℕ) (x : Call) where
           endsMark k q (eventOf w m x) ≡ ((answer w m x .code == 0) && endsBy (deedOf w (commandOf x) m .effect) k q (m .line .place))
       go true f =
           ap (λ (n : ℕ). (answer w m x .code == 0) && callEnds k q (m .line .place) n x) (number-is w m (commandOf x) f)
-          ∙ ap (λ (t : Bool). (answer w m x .code == 0) && t) (by-kind .1)
+          ∙ ap (λ (t : Bool). (answer w m x .code == 0) && t) (each-kind .1)
       go false f = rw (code-is w m (commandOf x) false f)
 
   pub renames-is : namesMark k (eventOf w m x) ≡ ((answer w m x .code == 0) && renamesBy (deedOf w (commandOf x) m .effect) k)
-  renames-is = ap (λ (t : Bool). (answer w m x .code == 0) && t) (by-kind .2)
+  renames-is = ap (λ (t : Bool). (answer w m x .code == 0) && t) (each-kind .2)
 
   pub gives-is : (n : Name) → givesName k n (eventOf w m x) ≡ ((answer w m x .code == 0) && namesBy (deedOf w (commandOf x) m .effect) k n)
-  gives-is n = ap (λ (t : Bool). (answer w m x .code == 0) && t) (by-kind .3 n)
+  gives-is n = ap (λ (t : Bool). (answer w m x .code == 0) && t) (each-kind .3 n)
 
   pub benches-is : (b : ℕ) → (setsBench (eventOf w m x) ⇒ x .a else b) ≡ ((answer w m x .code == 0) ⇒ benchBy (deedOf w (commandOf x) m .effect) b else b)
   benches-is b = go (answer w m x .code == 0)
     where
       go : (t : Bool) → ((t && (x .kind == 58)) ⇒ x .a else b) ≡ (t ⇒ benchBy (deedOf w (commandOf x) m .effect) b else b)
-      go true = by-kind .4 b
+      go true = each-kind .4 b
       go false = refl
 
   pub signs-is : (b : ℕ) (bs : List ℕ) → signs b (eventOf w m x) bs ≡ ((answer w m x .code == 0) ⇒ signsBy (deedOf w (commandOf x) m .effect) b (m .line .place) bs else bs)
@@ -271,5 +259,5 @@ module _ (w : Parameters) (m : Machine) (k q : ℕ) (x : Call) where
           signs b (eventOf w m x) bs ≡ ((answer w m x .code == 0) ⇒ signsBy (deedOf w (commandOf x) m .effect) b (m .line .place) bs else bs)
       go true f =
           ap (λ (n : ℕ). (answer w m x .code == 0) ⇒ callSigns b (m .line .place) n x bs else bs) (number-is w m (commandOf x) f)
-          ∙ ap (λ (l : List ℕ). (answer w m x .code == 0) ⇒ l else bs) (by-kind .5 b bs)
+          ∙ ap (λ (l : List ℕ). (answer w m x .code == 0) ⇒ l else bs) (each-kind .5 b bs)
       go false f = rw (code-is w m (commandOf x) false f)

@@ -1,79 +1,16 @@
 -- The table of codes read on a call's words as they came gives the code of its command, so words that a kind does not read change nothing.
-use Prim.Native.Nat.{ℕ, suc, _≤_, _<_}
-use mathlib.Core.Path.{_≡_, refl, sym, ap, _∙_, subst}
-use mathlib.Core.Logic.{_⊎_, inl, inr}
-use mathlib.Core.Bool.{Bool, true, false, _&&_, _||_}
+use Prim.Native.Nat.{ℕ, suc, _≤_}
+use mathlib.Core.Path.{_≡_, refl, sym, ap, _∙_}
+use mathlib.Core.Bool.{false}
 use native.Mathlib.Omega.{arith}
-use lib.Dec.{leb}
-use borrow.Author.Tests.{eqb-true, eqb-false, leb-false, lt-leb, le-leb, ne-eqb}
-use Rattle.lists.specs.Choice.{_⇒_else_, _==_, within}
-use Rattle.lists.proofs.Bools.{or-true, within-range, or-none}
 use Rattle.history.specs.Machine.{Machine}
-use Rattle.commands.specs.declared.Command.the-variants.{History, Unknown}
-use Rattle.commands.specs.Calls.{Call, five}
+use Rattle.commands.specs.Calls.{Call}
 use Rattle.commands.specs.Tables.{lowest}
-use Rattle.commands.specs.Commands.{historyOf, commandOf}
-use Rattle.machine.specs.Calls.{Parameters, known}
+use Rattle.commands.specs.Kinds.{known}
+use Rattle.commands.specs.Commands.{commandOf}
+use Rattle.commands.proofs.ByKind.{ofKind, next-kind, unknown, by-kind}
+use Rattle.machine.specs.Calls.{Parameters}
 use Rattle.machine.specs.Codes.{codeTable, refusal}
-
--- a call of kind k with the other words of x
-abbrev pub ofKind : ℕ → Call → Call
-ofKind k x = five k (x .a) (x .b) (x .c) (x .d)
-
-pub call-is : (x : Call) (k : ℕ) → x .kind ≡ k → x ≡ ofKind k x
-call-is x k e = λ i. five (e i) (x .a) (x .b) (x .c) (x .d)
-
-module _ (x : Call) where
-  pub unknown : known (x .kind) ≡ false → commandOf x ≡ Unknown
-  unfolding commandOf
-  unknown e = low (x .kind == 0) refl
-    where
-      out : (lo hi : ℕ) → within lo hi (x .kind) ≡ false → lo ≤ x .kind → hi < x .kind
-      out lo hi f h = leb-false (x .kind) hi (sym (ap (λ (t : Bool). t && leb (x .kind) hi) (le-leb lo (x .kind) h)) ∙ f)
-
-      ranges : (within 1 22 (x .kind) ≡ false) × (within 30 54 (x .kind) ≡ false) × (within 56 59 (x .kind) ≡ false)
-      ranges =
-          let r = or-none (within 1 22 (x .kind)) _ e in
-          let s = or-none (within 30 54 (x .kind)) (within 56 59 (x .kind)) (r .1) in
-          (r .0, s .0, s .1)
-
-      last : (t : Bool) → (x .kind == 55) ≡ t → 54 < x .kind → ((x .kind == 55) ⇒ Unknown else leb (x .kind) 59 ⇒ History (historyOf (x .kind) (x .a) (x .b) (x .c)) else Unknown) ≡ Unknown
-      last true f h = rw f
-      last false f h =
-          let n = eqb-false (x .kind) 55 f in
-          let o : 59 < x .kind = out 56 59 (ranges .2) (omega arith) in
-          rw (f, lt-leb (x .kind) 59 o)
-
-      high : (t : Bool) → leb (x .kind) 29 ≡ t → (x .kind == 0) ≡ false → leb (x .kind) 16 ≡ false → leb (x .kind) 22 ≡ false → commandOf x ≡ Unknown
-      high true f z a b = rw (z, a, b, f)
-      high false f z a b =
-          let h : 54 < x .kind = out 30 54 (ranges .1) (leb-false (x .kind) 29 f) in
-          rw (
-            z,
-            a,
-            b,
-            f,
-            lt-leb (x .kind) 48 (omega arith),
-            lt-leb (x .kind) 51 (omega arith),
-            ne-eqb (x .kind) 52 (omega arith),
-            ne-eqb (x .kind) 53 (omega arith),
-            ne-eqb (x .kind) 54 (omega arith),
-          ) (last (x .kind == 55) refl h)
-
-      low : (t : Bool) → (x .kind == 0) ≡ t → commandOf x ≡ Unknown
-      low true f = rw f
-      low false f =
-          let d = eqb-false (x .kind) 0 f in
-          let h : 22 < x .kind = out 1 22 (ranges .0) (omega arith) in
-          high (leb (x .kind) 29) refl f (lt-leb (x .kind) 16 (omega arith)) (lt-leb (x .kind) 22 (omega arith))
-
-  -- this kind, or a later one
-  pub next-kind : (P : Call → Type 0) (k : ℕ) → P (ofKind k x) → (suc k ≤ x .kind → P x) → k ≤ x .kind → P x
-  next-kind P k h later l = go (x .kind == k) refl
-    where
-      go : (t : Bool) → (x .kind == k) ≡ t → P x
-      go true e = subst P (sym (call-is x k (eqb-true (x .kind) k e))) h
-      go false e = let d = eqb-false (x .kind) k e in later (omega arith)
 
 abbrev OnWords : Parameters → Machine → Call → Type 0
 OnWords w m x = lowest (codeTable w m x) ≡ refusal w m (commandOf x)
@@ -82,21 +19,21 @@ module _ (w : Parameters) (m : Machine) (x : Call) where
   next : (k : ℕ) → OnWords w m (ofKind k x) → (suc k ≤ x .kind → OnWords w m x) → k ≤ x .kind → OnWords w m x
   next k h later l = next-kind x (OnWords w m) k h later l
 
-  early : x .kind ≤ 22 → 1 ≤ x .kind → OnWords w m x
+  early : 1 ≤ x .kind → x .kind ≤ 22 → OnWords w m x
   unfolding refusal commandOf
-  early top = next 1 refl (next 2 refl (next 3 refl (next 4 refl (next 5 refl (next 6 refl (next 7 refl (next 8 refl (next 9 refl (next 10 refl
+  early low top = (next 1 refl (next 2 refl (next 3 refl (next 4 refl (next 5 refl (next 6 refl (next 7 refl (next 8 refl (next 9 refl (next 10 refl
       (next 11 refl (next 12 refl (next 13 refl (next 14 refl (next 15 refl (next 16 refl (next 17 refl (next 18 refl (next 19 refl (next 20 refl
-      (next 21 refl (next 22 refl (λ h. absurd (omega arith)))))))))))))))))))))))
+      (next 21 refl (next 22 refl (λ h. absurd (omega arith)))))))))))))))))))))))) low
 
-  late : x .kind ≤ 54 → 30 ≤ x .kind → OnWords w m x
+  late : 30 ≤ x .kind → x .kind ≤ 54 → OnWords w m x
   unfolding refusal commandOf
-  late top = next 30 refl (next 31 refl (next 32 refl (next 33 refl (next 34 refl (next 35 refl (next 36 refl (next 37 refl (next 38 refl
+  late low top = (next 30 refl (next 31 refl (next 32 refl (next 33 refl (next 34 refl (next 35 refl (next 36 refl (next 37 refl (next 38 refl
       (next 39 refl (next 40 refl (next 41 refl (next 42 refl (next 43 refl (next 44 refl (next 45 refl (next 46 refl (next 47 refl (next 48 refl
-      (next 49 refl (next 50 refl (next 51 refl (next 52 refl (next 53 refl (next 54 refl (λ h. absurd (omega arith))))))))))))))))))))))))))
+      (next 49 refl (next 50 refl (next 51 refl (next 52 refl (next 53 refl (next 54 refl (λ h. absurd (omega arith))))))))))))))))))))))))))) low
 
-  latest : x .kind ≤ 59 → 56 ≤ x .kind → OnWords w m x
+  latest : 56 ≤ x .kind → x .kind ≤ 59 → OnWords w m x
   unfolding refusal commandOf
-  latest top = next 56 refl (next 57 refl (next 58 refl (next 59 refl (λ h. absurd (omega arith)))))
+  latest low top = (next 56 refl (next 57 refl (next 58 refl (next 59 refl (λ h. absurd (omega arith)))))) low
 
   -- a kind that is not named
   other : known (x .kind) ≡ false → OnWords w m x
@@ -104,16 +41,4 @@ module _ (w : Parameters) (m : Machine) (x : Call) where
   other e = (rw e) ∙ sym (ap (refusal w m) (unknown x e))
 
   pub on-words : OnWords w m x
-  on-words = go (known (x .kind)) refl
-    where
-      later : (within 30 54 (x .kind) ≡ true) ⊎ (within 56 59 (x .kind) ≡ true) → OnWords w m x
-      later (inl h) = let r = within-range 30 54 (x .kind) h in late (r .1) (r .0)
-      later (inr h) = let r = within-range 56 59 (x .kind) h in latest (r .1) (r .0)
-
-      either : (within 1 22 (x .kind) ≡ true) ⊎ ((within 30 54 (x .kind) || within 56 59 (x .kind)) ≡ true) → OnWords w m x
-      either (inl h) = let r = within-range 1 22 (x .kind) h in early (r .1) (r .0)
-      either (inr h) = later (or-true (within 30 54 (x .kind)) (within 56 59 (x .kind)) h)
-
-      go : (t : Bool) → known (x .kind) ≡ t → OnWords w m x
-      go true e = either (or-true (within 1 22 (x .kind)) _ e)
-      go false e = other e
+  on-words = by-kind x (OnWords w m x) early late latest other

@@ -11,12 +11,12 @@ use borrow.Author.Tests.{ne-eqb}
 use Rattle.lists.specs.Choice.{_⇒_else_, _==_}
 use Rattle.graph.specs.WellFormed.{Bounds}
 use Rattle.image.specs.Image.{vertexCount, edgeCount, soundHeader}
-use Rattle.image.specs.Checks.{soundCounts, verdict, codeOf, offsetOf, loadCode, loadOffset}
-use Rattle.image.specs.declared.Verdict.{Verdict}
-use Rattle.image.specs.declared.Verdict.the-variants.{Sound, BadHeader, BadRecord, BadIncidence}
+use Rattle.image_check.specs.Checks.{soundCounts, verdict, codeOf, offsetOf, loadCode, loadOffset}
+use Rattle.image_check.specs.declared.Verdict.{Verdict}
+use Rattle.image_check.specs.declared.Verdict.the-variants.{Sound, BadHeader, BadRecord, BadIncidence}
 use Rattle.image.proofs.Headers.{header-words, sound-length}
-use Rattle.image.proofs.HeaderCode.{header-code}
-use Rattle.image.proofs.LoadCodes.{no-offset}
+use Rattle.image_check.proofs.HeaderCode.{header-code}
+use Rattle.image_check.proofs.LoadCodes.{no-offset}
 use Rattle.machine.specs.StoreRun.{statedLength, startsCode, startsOffset, NoneBehind}
 
 -- under six words, or with a word behind it, an image has no sound header

@@ -16,9 +16,9 @@ use Rattle.type_rows.specs.Rows.{goodRows}
 use Rattle.graph.specs.WellFormed.{Bounds}
 use Rattle.graph.specs.Limits.{mostVertices, mostEdges, mostChanges}
 use Rattle.image.specs.Image.{imageLength, save, load, loadable}
-use Rattle.image.specs.Checks.{verdict, codeOf, offsetOf, loadCode, loadOffset}
-use Rattle.image.specs.declared.Verdict.{Verdict}
-use Rattle.image.specs.declared.Verdict.the-variants.{Sound, BadHeader, BadRecord, BadIncidence}
+use Rattle.image_check.specs.Checks.{verdict, codeOf, offsetOf, loadCode, loadOffset}
+use Rattle.image_check.specs.declared.Verdict.{Verdict}
+use Rattle.image_check.specs.declared.Verdict.the-variants.{Sound, BadHeader, BadRecord, BadIncidence}
 use Rattle.image.proofs.Loads.{loaded}
 use Rattle.graph.specs.Graph.{Graph}
 use Rattle.history.specs.Machine.{Machine, fresh, present}

@@ -14,8 +14,9 @@ use Rattle.lists.proofs.KeyedLaws.{count-rem}
 use Rattle.lists.proofs.Picks.{is-yes}
 use Rattle.graph.specs.declared.Reading.the-variants.{Untested}
 use Rattle.graph.specs.declared.Change.{Change}
-use Rattle.graph.specs.declared.Change.the-variants.{CreateVertex, DeleteVertex, CreateEdge, DeleteEdge, RetypeVertex, RetypeEdge, SetValue, SetReading, SetAlpha, SetOmega, VertexBefore}
-use Rattle.graph.specs.declared.Change.the-variants.{VertexAfter, EdgeBefore, EdgeAfter, WordBefore, WordAfter}
+use Rattle.graph.specs.declared.SingleChange.the-variants.{CreateVertex, CreateEdge, DeleteEdge, RetypeVertex, RetypeEdge, SetValue, SetReading, SetAlpha, SetOmega, VertexBefore}
+use Rattle.graph.specs.declared.SingleChange.the-variants.{VertexAfter, EdgeBefore, EdgeAfter, WordBefore, WordAfter}
+use Rattle.graph.specs.declared.Change.the-variants.{Single, DeleteVertex}
 use Rattle.graph.specs.Graph.{Graph, vertexNumber, edgeNumber, hasVertex, hasEdge}
 use Rattle.graph.specs.WellFormed.{Bounds}
 use Rattle.graph.specs.Changes.{createVertex, createEdge, deleteEdge, deleteEdges, deleteVertex, edgesAt, changed}
@@ -69,7 +70,29 @@ module _ (b : Bounds) (g : Graph) where
 
   another : (c : Change) → changeCode b g c ≡ 0 → alters c g ≡ true → g ≡ changed c g → ⊥
   unfolding alters changed createVertex createEdge deleteEdge deleteVertex
-  another (CreateVertex n t x) e a q = omega (arith, ap (λ (y : Graph). length (y .vseq)) q, length-append (g .vseq) (record { number = n; type = t; value = x; incidences = [] } ∷ []))
+  another (Single (CreateVertex n t x)) e a q = omega (arith, ap (λ (y : Graph). length (y .vseq)) q, length-append (g .vseq) (record { number = n; type = t; value = x; incidences = [] } ∷ []))
+  another (Single (CreateEdge n i o t)) e a q =
+      omega (arith, ap (λ (y : Graph). length (y .eseq)) q, length-append (g .eseq) (record { number = n; alpha = i; omega = o; type = t; reading = Untested } ∷ []))
+  another (Single (DeleteEdge i)) e a q =
+      omega (
+        arith,
+        any-count edgeNumber i (g .eseq) (not-false (hasEdge g i) (passed-row (lacksEdge g i) 5 0 (omega arith) e)),
+        count-rem edgeNumber i i (g .eseq),
+        is-yes i i refl,
+        ap (λ (y : Graph). countBy edgeNumber i (y .eseq)) q,
+      )
+  another (Single (RetypeVertex i t)) e a q = compared (Single (RetypeVertex i t)) a q
+  another (Single (RetypeEdge i t)) e a q = compared (Single (RetypeEdge i t)) a q
+  another (Single (SetValue i x)) e a q = compared (Single (SetValue i x)) a q
+  another (Single (SetReading i k d)) e a q = compared (Single (SetReading i k d)) a q
+  another (Single (SetAlpha i v)) e a q = compared (Single (SetAlpha i v)) a q
+  another (Single (SetOmega i v)) e a q = compared (Single (SetOmega i v)) a q
+  another (Single (VertexBefore i j)) e a q = compared (Single (VertexBefore i j)) a q
+  another (Single (VertexAfter i j)) e a q = compared (Single (VertexAfter i j)) a q
+  another (Single (EdgeBefore i j)) e a q = compared (Single (EdgeBefore i j)) a q
+  another (Single (EdgeAfter i j)) e a q = compared (Single (EdgeAfter i j)) a q
+  another (Single (WordBefore i j)) e a q = compared (Single (WordBefore i j)) a q
+  another (Single (WordAfter i j)) e a q = compared (Single (WordAfter i j)) a q
   another (DeleteVertex i) e a q =
       omega (
         arith,
@@ -80,27 +103,6 @@ module _ (b : Bounds) (g : Graph) where
         removals-vertices (edgesAt g i) i g,
         ap (λ (y : Graph). countBy vertexNumber i (y .vseq)) q,
       )
-  another (CreateEdge n i o t) e a q = omega (arith, ap (λ (y : Graph). length (y .eseq)) q, length-append (g .eseq) (record { number = n; alpha = i; omega = o; type = t; reading = Untested } ∷ []))
-  another (DeleteEdge i) e a q =
-      omega (
-        arith,
-        any-count edgeNumber i (g .eseq) (not-false (hasEdge g i) (passed-row (lacksEdge g i) 5 0 (omega arith) e)),
-        count-rem edgeNumber i i (g .eseq),
-        is-yes i i refl,
-        ap (λ (y : Graph). countBy edgeNumber i (y .eseq)) q,
-      )
-  another (RetypeVertex i t) e a q = compared (RetypeVertex i t) a q
-  another (RetypeEdge i t) e a q = compared (RetypeEdge i t) a q
-  another (SetValue i x) e a q = compared (SetValue i x) a q
-  another (SetReading i k d) e a q = compared (SetReading i k d) a q
-  another (SetAlpha i v) e a q = compared (SetAlpha i v) a q
-  another (SetOmega i v) e a q = compared (SetOmega i v) a q
-  another (VertexBefore i j) e a q = compared (VertexBefore i j) a q
-  another (VertexAfter i j) e a q = compared (VertexAfter i j) a q
-  another (EdgeBefore i j) e a q = compared (EdgeBefore i j) a q
-  another (EdgeAfter i j) e a q = compared (EdgeAfter i j) a q
-  another (WordBefore i j) e a q = compared (WordBefore i j) a q
-  another (WordAfter i j) e a q = compared (WordAfter i j) a q
 
 -- a step that an accepted command makes
 makes-another : (w : Parameters) (m : Machine) (c : Command) → (refusal w m c == 0) ≡ true → Makes (Another m) (deedOf w c m .effect)

@@ -11,7 +11,7 @@ use Rattle.graph.specs.WellFormed.{wellFormed}
 use Rattle.graph.specs.Changes.{changed}
 use Rattle.graph.specs.Same.{alters}
 use Rattle.image.specs.Image.{save, saveOld, load}
-use Rattle.image.specs.Checks.{verdict}
+use Rattle.image_check.specs.Checks.{verdict}
 use Rattle.history.specs.Machine.{fresh, stepOf, seek, holderBut}
 use Rattle.commands.specs.Calls.{five}
 use Rattle.commands.specs.Commands.{changeOf, historyOf, questionOf, commandOf}

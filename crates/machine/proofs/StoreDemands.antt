@@ -19,7 +19,7 @@ use Rattle.image.proofs.Room.{image-fits}
 use Rattle.image.proofs.WordSize.{Word}
 use Rattle.image.proofs.Loads.{loads-back, saved-same, saved-loads, loads}
 use Rattle.history.specs.Machine.{Machine}
-use Rattle.commands.specs.Tables.{Row, row, First, found, later, NoneApplies, passed}
+use Rattle.commands.specs.Tables.{Row, row, FirstApplies, found, later, NoneApplies, passed}
 use Rattle.commands.specs.declared.Answer.{Answer}
 use Rattle.commands.specs.Answers.{refuses}
 use Rattle.machine.specs.Calls.{Parameters, boundsIn}
@@ -44,15 +44,15 @@ use Rattle.machine.proofs.StoreEnds.{store-calls-fit, store-formed, ima
 
 -- row 21 in front of a table
 module _ (a : Answer) (rs : List Row) where
-  first-21 : (k : ℕ) → ((a .code ≡ suc k) ↔ First (suc k) rs) → (t : Bool) → ((t ⇒ a else refuses 21) .code ≡ suc k) ↔ First (suc k) (row 21 (not t) ∷ rs)
+  first-21 : (k : ℕ) → ((a .code ≡ suc k) ↔ FirstApplies (suc k) rs) → (t : Bool) → ((t ⇒ a else refuses 21) .code ≡ suc k) ↔ FirstApplies (suc k) (row 21 (not t) ∷ rs)
   first-21 k h true = (λ e. later refl (h .0 e), back)
     where
-      back : First (suc k) (row 21 false ∷ rs) → a .code ≡ suc k
+      back : FirstApplies (suc k) (row 21 false ∷ rs) → a .code ≡ suc k
       back (found f e) = ft f
       back (later f g) = h .1 g
   first-21 k h false = (λ e. found refl e, back)
     where
-      back : First (suc k) (row 21 true ∷ rs) → _≡_ {A = ℕ} 21 (suc k)
+      back : FirstApplies (suc k) (row 21 true ∷ rs) → _≡_ {A = ℕ} 21 (suc k)
       back (found f e) = e
       back (later f g) = tf f
 
@@ -135,7 +135,7 @@ module _ (l : LentStores) where
   unfolding storesRefusal
   not-refused h = none-from h
 
-  code-first : (k : ℕ) → (storesRefusal l ≡ suc k) ↔ First (suc k) (storesTable l)
+  code-first : (k : ℕ) → (storesRefusal l ≡ suc k) ↔ FirstApplies (suc k) (storesTable l)
   unfolding storesRefusal
   code-first k = (turn-to k (storesTable l), turn-from k)
 
@@ -164,17 +164,17 @@ module _ (l : LentStores) where
       row 106 (ltb (length (l .lent .end) / l .count) (imageLength (b .vertices) (b .edges))) ∷
       []
 
-  after-four : (k : ℕ) → First k (storesTable l) → 105 ≤ k → First k startRows
+  after-four : (k : ℕ) → FirstApplies k (storesTable l) → 105 ≤ k → FirstApplies k startRows
   unfolding storesTable
   after-four k f h = later-than (later-than (later-than (later-than f (λ e. omega arith) .1) (λ e. omega arith) .1) (λ e. omega arith) .1) (λ e. omega arith) .1
 
-  start-is : (k : ℕ) → (106 ≡ k → ⊥) → First k startRows → start ≡ k
+  start-is : (k : ℕ) → (106 ≡ k → ⊥) → FirstApplies k startRows → start ≡ k
   start-is k n (found f e) = eqb-true start 105 f ∙ e
   start-is k n (later _ (found f e)) = eqb-true start 108 f ∙ e
   start-is k n (later _ (later _ (found f e))) = eqb-true start 109 f ∙ e
   start-is k n (later _ (later _ (later _ (found f e)))) = absurd (n e)
 
-  start-good : First 106 startRows → start ≡ 0
+  start-good : FirstApplies 106 startRows → start ≡ 0
   start-good f =
       let p = later-than f (λ e. omega arith) in
       let q = later-than (p .1) (λ e. omega arith) in

@@ -10,7 +10,7 @@ use Rattle.lists.specs.Choice.{_==_}
 use Rattle.lists.specs.Lists.{range, overwritten, All, done, more}
 use Rattle.history.specs.Machine.{Machine}
 use Rattle.image.proofs.WordSize.{Word}
-use Rattle.commands.specs.Fits.{Words}
+use Rattle.commands.specs.Fits.{WordsFit}
 use Rattle.machine.specs.Calls.{Parameters}
 use Rattle.machine.specs.Posed.{Posed, roomed, stepAt}
 use Rattle.machine.specs.Stores.{Stores, StoreCall, storeCallsOf, isStore, found, stepIn, lastIn}
@@ -23,7 +23,7 @@ use Rattle.machine.proofs.StoreStarts.{map-first}
 -- ---- the graphs
 
 -- calls of words that have 32 bits
-pub store-calls-fit : {ws : List ℕ} → All Word ws → All (λ (x : StoreCall). Words (x .call)) (storeCallsOf ws)
+pub store-calls-fit : {ws : List ℕ} → All Word ws → All (λ (x : StoreCall). WordsFit (x .call)) (storeCallsOf ws)
 store-calls-fit (more s (more a (more b (more c (more d (more e r)))))) = more (record { b-fits = c; c-fits = d }) (store-calls-fit r)
 store-calls-fit done = done
 store-calls-fit (more s done) = done
@@ -33,13 +33,13 @@ store-calls-fit (more s (more a (more b (more c done)))) = done
 store-calls-fit (more s (more a (more b (more c (more d done))))) = done
 
 -- the room is none of the bounds
-formed-at : (w : Parameters) (m : Machine) (y : Posed) → Words (y .call) → AllFormed w m → AllFormed w (stepAt w m y)
+formed-at : (w : Parameters) (m : Machine) (y : Posed) → WordsFit (y .call) → AllFormed w m → AllFormed w (stepAt w m y)
 formed-at w m y f a =
     let v = roomed w m (y .room) in
     let r = step-formed v m (y .call) f (record { start = a .start; steps = a .steps }) in
     record { start = r .start; steps = r .steps }
 
-pub store-formed : (w : Parameters) (n : ℕ) (s : Stores) (xs : List StoreCall) → isStore s n ≡ true → All (λ (x : StoreCall). Words (x .call)) xs →
+pub store-formed : (w : Parameters) (n : ℕ) (s : Stores) (xs : List StoreCall) → isStore s n ≡ true → All (λ (x : StoreCall). WordsFit (x .call)) xs →
     AllFormed w (s .machine n) → AllFormed w (lastIn w s xs .machine n)
 unfolding lastIn
 store-formed w n s [] i done a = a

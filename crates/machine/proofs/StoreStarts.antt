@@ -13,11 +13,11 @@ use Rattle.lists.specs.Lists.{range}
 use Rattle.graph.specs.Graph.{Graph}
 use Rattle.graph.specs.WellFormed.{Bounds, wellFormed}
 use Rattle.image.specs.Image.{SavesAs, load, loadable}
-use Rattle.image.specs.Checks.{verdict, codeOf, loadCode}
-use Rattle.image.specs.declared.Verdict.{Verdict}
-use Rattle.image.specs.declared.Verdict.the-variants.{Sound, BadHeader, BadRecord, BadIncidence}
+use Rattle.image_check.specs.Checks.{verdict, codeOf, loadCode}
+use Rattle.image_check.specs.declared.Verdict.{Verdict}
+use Rattle.image_check.specs.declared.Verdict.the-variants.{Sound, BadHeader, BadRecord, BadIncidence}
 use Rattle.image.proofs.Headers.{sound-length}
-use Rattle.image.proofs.LoadCodes.{code-loads}
+use Rattle.image_check.proofs.LoadCodes.{code-loads}
 use Rattle.image.proofs.Loads.{loads-back, saves-loads, loaded}
 use Rattle.machine.specs.StoreRun.{LentStores, statedLength, imageAt, startOf, startsCode}
 use Rattle.machine.specs.StoreDemands.{SaveInTurn, startGraphs}

@@ -11,7 +11,7 @@ use Rattle.graph.specs.Limits.{mostBenches}
 use Rattle.history.specs.Machine.{Step}
 use Rattle.commands.specs.Calls.{Call, five}
 use Rattle.machine.specs.Calls.{Parameters}
-use Rattle.machine.specs.HistoryCodes.{isChange}
+use Rattle.commands.specs.Kinds.{isChange}
 use Rattle.machine.specs.Machine.{answer}
 use Rattle.machine.specs.Marks.{Event, Kept, machineAfter, eventsOf}
 

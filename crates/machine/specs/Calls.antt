@@ -1,9 +1,8 @@
 -- What stays the same over a list of calls, and what a call names.
 use Prim.Native.Nat.{ℕ}
-use mathlib.Core.Bool.{Bool, _||_}
 use mathlib.Core.List.{List, [], _∷_}
 use lib.ListN.{length}
-use Rattle.lists.specs.Choice.{_⇒_else_, _==_, within}
+use Rattle.lists.specs.Choice.{_⇒_else_, _==_}
 use Rattle.lists.specs.Lists.{_is_}
 use Rattle.graph.specs.Graph.{edgeOf}
 use Rattle.graph.specs.WellFormed.{Bounds}
@@ -18,12 +17,6 @@ pub record Parameters : Type 0 where
 
 abbrev pub boundsIn : Parameters → Bounds
 boundsIn w = record { vertices = w .vertices; edges = w .edges; types = length (w .rows) }
-
--- ---- kinds
-
--- those with a row in REFERENCE 2.5
-abbrev pub known : ℕ → Bool
-known k = within 1 22 k || (within 30 54 k || within 56 59 k)
 
 -- ---- what a call names
 

@@ -17,9 +17,10 @@ use Rattle.commands.specs.declared.Question.{Question}
 use Rattle.commands.specs.declared.PriceCall.{PriceCall}
 use Rattle.commands.specs.declared.Command.{Command}
 use Rattle.commands.specs.Calls.{Call}
+use Rattle.commands.specs.Kinds.{known}
 use Rattle.commands.specs.Tables.{Row, row, lowest, some}
 use Rattle.commands.specs.Commands.{changeOf, changeCall, questionCall, priceCall, callOf}
-use Rattle.machine.specs.Calls.{Parameters, boundsIn, known, verticesNamed, edgesNamed, typesNamed}
+use Rattle.machine.specs.Calls.{Parameters, boundsIn, verticesNamed, edgesNamed, typesNamed}
 
 -- REFERENCE 4.4
 unfoldable pub free : Parameters → Machine → ℕ

@@ -16,7 +16,7 @@ use Rattle.commands.specs.declared.PriceCall.{PriceCall}
 use Rattle.commands.specs.declared.Command.the-variants.{Ask, Quote}
 use Rattle.commands.specs.Calls.{Call, callsOf}
 use Rattle.commands.specs.Commands.{commandOf}
-use Rattle.commands.specs.Tables.{First, NoneApplies}
+use Rattle.commands.specs.Tables.{FirstApplies, NoneApplies}
 use Rattle.machine.specs.Calls.{Parameters, boundsIn}
 use Rattle.machine.specs.Codes.{codeTable}
 use Rattle.commands.specs.declared.Answer.{Answer}
@@ -34,16 +34,16 @@ Each P w m (x ∷ xs) (a ∷ bs) = P m x a × Each P w (step w m x) xs bs
 -- the code of a call is the lowest of the table on its five words; a refused call answers 0 and leaves graph, marks and
 -- history
 pub record ByTable (w : Parameters) (m : Machine) (x : Call) (a : Answer) : Type 0 where
-  pub refused-by : (k : ℕ) → (a .code ≡ suc k) ↔ First (suc k) (codeTable w m x)
+  pub refused-by : (k : ℕ) → (a .code ≡ suc k) ↔ FirstApplies (suc k) (codeTable w m x)
   pub accepted : (a .code ≡ 0) ↔ NoneApplies (codeTable w m x)
   pub number : (a .code ≡ 0 → ⊥) → a .number ≡ 0
   pub leaves : (a .code ≡ 0 → ⊥) → step w m x ≡ m
 
 pub record Demand1 (l : Lent) (r : AfterRun) (tables-stay : Type 0) : Type 0 where
   -- a list has a code of its table, or none of them applies
-  pub either : NoneApplies (listTable l) ⊎ ((k : ℕ) × First (suc k) (listTable l))
+  pub either : NoneApplies (listTable l) ⊎ ((k : ℕ) × FirstApplies (suc k) (listTable l))
   -- a list has the first code of its table that applies, with the number beside it; nothing is done and nothing written
-  pub refusal : (k : ℕ) → First (suc k) (listTable l) → (r ≡ refused (suc k) (listNumber l) l) × tables-stay
+  pub refusal : (k : ℕ) → FirstApplies (suc k) (listTable l) → (r ≡ refused (suc k) (listNumber l) l) × tables-stay
   -- else each call has its answer
   pub answered : NoneApplies (listTable l) →
       (r .code ≡ 0) × (r .done ≡ length (callsOf (l .calls)))

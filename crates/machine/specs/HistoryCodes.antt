@@ -4,13 +4,14 @@ use mathlib.Core.Bool.{Bool, false, not, _&&_, _||_}
 use mathlib.Core.List.{List, [], _∷_}
 use lib.ListN.{length}
 use lib.Dec.{leb, ltb}
-use Rattle.lists.specs.Choice.{_⇒_else_, _==_, within}
+use Rattle.lists.specs.Choice.{_⇒_else_, _==_}
 use Rattle.lists.specs.Lists.{_is_}
 use Rattle.graph.specs.declared.Change.{Change}
 use Rattle.graph.specs.Limits.{mostBenches}
 use Rattle.graph.specs.Changes.{cost}
 use Rattle.graph.specs.Same.{alters}
 use Rattle.commands.specs.Calls.{Call}
+use Rattle.commands.specs.Kinds.{isChange}
 use Rattle.commands.specs.Tables.{Row, row, some}
 use Rattle.commands.specs.Commands.{changeOf}
 use Rattle.history.specs.Machine.{
@@ -26,9 +27,6 @@ use Rattle.history.specs.Machine.{
   holderBut,
   holderOf,
 }
-
-abbrev pub isChange : ℕ → Bool
-isChange k = within 1 16 k
 
 abbrev pub marksNamed : Call → List ℕ
 marksNamed x =

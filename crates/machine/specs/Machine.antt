@@ -2,7 +2,7 @@
 use Prim.Native.Nat.{ℕ}
 use mathlib.Core.List.{List, [], _∷_}
 use Rattle.lists.specs.Choice.{_⇒_else_, _==_, toBit}
-use Rattle.lists.specs.Lists.{first, after, before}
+use Rattle.lists.specs.Lists.{first, successor, before}
 use Rattle.type_rows.specs.Types.{below}
 use Rattle.graph.specs.Graph.{
   Graph,
@@ -58,11 +58,11 @@ use Rattle.machine.specs.Codes.{priceCode, refusal}
 -- REFERENCE 5.1 to 5.6
 abbrev pub questionNumber : List ℕ → Graph → Question → ℕ
 questionNumber rows g FirstVertex = first (vertexNumbers g)
-questionNumber rows g (NextVertex a) = after a (vertexNumbers g)
+questionNumber rows g (NextVertex a) = successor a (vertexNumbers g)
 questionNumber rows g FirstEdge = first (edgeNumbers g)
-questionNumber rows g (NextEdge a) = after a (edgeNumbers g)
+questionNumber rows g (NextEdge a) = successor a (edgeNumbers g)
 questionNumber rows g (FirstWord a) = first (listOf g a)
-questionNumber rows g (NextWord a) = after a (listOf g (this g a))
+questionNumber rows g (NextWord a) = successor a (listOf g (this g a))
 questionNumber rows g (Alpha a) = edge g a .alpha
 questionNumber rows g (Omega a) = edge g a .omega
 questionNumber rows g (This a) = this g a

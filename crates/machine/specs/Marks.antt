@@ -12,7 +12,7 @@ use Rattle.history.specs.Machine.{Machine, at, distance, fresh, present}
 use Rattle.commands.specs.Calls.{Call, five}
 use Rattle.commands.specs.declared.Answer.{Answer}
 use Rattle.machine.specs.Calls.{Parameters}
-use Rattle.machine.specs.HistoryCodes.{isChange}
+use Rattle.commands.specs.Kinds.{isChange}
 use Rattle.machine.specs.Machine.{answer, step, last}
 
 -- a call, its answer, and p and Gp as it begins

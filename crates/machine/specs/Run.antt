@@ -8,7 +8,7 @@ use Rattle.lists.specs.Choice.{_⇒_else_, _==_, within}
 use Rattle.lists.specs.Lists.{overwritten}
 use Rattle.type_rows.specs.Rows.{goodRows}
 use Rattle.image.specs.Image.{imageLength, save, load}
-use Rattle.image.specs.Checks.{verdict, loadCode, loadOffset}
+use Rattle.image_check.specs.Checks.{verdict, loadCode, loadOffset}
 use Rattle.history.specs.Machine.{fresh, present}
 use Rattle.commands.specs.Calls.{callsOf}
 use Rattle.commands.specs.Tables.{Row, row, inTurn}

@@ -11,7 +11,7 @@ use Rattle.graph.specs.Graph.{Graph}
 use Rattle.graph.specs.WellFormed.{Bounds, wellFormed}
 use Rattle.image.specs.Image.{save, SavesAs, load, loadable}
 use Rattle.history.specs.Machine.{present}
-use Rattle.commands.specs.Tables.{Row, row, First, NoneApplies}
+use Rattle.commands.specs.Tables.{Row, row, FirstApplies, NoneApplies}
 use Rattle.commands.specs.declared.Answer.{Answer}
 use Rattle.machine.specs.Calls.{Parameters, boundsIn}
 use Rattle.machine.specs.Codes.{codeTable}
@@ -40,16 +40,16 @@ codeTableIn w s x =
 
 -- the code of a call is the first of that table; a refused call answers 0 and leaves all stores
 pub record ByTableIn (w : Parameters) (s : Stores) (x : StoreCall) (a : Answer) : Type 0 where
-  pub refused-by : (k : ℕ) → (a .code ≡ suc k) ↔ First (suc k) (codeTableIn w s x)
+  pub refused-by : (k : ℕ) → (a .code ≡ suc k) ↔ FirstApplies (suc k) (codeTableIn w s x)
   pub accepted : (a .code ≡ 0) ↔ NoneApplies (codeTableIn w s x)
   pub number : (a .code ≡ 0 → ⊥) → a .number ≡ 0
   pub leaves : (a .code ≡ 0 → ⊥) → stepIn w s x ≡ s
 
 pub record Demand1In (l : LentStores) (r : AfterRun) (tables-stay : Type 0) : Type 0 where
   -- a list has a code of its table, or none of them applies
-  pub either : NoneApplies (storesTable l) ⊎ ((k : ℕ) × First (suc k) (storesTable l))
+  pub either : NoneApplies (storesTable l) ⊎ ((k : ℕ) × FirstApplies (suc k) (storesTable l))
   -- a list has the first code of its table that applies, with the number beside it; nothing is done and nothing written
-  pub refusal : (k : ℕ) → First (suc k) (storesTable l)
+  pub refusal : (k : ℕ) → FirstApplies (suc k) (storesTable l)
       → (r ≡ refused (suc k) (storesNumber l) (l .lent)) × tables-stay
   -- else each call has its answer
   pub answered : NoneApplies (storesTable l) →

@@ -14,7 +14,7 @@ use Rattle.graph.specs.Graph.{Graph}
 use Rattle.graph.specs.Limits.{mostVertices, mostEdges, mostChanges}
 use Rattle.graph.specs.WellFormed.{Bounds}
 use Rattle.image.specs.Image.{imageLength, save, load}
-use Rattle.image.specs.Checks.{loadCode, loadOffset}
+use Rattle.image_check.specs.Checks.{loadCode, loadOffset}
 use Rattle.history.specs.Machine.{Machine, fresh, present}
 use Rattle.commands.specs.Tables.{Row, row, inTurn}
 use Rattle.machine.specs.Calls.{Parameters, boundsIn}

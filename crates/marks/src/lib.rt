@@ -119,7 +119,7 @@ pub fn holder(set: u64, words: &[u32], but: u32, b: u32, c: u32) -> u32
     0
 }
 
-// Kind 17: mark a at place p, with no name. Where a is no mark, nothing changes.
+// Mark a is set (kind 17) at place p, with no name. Where a is no mark, nothing changes.
 pub fn set_mark(set: u64, places: &mut [u32], a: u32, p: u32) -> u64
     requires { ⌜ length (now places) ≡ markWords ⌝ }
     ensures { λ r. ⌜ r ≡ withMark a set ⌝ }
@@ -137,7 +137,7 @@ pub fn set_mark(set: u64, places: &mut [u32], a: u32, p: u32) -> u64
     set | (1u64 << k)
 }
 
-// Kind 18: mark a goes. Where it does not stand, nothing changes.
+// Mark a is dropped (kind 18). Where it does not stand, nothing changes.
 pub fn drop_mark(set: u64, a: u32) -> u64
     ensures { λ r. ⌜ r ≡ withoutMark a set ⌝ }
     ensures { λ r. ⌜ ((places : List ℕ) → (ms : ℕ → MarkPlace) → inSet set a ≡ true → Marked ms set places
@@ -182,7 +182,7 @@ pub fn cut_marks(set: u64, places: &[u32], p: u32) -> u64
     s
 }
 
-// Kind 50: how many marks stand, the count of ones of the set.
+// How many marks stand (kind 50), the count of ones of the set.
 pub fn count_marks(set: u64) -> u32
     ensures { λ r. ⌜ r ≡ ones set ⌝ }
     ensures { λ r. ⌜ ((places : List ℕ) → (ms : ℕ → MarkPlace) → Marked ms set places → r ≡ countStanding ms) ⌝ }
@@ -190,7 +190,7 @@ pub fn count_marks(set: u64) -> u32
     u64::count_ones(set)
 }
 
-// Kind 49: the steps between two places.
+// The steps between two places: kind 49, and the ways of kinds 21 and 57.
 pub fn between(p: u32, q: u32) -> u32
     ensures { λ r. ⌜ r ≡ distance p q ⌝ }
 {

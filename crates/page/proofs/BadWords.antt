@@ -10,11 +10,11 @@ use lib.ListN.{length}
 use borrow.Author.Tests.{ltb-true, ltb-false, eqb-true, eqb-false}
 use Rattle.lists.specs.Choice.{_==_}
 use Rattle.image.specs.Image.{vertexSize, vertexOffset, incidenceOffset, vertexCount, edgeCount, recordSize}
-use Rattle.image.specs.Checks.{codeOf, offsetOf, loadCode, loadOffset, verdict}
-use Rattle.image.specs.FirstBad.{isDegree, FirstBad, FirstDegree}
-use Rattle.image.specs.declared.Verdict.{Verdict}
-use Rattle.image.specs.declared.Verdict.the-variants.{Sound, BadHeader, BadRecord, BadIncidence}
-use Rattle.image.proofs.LoadCodes.{no-offset, bad-record, bad-degree, bad-incidence}
+use Rattle.image_check.specs.Checks.{codeOf, offsetOf, loadCode, loadOffset, verdict}
+use Rattle.image_check.specs.FirstBad.{isDegree, FirstBad, FirstDegree}
+use Rattle.image_check.specs.declared.Verdict.{Verdict}
+use Rattle.image_check.specs.declared.Verdict.the-variants.{Sound, BadHeader, BadRecord, BadIncidence}
+use Rattle.image_check.proofs.LoadCodes.{no-offset, bad-record, bad-degree, bad-incidence}
 use Rattle.page.specs.Page.{PageResult, pageBounds, pageBytes, pageOf}
 use Rattle.page.proofs.PageLaws.{page-refused, page-under, page-full}
 

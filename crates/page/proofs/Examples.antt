@@ -9,7 +9,7 @@ use Rattle.graph.specs.Graph.{Edge}
 use Rattle.graph.specs.declared.Reading.{Reading}
 use Rattle.graph.specs.declared.Reading.the-variants.{Untested, Silent, Heard}
 use Rattle.image.specs.Image.{load}
-use Rattle.image.specs.Checks.{verdict}
+use Rattle.image_check.specs.Checks.{verdict}
 use Rattle.page.specs.Rows.{rightAligned, column, cell, silentWord, readingText, readingColumn, rowOf, rowsOf}
 use Rattle.page.specs.Page.{pageOf}
 

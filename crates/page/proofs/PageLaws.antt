@@ -15,14 +15,14 @@ use Rattle.decimal.proofs.Stores.{stored-over}
 use Rattle.graph.specs.Graph.{Graph}
 use Rattle.graph.specs.WellFormed.{wellFormed}
 use Rattle.image.specs.Image.{SavesAs, recordSize, part, edgeCount, edgePart, load, loadable}
-use Rattle.image.specs.Checks.{codeOf, loadCode, loadOffset, verdict}
-use Rattle.image.specs.declared.Verdict.{Verdict}
-use Rattle.image.specs.declared.Verdict.the-variants.{Sound, BadHeader, BadRecord, BadIncidence}
-use Rattle.image.proofs.Verdicts.{zero-sound}
-use Rattle.image.proofs.LoadCodes.{code-loads}
+use Rattle.image_check.specs.Checks.{codeOf, loadCode, loadOffset, verdict}
+use Rattle.image_check.specs.declared.Verdict.{Verdict}
+use Rattle.image_check.specs.declared.Verdict.the-variants.{Sound, BadHeader, BadRecord, BadIncidence}
+use Rattle.image_check.proofs.Verdicts.{zero-sound}
+use Rattle.image_check.proofs.LoadCodes.{code-loads}
 use Rattle.image.proofs.Loads.{loads, loads-back, saves-loads, loaded}
-use Rattle.image.proofs.SavedSound.{loads-sound}
-use Rattle.image.proofs.SoundLoads.{long-edges}
+use Rattle.image_check.proofs.SavedSound.{loads-sound}
+use Rattle.image.proofs.Parts.{long-edges}
 use Rattle.image.proofs.Room.{few-edges}
 use Rattle.image.proofs.EdgePart.{part-two, eseq-count}
 use Rattle.page.specs.Rows.{rowBytes, rowsOf, rowsFrom}

@@ -7,7 +7,7 @@ use Rattle.lists.specs.Choice.{_⇒_else_, _==_}
 use Rattle.lists.specs.Lists.{overwritten}
 use Rattle.graph.specs.WellFormed.{Bounds}
 use Rattle.image.specs.Image.{load}
-use Rattle.image.specs.Checks.{savedBounds, loadCode, loadOffset}
+use Rattle.image_check.specs.Checks.{savedBounds, loadCode, loadOffset}
 use Rattle.page.specs.Rows.{rowBytes, rowsOf}
 use Rattle.page.specs.declared.Printed.{Printed}
 

@@ -8,11 +8,11 @@ ghost use Rattle.graph.specs.Graph.{readingOf};
 ghost use Rattle.page.specs.Rows.{column, cell, readingColumn, rowOf, edgeRead, rowsFrom};
 ghost use Rattle.page.specs.Page.{pageOf, printed};
 use decimal::bytes;
-use image::check_saved;
-use image::code_of;
 use image::layout::EDGE;
-use image::offset_of;
 use image::part;
+use image_check::check_saved;
+use image_check::code_of;
+use image_check::offset_of;
 
 // A code, and how many bytes were written; with a code none, and bytes is the offset of the first bad word, else 0.
 #[repr(C)]

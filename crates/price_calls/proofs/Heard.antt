@@ -18,7 +18,7 @@ use Rattle.graph.proofs.Incidence.{pick-le}
 use Rattle.graph_tables.specs.Tables.{State, incidenceLinks, endsAt, wthis}
 use Rattle.graph_tables.specs.Holds.{Holds}
 use Rattle.graph_tables.proofs.Frames.{valid-i}
-use Rattle.queries.proofs.Answers.{vertex-row, omega-is, reading-at}
+use Rattle.graph_tables.proofs.Answers.{vertex-row, omega-is, reading-at}
 use Rattle.prices.specs.Prices.{readingOut, later, lastTested, way}
 use Rattle.price_calls.specs.Ways.{readingTo, wayAt}
 

@@ -10,7 +10,7 @@ use Rattle.linked_lists.specs.declared.Ends.{Ends}
 use Rattle.linked_lists.specs.Lists.{Fresh}
 use Rattle.linked_lists.specs.Links.{backward, forward, linkOf, Chain, nodesFrom}
 use Rattle.linked_lists.proofs.Model.{nodes-chain}
-use Rattle.queries.proofs.ListWalks.{Walk}
+use Rattle.walks.proofs.ListWalks.{Walk}
 
 abbrev pub ahead : LinkLayout → List ℕ → Ends → ℕ → List ℕ
 ahead layout t e w = nodesFrom (linkOf forward layout t e) (length t + layout .offset) w

@@ -1,6 +1,7 @@
 // The printed price lists: the lower limit of each grade, and the grade of a range by such a table.
+use lists::numbers::less_one;
 ghost use mathlib.Core.Path.{_≡_};
-ghost use Prim.Native.Nat.{_+_, _-_, _<_};
+ghost use Prim.Native.Nat.{_+_, _<_};
 ghost use lib.ListN.{length};
 ghost use lib.Dec.{leb};
 ghost use Rattle.lists.specs.Choice.{toBit};
@@ -113,15 +114,6 @@ fn counted(n: u32, limit: u32, range: u32) -> u32
         return n + 1;
     }
     n
-}
-
-fn less_one(n: u32) -> u32
-    ensures { λ r. ⌜ r ≡ n - 1 ⌝ }
-{
-    if n == 0 {
-        return 0;
-    }
-    n - 1
 }
 
 // How many limits are not above the range, less one. A table has no more lines than a word can count.

@@ -6,16 +6,19 @@ use commands::Answer;
 use commands::PriceCall;
 use commands::accepted;
 use commands::refused;
-use cursor::following;
 use grades::grade_of;
 use graph::Reading;
 use graph_tables::Lookup;
+use graph_tables::fields::HALF_THIS;
+use graph_tables::fields::VERTEX_FIRST;
 use graph_tables::lookups::find_vertex;
-use graph_tables::rows::first_word;
+use graph_tables::rows::half_field;
 use graph_tables::rows::reading_at;
-use graph_tables::rows::this;
+use graph_tables::rows::vertex_field;
+use lists::numbers::smaller;
+use walks::cursor::following;
 ghost use mathlib.Core.Path.{_≡_};
-ghost use Prim.Native.Nat.{_/_, min};
+ghost use Prim.Native.Nat.{_/_};
 ghost use Rattle.graph.specs.Graph.{Graph};
 ghost use Rattle.graph_tables.specs.declared.Head.{Head};
 ghost use Rattle.graph_tables.specs.Tables.{EdgeRowIn, state, entryState};
@@ -26,7 +29,7 @@ ghost use Rattle.commands.specs.declared.PriceCall.the-variants as price;
 ghost use Rattle.commands.specs.Answers.{answerOf};
 ghost use Rattle.machine.specs.Codes.{priceCode};
 ghost use Rattle.machine.specs.Machine.{priceNumber};
-ghost use Rattle.queries.specs.Walks.{CanWalk};
+ghost use Rattle.walks.specs.Walks.{CanWalk};
 ghost use Rattle.prices.specs.Prices.{later};
 ghost use Rattle.price_calls.specs.Ways.{readingTo, wayAt, bothWays, priceAt};
 
@@ -49,7 +52,7 @@ fn reading_to(edges: &[u32], b: u32, w: u32) -> Reading
     if w % 2 != 0 {
         return Reading::Untested;
     }
-    let z = this(edges, w + 1);
+    let z = half_field(edges, w + 1, HALF_THIS);
     if z != b {
         return Reading::Untested;
     }
@@ -62,22 +65,13 @@ fn one_way(vertices: &[u32], edges: &[u32], a: u32, b: u32) -> Reading
     ensures { λ r. ⌜ r ≡ wayAt (now (vertices .entry)) (now (edges .entry)) a b ⌝ }
 {
     let mut way = Reading::Untested;
-    let mut w = first_word(vertices, a);
+    let mut w = vertex_field(vertices, a, VERTEX_FIRST);
     while w != 0 {
         let reading = reading_to(edges, b, w);
         way = with_reading(way, reading);
         w = following(edges, w);
     }
     way
-}
-
-fn smaller(x: u32, y: u32) -> u32
-    ensures { λ r. ⌜ r ≡ min x y ⌝ }
-{
-    if x < y {
-        return x;
-    }
-    y
 }
 
 // Two ways together: the smaller of both, or code 16 where one has nothing heard.

@@ -11,8 +11,8 @@ use Rattle.lists.specs.Lists.{overwritten}
 use Rattle.decimal.specs.Stored.{WrittenAt}
 use Rattle.decimal.proofs.Stores.{over-front, over-fits}
 use Rattle.image.specs.Image.{load}
-use Rattle.image.specs.Checks.{loadCode, loadOffset}
-use Rattle.image.proofs.LoadCodes.{code-loads}
+use Rattle.image_check.specs.Checks.{loadCode, loadOffset}
+use Rattle.image_check.proofs.LoadCodes.{code-loads}
 use Rattle.image.proofs.Loads.{loaded}
 use Rattle.image.proofs.Room.{few-edges}
 use Rattle.page.specs.declared.Printed.{Printed}

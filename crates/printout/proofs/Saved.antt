@@ -7,7 +7,7 @@ use lib.ListN.{length}
 use Rattle.graph.specs.Graph.{Graph}
 use Rattle.graph.specs.WellFormed.{wellFormed}
 use Rattle.image.specs.Image.{save}
-use Rattle.image.proofs.LoadCodes.{code-loads}
+use Rattle.image_check.proofs.LoadCodes.{code-loads}
 use Rattle.image.proofs.Loads.{saved-same, saved-loads}
 use Rattle.image.proofs.Room.{image-fits}
 use Rattle.image.proofs.WordSize.{image-small}

@@ -3,7 +3,7 @@ use Prim.Native.Nat.{ℕ}
 use mathlib.Core.List.{List, []}
 use Rattle.lists.specs.Choice.{_⇒_else_, _==_}
 use Rattle.image.specs.Image.{load}
-use Rattle.image.specs.Checks.{loadCode, loadOffset}
+use Rattle.image_check.specs.Checks.{loadCode, loadOffset}
 use Rattle.page.specs.Rows.{rowsOf}
 use Rattle.page.specs.Page.{pageBounds}
 use Rattle.text.specs.Writing.{unreadableWord, lineOf, refusedLine}

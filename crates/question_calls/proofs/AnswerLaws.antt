@@ -6,7 +6,7 @@ use mathlib.Core.List.{List}
 use native.Mathlib.Omega.{arith}
 use lib.ListN.{getD}
 use Rattle.lists.specs.Choice.{_⇒_else_, _==_}
-use Rattle.lists.specs.Lists.{first, after}
+use Rattle.lists.specs.Lists.{first, successor}
 use Rattle.lists.proofs.Picks.{pick-yes, pick-no, same, differ, same?}
 use Rattle.graph.specs.Graph.{Graph, vertex, edge, hasVertex, hasEdge, vertexNumbers, edgeNumbers, edgeOf, inWord, outWord, this, that, listOf, readingKind, decimetres}
 use Rattle.graph.specs.Changes.{VertexThere, EdgeThere}
@@ -15,7 +15,7 @@ use Rattle.graph_tables.specs.declared.Lookup.{Lookup}
 use Rattle.graph_tables.specs.declared.Lookup.the-variants.{Found, Missing}
 use Rattle.graph_tables.specs.Tables.{State, state, vertexPlace, edgePlace, halfPlace, foundV, foundE}
 use Rattle.graph_tables.proofs.Finds.{found-vertex, found-edge}
-use Rattle.queries.proofs.Answers.{
+use Rattle.graph_tables.proofs.Answers.{
   vertex-next,
   first-word,
   vertex-type,
@@ -31,7 +31,7 @@ use Rattle.queries.proofs.Answers.{
   word-next,
   word-this,
 }
-use Rattle.change_codes.specs.Held.{HoldsV, HoldsE}
+use Rattle.graph_tables.specs.Holds.{HoldsV, HoldsE}
 use Rattle.machine.specs.Codes.{lacksVertex, lacksEdge}
 use Rattle.commands.specs.declared.Answer.{Answer}
 use Rattle.commands.specs.Answers.{answerOf, accepts}
@@ -66,7 +66,7 @@ module _ (vertices : List ℕ) (g : Graph) (h : HoldsV vertices g) (a : ℕ) whe
   pub v-first : AnswersV 3 (first (listOf g a))
   v-first = vertex-answer 3 _ (first-word stateV g (h .1 .1) a)
 
-  pub v-next : AnswersV 7 (after a (vertexNumbers g))
+  pub v-next : AnswersV 7 (successor a (vertexNumbers g))
   v-next = vertex-answer 7 _ (vertex-next stateV g (h .1 .1) a)
 
 -- ---- edges and their halves
@@ -106,7 +106,7 @@ module _ (edges : List ℕ) (g : Graph) (h : HoldsE edges g) where
     pub e-decimetres : AnswersE a 9 (decimetres (edge g a .reading))
     e-decimetres = edge-answer a 9 _ (reading-decimetres stateE g (h .1 .1) a)
 
-    pub e-next : AnswersE a 11 (after a (edgeNumbers g))
+    pub e-next : AnswersE a 11 (successor a (edgeNumbers g))
     e-next = edge-answer a 11 _ (edge-next stateE g (h .1 .1) a)
 
   module _ (w : ℕ) where
@@ -118,7 +118,7 @@ module _ (edges : List ℕ) (g : Graph) (h : HoldsE edges g) where
     half-answer f x k =
         edge-answer (edgeOf w) (6 * (w % 2) + f) x (λ c. word-of _ (halfPlace f w) x (half-at w f (word-row stateE g (h .1 .1) w c .0)) (k c))
 
-    pub w-next : AnswersW (halfWord edges w 1) (after w (listOf g (this g w)))
+    pub w-next : AnswersW (halfWord edges w 1) (successor w (listOf g (this g w)))
     w-next = half-answer 1 _ (word-next stateE g (h .1 .1) w)
 
     pub w-this : AnswersW (halfWord edges w 2) (this g w)

@@ -6,15 +6,27 @@ use commands::accepted;
 use commands::refused;
 use graph_tables::Head;
 use graph_tables::Lookup;
+use graph_tables::fields::EDGE_ALPHA;
+use graph_tables::fields::EDGE_DECIMETRES;
+use graph_tables::fields::EDGE_KIND;
+use graph_tables::fields::EDGE_NEXT;
+use graph_tables::fields::EDGE_OMEGA;
+use graph_tables::fields::EDGE_TYPE;
+use graph_tables::fields::HALF_NEXT;
+use graph_tables::fields::HALF_THIS;
+use graph_tables::fields::VERTEX_FIRST;
+use graph_tables::fields::VERTEX_NEXT;
+use graph_tables::fields::VERTEX_TYPE;
+use graph_tables::fields::VERTEX_VALUE;
 use graph_tables::lookups::find_edge;
 use graph_tables::lookups::find_vertex;
 use graph_tables::lookups::find_word;
-use graph_tables::rows::this;
-use queries::questions::degree;
-use queries::questions::edge_before;
-use queries::questions::vertex_before;
-use queries::questions::word_before;
+use graph_tables::rows::half_field;
 use type_rows::is_below;
+use walks::counting::degree;
+use walks::orders::edge_before;
+use walks::orders::vertex_before;
+use walks::orders::word_before;
 ghost use mathlib.Core.Path.{_≡_};
 ghost use mathlib.Core.List.{List};
 ghost use Prim.Native.Nat.{ℕ, _<_};
@@ -33,31 +45,6 @@ ghost use Rattle.commands.specs.Answers.{answerOf};
 ghost use Rattle.machine.specs.Codes.{questionCode};
 ghost use Rattle.machine.specs.Machine.{questionNumber};
 ghost use Rattle.question_calls.specs.Words.{vertexWord, edgeWord, halfWord, thatWord};
-
-// Where the words of a row stand (REFERENCE 13.1, 13.2).
-const VERTEX_TYPE: usize = 1;
-
-const VERTEX_VALUE: usize = 2;
-
-const VERTEX_FIRST: usize = 3;
-
-const VERTEX_NEXT: usize = 7;
-
-const EDGE_ALPHA: usize = 2;
-
-const EDGE_TYPE: usize = 4;
-
-const EDGE_KIND: usize = 5;
-
-const EDGE_OMEGA: usize = 8;
-
-const EDGE_DECIMETRES: usize = 9;
-
-const EDGE_NEXT: usize = 11;
-
-const HALF_NEXT: usize = 1;
-
-const HALF_THIS: usize = 2;
 
 // A word of the row of vertex a.
 fn vertex_word(vertices: &[u32], a: u32, field: usize) -> Answer
@@ -160,7 +147,7 @@ fn order_of_words(vertices: &[u32], edges: &[u32], a: u32, b: u32) -> Answer
     let Lookup::Found(_) = h else {
         return refused(5);
     };
-    if this(edges, a) != this(edges, b) {
+    if half_field(edges, a, HALF_THIS) != half_field(edges, b, HALF_THIS) {
         return refused(8);
     }
     let before = word_before(vertices, edges, a, b);

@@ -8,10 +8,11 @@ use native.Mathlib.Omega.{arith}
 use native.Mathlib.Nat.{mul-le-mul-left}
 use borrow.Author.Tests.{eqb-true, eqb-false, ltb-false}
 use lib.Dec.{ltb}
-use lib.ListN.{length, getD, take, drop, set}
-use lib.Seq.{sets, getD-set-other}
+use lib.ListN.{length, getD, take, drop}
+use lib.Seq.{sets}
 use Rattle.lists.specs.Choice.{_==_}
 use Rattle.lists.specs.Lists.{All}
+use Rattle.lists.proofs.Stores.{sets-other}
 use Rattle.graph.specs.Graph.{Graph}
 use Rattle.history.specs.Machine.{fresh}
 use Rattle.image.specs.Image.{load, save}
@@ -80,11 +81,6 @@ module _ (l : Lent) (copies : List ℕ) (e : recordingRefusal l (length copies) 
       ∙ stretch-read (stretch w) 0 (madeIn l) copies k z (all-small w a) h (subst (λ (j : ℕ). stretch w * j ≤ length copies) (sym g) steps-fit)
 
 -- ---- all other words
-
-sets-other : (cs : List ℕ) (i : ℕ) (vs : List ℕ) (j : ℕ) → (i ≤ j → j < i + length vs → ⊥) → getD (sets cs i vs) j 0 ≡ getD cs j 0
-sets-other cs i [] j h = refl
-sets-other cs i (v ∷ vs) j h =
-    sets-other (set cs i v) (suc i) vs j (λ a b. h (omega arith) (omega arith)) ∙ getD-set-other cs i j v 0 (λ q. h (omega (arith, q)) (omega (arith, q)))
 
 others : (size k : ℕ) (gs : List Graph) (cs : List ℕ) (j : ℕ) (z : Graph)
     → ((i : ℕ) → i < length gs → size * (k + i) ≤ j → j < size * (k + i) + length (save (getD gs i z)) → ⊥) → getD (recordedFrom size k gs cs) j 0 ≡ getD cs j 0

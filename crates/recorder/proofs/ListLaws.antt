@@ -26,7 +26,7 @@ use Rattle.engine.specs.Running.{Running}
 use Rattle.engine.proofs.CallLaws.{last-more}
 use Rattle.copies.proofs.MadeLaws.{alter-kind, made-more, made-few, one-more, changes-with}
 use Rattle.recorder.proofs.CoverLaws.{covers-as}
-use Rattle.copies.specs.Copies.{graphMade, made, stretch, changesIn}
+use Rattle.copies.specs.Copies.{graphMade, stepGraphs, stretch, changesIn}
 use Rattle.copies.specs.Recording.{Covers, roleOf, takes, Takes}
 use Rattle.recorder.specs.Contracts.{HasStretch}
 
@@ -87,7 +87,7 @@ module _ (calls : List ℕ) (k : ℕ) (fits : 5 * k + 5 ≤ length calls) where
   abbrev part : List ℕ
   part = take (5 * k + 5 - 5 * k) (drop (5 * k) calls)
 
-  pub stretch-left : (w : Parameters) (m : Machine) (count size room : ℕ) → count ≡ length (made w m (take k (callsOf calls))) → size * changesIn (callsOf calls) ≤ room
+  pub stretch-left : (w : Parameters) (m : Machine) (count size room : ℕ) → count ≡ length (stepGraphs w m (take k (callsOf calls))) → size * changesIn (callsOf calls) ≤ room
       → HasStretch part size count room
   stretch-left w m count size room e h t =
       let c = changes-with calls k fits t in
@@ -95,16 +95,16 @@ module _ (calls : List ℕ) (k : ℕ) (fits : 5 * k + 5 ≤ length calls) where
       omega (arith, mul-suc size count, mul-le-mul-left {m = suc count} {n = changesIn (callsOf calls)} size (omega arith))
 
   pub covers-more : (w : Parameters) (m : Machine) (start lent copies numbers used : List ℕ) (count : ℕ)
-      → Covers w start lent copies numbers used (made w m (take k (callsOf calls)) ++ graphMade w (last w m (take k (callsOf calls))) (commandOf (callAt part))) count
+      → Covers w start lent copies numbers used (stepGraphs w m (take k (callsOf calls)) ++ graphMade w (last w m (take k (callsOf calls))) (commandOf (callAt part))) count
       (stepTo w (last w m (take k (callsOf calls))) (commandOf (callAt part)))
-      → Covers w start lent copies numbers used (made w m (take (k + 1) (callsOf calls))) count (last w m (take (k + 1) (callsOf calls)))
+      → Covers w start lent copies numbers used (stepGraphs w m (take (k + 1) (callsOf calls))) count (last w m (take (k + 1) (callsOf calls)))
   covers-more w m start lent copies numbers used count f =
       covers-as w start lent refl refl refl
-      (ap (made w m) (one-more calls k fits) ∙ made-more w m (take k (callsOf calls)) (callAt part)) refl
+      (ap (stepGraphs w m) (one-more calls k fits) ∙ made-more w m (take k (callsOf calls)) (callAt part)) refl
       (ap (last w m) (one-more calls k fits) ∙ last-more w m (take k (callsOf calls)) (callAt part)) f
 
 -- before the first call
 pub covers-none : (w : Parameters) (m : Machine) (start lent copies numbers used : List ℕ) (n : ℕ) → Covers w start lent copies numbers used [] n m
-    → Covers w start lent copies numbers used (made w m []) n (last w m [])
-unfolding made last
+    → Covers w start lent copies numbers used (stepGraphs w m []) n (last w m [])
+unfolding stepGraphs last
 covers-none w m start lent copies numbers used n f = f

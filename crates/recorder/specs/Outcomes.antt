@@ -14,11 +14,11 @@ use Rattle.commands.specs.Calls.{callsOf}
 use Rattle.machine.specs.Run.{Lent, AfterRun, parametersOf, listRefusal, listNumber, accepted, refused}
 use Rattle.machine.specs.Demands.{Demand1, Demand2}
 use Rattle.engine.specs.Outcomes.{Same}
-use Rattle.copies.specs.Copies.{made, stretch, recorded, changesIn}
+use Rattle.copies.specs.Copies.{stepGraphs, stretch, recorded, changesIn}
 
 -- the graphs after its steps, in the order in which they are made
 abbrev pub madeIn : Lent → List Graph
-madeIn l = made (parametersOf l) (fresh (load (l .start))) (callsOf (l .calls))
+madeIn l = stepGraphs (parametersOf l) (fresh (load (l .start))) (callsOf (l .calls))
 
 -- the refusals of a run, then 113: more calls of kinds 1 to 16 than there are stretches
 unfoldable pub recordingRefusal : Lent → ℕ → ℕ
@@ -35,7 +35,7 @@ abbrev pub afterRecording : AfterRun → List ℕ → AfterRecording
 afterRecording r copies = record { run = r; copies = copies }
 
 unfoldable pub recording : Lent → List ℕ → AfterRecording
-unfolding recordingRefusal listNumber accepted refused made
+unfolding recordingRefusal listNumber accepted refused stepGraphs
 recording l copies =
     let r = recordingRefusal l (length copies) in
     (r == 0) ⇒ afterRecording (accepted l) (recorded (stretch (parametersOf l)) (madeIn l) copies)

@@ -40,7 +40,7 @@ ghost use Rattle.history_calls.specs.Outcomes.{Leads};
 ghost use Rattle.engine.specs.Running.{Running, Answered};
 ghost use Rattle.engine.specs.Calls.{AfterCalls};
 ghost use Rattle.engine.specs.Outcomes.{lent, given, left, MeetsDemand3};
-ghost use Rattle.copies.specs.Copies.{stretch, graphMade, made, changesIn, recorded};
+ghost use Rattle.copies.specs.Copies.{stretch, graphMade, stepGraphs, changesIn, recorded};
 ghost use Rattle.copies.specs.Recording.{Covers, roleOf};
 ghost use Rattle.recorder.specs.Contracts.{CanRecord, CanAdd, CanBegin, HasStretch, calledBy};
 ghost use Rattle.recorder.specs.Outcomes.{madeIn, afterRecording, recording};
@@ -239,7 +239,7 @@ fn record_all(
         (now (used .entry)) [] 0 m → size ≡ stretch w
         → AfterCalls w (w .changes) m (callsOf (now (calls .entry))) r (exit vertices edges journal marks)
         (now (closed .entry)) types (now (answers .entry)) (now (answers .exit))
-        × (now (copies .exit) ≡ recorded (stretch w) (made w m (callsOf (now (calls .entry))))
+        × (now (copies .exit) ≡ recorded (stretch w) (stepGraphs w m (callsOf (now (calls .entry))))
         (now (copies .entry)))) ⌝ }
 {
     let n = calls.len() / 5;

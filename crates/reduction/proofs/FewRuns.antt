@@ -9,8 +9,10 @@ use native.Mathlib.Nat.{mul-suc}
 use lib.ListN.{length}
 use borrow.Author.Tests.{eqb-false}
 use Rattle.lists.specs.Choice.{_⇒_else_, _==_}
-use Rattle.reduction.specs.Reduction.{without, Reduced, firstLoose, reducedFrom, pairs, reduced}
-use Rattle.reduction.proofs.ReductionLaws.{without-length, first-within}
+use Rattle.reduction.specs.Reduction.{Reduced, firstLoose, reducedFrom, pairs, reduced}
+use Rattle.lists.specs.Lists.{without}
+use Rattle.reduction.proofs.ReductionLaws.{first-within}
+use Rattle.lists.proofs.Without.{without-length}
 
 -- one element less is as many pairs less as there are others
 one-less : (n : ℕ) → 1 ≤ n → pairs n ≡ (n - 1) + pairs (n - 1)

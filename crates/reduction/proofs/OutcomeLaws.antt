@@ -21,7 +21,7 @@ use Rattle.reduction.specs.declared.Reduction.{Reduction}
 use Rattle.reduction.specs.Reduction.{Subsequence, finalOf, Least}
 use Rattle.reduction.specs.Trials.{callsAt, Numbered, Ready}
 use Rattle.reduction.specs.Outcomes.{AfterReduction, wordsOf, codeOf, least, tooLong, reductionRefusal, afterReduction, reduction, callsIn, IsLeast, Searched}
-use Rattle.reduction.proofs.ListLaws.{range-length, range-front, range-at, picks-all}
+use Rattle.lists.proofs.Ranges.{range-length, range-front, range-at, picks-all}
 use Rattle.reduction.proofs.ReductionLaws.{least as still-least, left-among}
 use Rattle.reduction.proofs.TrialLaws.{calls-many}
 

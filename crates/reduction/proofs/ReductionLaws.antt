@@ -9,12 +9,9 @@ use lib.ListN.{length}
 use borrow.Author.Tests.{eqb-true, eqb-false, eq-eqb, ne-eqb}
 use Rattle.lists.specs.Choice.{_⇒_else_, _==_}
 use Rattle.lists.proofs.Picks.{same, differ, same?}
-use Rattle.reduction.specs.Reduction.{without, Subsequence, none, kept, dropped, finalOf, Reduced, firstLoose, reducedFrom, reduced, Least}
-
-pub without-length : {A : Type 0} (i : ℕ) (xs : List A) → i < length xs → suc (length (without i xs)) ≡ length xs
-without-length i [] h = absurd (omega arith)
-without-length zero (x ∷ xs) h = refl
-without-length (suc i) (x ∷ xs) h = ap suc (without-length i xs (omega arith))
+use Rattle.lists.proofs.Without.{without-length}
+use Rattle.reduction.specs.Reduction.{Subsequence, none, kept, dropped, finalOf, Reduced, firstLoose, reducedFrom, reduced, Least}
+use Rattle.lists.specs.Lists.{without}
 
 module _ {A : Type 0} (code : List A → ℕ) (c : ℕ) where
   -- what is found: an element that can be left out, or that none can

@@ -7,10 +7,11 @@ use native.Mathlib.Omega.{arith}
 use native.Mathlib.Numerals.{add-one}
 use borrow.Author.Tests.{lt-ltb, ltb-true, ltb-false, eqb-true, eqb-false}
 use lib.Dec.{ltb}
-use lib.ListN.{length, getD, take, drop, length-append, length-drop, length-map}
-use lib.Seq.{take-suc, take-at, length-take-le, drop-drop, sets, sets-eq, take-append-seam, drop-append-add, getD-take, getD-drop}
+use lib.ListN.{length, getD, take, drop, length-drop, length-map}
+use lib.Seq.{take-suc, take-at, length-take-le, sets, getD-take, getD-drop}
 use Rattle.lists.specs.Choice.{_⇒_else_, _==_}
-use Rattle.lists.specs.Lists.{overwritten, concatMap}
+use Rattle.lists.specs.Lists.{overwritten, concatMap, without}
+use Rattle.lists.proofs.Stores.{over-sets}
 use Rattle.graph.specs.WellFormed.{Bounds, Within}
 use Rattle.history.specs.Machine.{Machine, fresh}
 use Rattle.image.specs.Image.{load}
@@ -31,11 +32,11 @@ use Rattle.engine.proofs.CallLaws.{call-at, last-more}
 use Rattle.engine.proofs.RunLaws.{can-load, running}
 use Rattle.marks.specs.Marked.{markWords}
 use Rattle.reduction.specs.declared.Trying.{Trying}
-use Rattle.reduction.specs.Reduction.{without, Reduced, reduced, reducedFrom}
+use Rattle.reduction.specs.Reduction.{Reduced, reduced, reducedFrom}
 use Rattle.reduction.specs.Trials.{lastOf, callNumbered, callsAt, tried, placeOf, Tries, Numbered, Ready}
 use Rattle.reduction.specs.Outcomes.{wordsOf, Searched}
-use Rattle.reduction.proofs.ReductionLaws.{without-length, searching, search-begins, search-ends, search-drops, search-keeps}
-use Rattle.reduction.proofs.ListLaws.{without-before, without-behind, without-most, take-without, take-before, map-without}
+use Rattle.reduction.proofs.ReductionLaws.{searching, search-begins, search-ends, search-drops, search-keeps}
+use Rattle.lists.proofs.Without.{without-length, without-before, without-behind, without-most, take-without, take-before, map-without}
 
 -- ---- the number at a place
 
@@ -154,17 +155,6 @@ concat-more (y ∷ xs) x = ap (λ (l : List ℕ). wordsOf y ++ l) (concat-more x
 pub concat-length : (xs : List Call) → length (concatMap wordsOf xs) ≡ 5 * length xs
 concat-length [] = refl
 concat-length (x ∷ xs) = omega (arith, concat-length xs)
-
--- words behind those at the front
-pub over-sets : (A ws list : List ℕ) → length A + length ws ≤ length list → sets (overwritten A list) (length A) ws ≡ overwritten (A ++ ws) list
-over-sets A ws list h =
-    let D = drop (length A) list in
-    let long : length (A ++ ws) ≡ length A + length ws = length-append A ws in
-    let p : take (length A) (A ++ D) ≡ A = take-append-seam A D in
-    let d : drop (length A + length ws) (A ++ D) ≡ drop (length ws) D = drop-append-add A D (length ws) in
-    let t : drop (length ws) D ≡ drop (length (A ++ ws)) list = drop-drop (length ws) (length A) list ∙ ap (λ (j : ℕ). drop j list) (sym long) in
-    sets-eq ws (A ++ D) (length A) (rw (length-append, length-drop) (omega arith))
-    ∙ rw (p, d, t)
 
 -- the calls of the first n numbers, at the front of a list
 abbrev pub written : List ℕ → List ℕ → ℕ → List ℕ → List ℕ

@@ -5,17 +5,10 @@ use mathlib.Core.Logic.{_≢_}
 use mathlib.Core.List.{List, [], _∷_}
 use lib.ListN.{length}
 use Rattle.lists.specs.Choice.{_⇒_else_, _==_}
+use Rattle.lists.specs.Lists.{without}
 
 module _ {A : Type 0} where
-  -- the list without element i, counted from 0
-  abbrev pub without : ℕ → List A → List A
-  without i [] = []
-  without zero (x ∷ xs) = xs
-  without (suc i) (x ∷ xs) = x ∷ without i xs
-
-  -- ---- what is left of a list
-
-  -- some of its elements, in their order
+  -- some elements of a list, in their order
   pub data Subsequence : List A → List A → Type 0 where
     none : Subsequence [] []
     kept : {x : A} {xs ys : List A} → Subsequence xs ys → Subsequence (x ∷ xs) (x ∷ ys)

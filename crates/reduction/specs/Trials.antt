@@ -17,7 +17,7 @@ use Rattle.machine.specs.Calls.{Parameters, boundsIn}
 use Rattle.machine.specs.Machine.{answers}
 use Rattle.history_calls.specs.Memory.{memory}
 use Rattle.engine.specs.Running.{Setting}
-use Rattle.reduction.specs.Reduction.{without}
+use Rattle.lists.specs.Lists.{without}
 
 -- the code of the last answer, another where there is none
 abbrev pub lastOf : ℕ → List Answer → ℕ

@@ -11,7 +11,7 @@ ghost use mathlib.Core.List.{[], _∷_, _++_};
 ghost use Prim.Native.Nat.{_+_, _-_, _*_, _/_, _≤_, _<_};
 ghost use lib.ListN.{length, getD, take, drop};
 ghost use lib.Seq.{sets};
-ghost use Rattle.lists.specs.Lists.{overwritten, range, concatMap};
+ghost use Rattle.lists.specs.Lists.{overwritten, range, concatMap, without};
 ghost use Rattle.history.specs.Machine.{Machine};
 ghost use Rattle.image.specs.Image.{load};
 ghost use Rattle.machine.specs.Calls.{Parameters};
@@ -20,7 +20,7 @@ ghost use Rattle.machine.specs.Run.{listRefusal};
 ghost use Rattle.history_calls.specs.Memory.{entry};
 ghost use Rattle.engine.specs.Running.{Running, Runs};
 ghost use Rattle.engine.specs.Outcomes.{lent, given};
-ghost use Rattle.reduction.specs.Reduction.{without, reduced as reducedOf};
+ghost use Rattle.reduction.specs.Reduction.{reduced as reducedOf};
 ghost use Rattle.reduction.specs.Trials.{
   lastOf,
   lastCode,

@@ -9,7 +9,8 @@ use lib.Dec.{ltb}
 use borrow.Author.Tests.{eq-eqb, ne-eqb, ltb-false}
 use Rattle.lists.specs.Choice.{_⇒_else_, _==_}
 use Rattle.lists.specs.Lists.{overwritten}
-use Rattle.decimal.proofs.Stores.{one-drop, rest-all}
+use Rattle.decimal.proofs.Stores.{rest-all}
+use Rattle.lists.proofs.WordLaws.{one-drop}
 use Rattle.text.specs.declared.reading.ReadVerdict.{ReadVerdict}
 use Rattle.text.specs.declared.reading.ReadVerdict.the-variants.{Calls, Unreadable as Bad}
 use Rattle.text.specs.Reading.{Verdict, calls, unreadable, pieces, goodLine, lineCount, firstBad, wordsIn, readText, callWords, verdictOf}

@@ -2,21 +2,21 @@
 use Prim.Native.Nat.{ℕ, _+_, _*_, _≤_}
 use mathlib.Core.Path.{_≡_, refl, sym, ap, subst, _∙_}
 use mathlib.Core.Logic.{_≢_}
-use mathlib.Core.Bool.{Bool, true, false, _&&_}
+use mathlib.Core.Bool.{Bool, true, false}
 use mathlib.Core.List.{List}
 use native.Mathlib.Omega.{arith}
 use lib.ListN.{length}
 use borrow.Author.Tests.{eqb-true, eqb-false, ne-eqb}
 use Rattle.lists.specs.Choice.{_==_, _⇒_else_}
-use Rattle.graph.specs.declared.Change.{Change}
-use Rattle.graph.specs.declared.Change.the-variants.{CreateVertex, DeleteVertex, CreateEdge, DeleteEdge, RetypeVertex, RetypeEdge, SetValue, SetReading, SetAlpha, SetOmega, VertexBefore}
-use Rattle.graph.specs.declared.Change.the-variants.{VertexAfter, EdgeBefore, EdgeAfter, WordBefore, WordAfter}
+use Rattle.graph.specs.declared.SingleChange.{SingleChange}
+use Rattle.graph.specs.declared.SingleChange.the-variants.{CreateVertex, CreateEdge, DeleteEdge, RetypeVertex, RetypeEdge, SetValue, SetReading, SetAlpha, SetOmega, VertexBefore}
+use Rattle.graph.specs.declared.SingleChange.the-variants.{VertexAfter, EdgeBefore, EdgeAfter, WordBefore, WordAfter}
 use Rattle.graph.specs.declared.Edit.{Edit}
 use Rattle.graph.specs.declared.Edit.the-variants.{InsertEdge, SetVertex, SetEdge, MoveVertex, MoveEdge, MoveWord}
 use Rattle.graph.specs.declared.Reading.the-variants.{Untested}
 use Rattle.graph.specs.Graph.{Graph, readingOf, IsWords}
 use Rattle.graph.specs.WellFormed.{Bounds}
-use Rattle.graph.specs.Changes.{Allowed}
+use Rattle.graph.specs.Changes.{SinglyAllowed}
 use Rattle.graph.specs.Plans.{plan}
 use Rattle.graph.specs.Same.{idle}
 use Rattle.graph.proofs.Readings.{reading-words as call-words}
@@ -31,16 +31,15 @@ use Rattle.graph_tables.proofs.Refines.{can-edit}
 use Rattle.graph_tables.proofs.Steps.{can-by}
 use Rattle.journal.specs.Rows.{costing}
 use Rattle.journal.specs.Written.{Written}
-use Rattle.queries.specs.Plans.{planS, CanPlan, OneEdit}
-use Rattle.queries.proofs.Answers.{reading-words}
-use Rattle.queries.proofs.PlanLaws.{can-plan, plan-is, one-edit}
-use Rattle.machine.specs.Codes.{changeCode}
-use Rattle.change_codes.specs.Held.{HoldsVE}
-use Rattle.commands.specs.Fits.{ChangeFits}
-use Rattle.machine.proofs.Allows.{allows}
+use Rattle.tried_edits.specs.Plans.{planS, CanPlan}
+use Rattle.graph_tables.proofs.Answers.{reading-words}
+use Rattle.tried_edits.proofs.PlanLaws.{can-plan, plan-is}
+use Rattle.graph_tables.specs.Holds.{HoldsVE}
+use Rattle.commands.specs.Fits.{SingleFits}
+use Rattle.machine.proofs.Allows.{singly-allows}
 use Rattle.tried_edits.specs.declared.Made.{Made}
-use Rattle.tried_edits.specs.Tried.{Outcome, outcome, kept, written, tried, Tries}
-use Rattle.single_changes.specs.One.{HoldsGraph, ReadingWords, codeHere, unlessRefused, attempted, One}
+use Rattle.tried_edits.specs.Tried.{Attempt, attempt, Outcome, outcome, kept, written, tried, Tries}
+use Rattle.single_changes.specs.One.{HoldsGraph, ReadingWords, unlessRefused, codeOn, attempted, One}
 
 -- ---- what an outcome tells
 
@@ -49,32 +48,31 @@ abbrev pub withRoom : Bool → ℕ → ℕ → ℕ
 withRoom keeps free c = (c == 0) ⇒ (keeps ⇒ 0 else (free == 0) ⇒ 10 else 0) else c
 
 -- a step was made
-pub record Makes (e : Edit) (c i free : ℕ) (s : State) (t : List ℕ) (code cost : ℕ) (s′ : State) (t′ : List ℕ) : Type 0 where
-  pub coded : code ≡ 0
+pub record Writes (e : Edit) (c : ℕ) (a : Attempt) (o : Outcome) : Type 0 where
+  pub coded : o .code ≡ 0
   pub uncoded : c ≡ 0
-  pub costs : cost ≡ 1
+  pub costs : o .cost ≡ 1
   pub alters : idle e ≡ false
-  pub room : free ≢ 0
-  pub writes : Written e (costing 1) i s t s′ t′
+  pub room : a .free ≢ 0
+  pub writes : Written e (costing 1) (a .row) (a .state) (a .journal) (o .state) (o .journal)
 
 -- cost 0 says that nothing was written
-pub record Told (e : Edit) (c i free : ℕ) (s : State) (t : List ℕ) (code cost : ℕ) (s′ : State) (t′ : List ℕ) : Type 0 where
-  pub coded : code ≡ withRoom (idle e) free c
-  pub stays : cost ≡ 0 → (s′ ≡ s) × (t′ ≡ t)
-  pub keeps : cost ≡ 0 → code ≡ 0 → (c ≡ 0) × (idle e ≡ true)
-  pub made : cost ≢ 0 → Makes e c i free s t code cost s′ t′
+pub record Told (e : Edit) (c : ℕ) (a : Attempt) (o : Outcome) : Type 0 where
+  pub coded : o .code ≡ withRoom (idle e) (a .free) c
+  pub stays : o .cost ≡ 0 → (o .state ≡ a .state) × (o .journal ≡ a .journal)
+  pub keeps : o .cost ≡ 0 → o .code ≡ 0 → (c ≡ 0) × (idle e ≡ true)
+  pub made : o .cost ≢ 0 → Writes e c a o
 
-module _ (e : Edit) (c i free : ℕ) (s : State) (t : List ℕ) (code cost : ℕ) (s′ : State) (t′ : List ℕ) where
-  told : outcome code cost s′ t′ ≡ unlessRefused c s t (tried e i free s t) → Told e c i free s t code cost s′ t′
+module _ (e : Edit) (c : ℕ) (a : Attempt) (o : Outcome) where
+  told : o ≡ unlessRefused c a (tried e a) → Told e c a o
   unfolding tried
-  told q = go (c == 0) refl (idle e) refl (free == 0) refl q
+  told q = go (c == 0) refl (idle e) refl (a .free == 0) refl q
     where
-      leaves : {k : ℕ} → outcome code cost s′ t′ ≡ kept k s t → (code ≡ k) × (cost ≡ 0) × (s′ ≡ s) × (t′ ≡ t)
+      leaves : {k : ℕ} → o ≡ kept k a → (o .code ≡ k) × (o .cost ≡ 0) × (o .state ≡ a .state) × (o .journal ≡ a .journal)
       leaves p = (ap (λ (r : Outcome). r .code) p, ap (λ (r : Outcome). r .cost) p, ap (λ (r : Outcome). r .state) p, ap (λ (r : Outcome). r .journal) p)
 
-      go : (u : Bool) → (c == 0) ≡ u → (v : Bool) → idle e ≡ v → (w : Bool) → (free == 0) ≡ w
-          → outcome code cost s′ t′ ≡ (u ⇒ (v ⇒ kept 0 s t else w ⇒ kept 10 s t else written e i s t) else kept c s t) →
-          Told e c i free s t code cost s′ t′
+      go : (u : Bool) → (c == 0) ≡ u → (v : Bool) → idle e ≡ v → (w : Bool) → (a .free == 0) ≡ w
+          → o ≡ (u ⇒ (v ⇒ kept 0 a else w ⇒ kept 10 a else written e a) else kept c a) → Told e c a o
       go false x v y w z p =
           let l = leaves p in
           record { coded = rw x (l .0); stays = λ _. (l .2, l .3); keeps = λ _ d. absurd (eqb-false c 0 x (sym (l .0) ∙ d)); made = λ d. absurd (d (l .1)) }
@@ -96,7 +94,7 @@ module _ (e : Edit) (c i free : ℕ) (s : State) (t : List ℕ) (code cost : ℕ
               uncoded = eqb-true c 0 x;
               costs = n;
               alters = y;
-              room = eqb-false free 0 z;
+              room = eqb-false (a .free) 0 z;
               writes = record { state = ap (λ (r : Outcome). r .state) p; row = ap (λ (r : Outcome). r .journal) p };
             };
           }
@@ -104,9 +102,8 @@ module _ (e : Edit) (c i free : ℕ) (s : State) (t : List ℕ) (code cost : ℕ
 -- ---- what is allowed can be made
 
 module _ (b : Bounds) (s : State) (z : Sized b s) (g : Graph) (h : Holds s g) where
-  reads-words : (c : Change) → Allowed b g c → ReadingWords c s
+  reads-words : (c : SingleChange) → SinglyAllowed b g c → ReadingWords c s
   reads-words (CreateVertex n t x) a = tt
-  reads-words (DeleteVertex v) a = tt
   reads-words (CreateEdge n x o t) a = tt
   reads-words (DeleteEdge n) a = reading-words s g h n a
   reads-words (RetypeVertex v t) a = tt
@@ -122,9 +119,8 @@ module _ (b : Bounds) (s : State) (z : Sized b s) (g : Graph) (h : Holds s g) wh
   reads-words (WordBefore x y) a = tt
   reads-words (WordAfter x y) a = tt
 
-  has-room : (c : Change) → Allowed b g c → Room (planS c s) s
+  has-room : (c : SingleChange) → SinglyAllowed b g c → Room (planS c s) s
   has-room (CreateVertex n t x) a = vertex-in b s z n (a .0) (a .1)
-  has-room (DeleteVertex v) a = tt
   has-room (CreateEdge n x o t) a = edge-in b s z n (a .0) (a .1)
   has-room (DeleteEdge n) a = tt
   has-room (RetypeVertex v t) a = tt
@@ -142,97 +138,74 @@ module _ (b : Bounds) (s : State) (z : Sized b s) (g : Graph) (h : Holds s g) wh
 
 -- ---- one change
 
--- a change of one edit has the code of its table
-pub code-here : (b : Bounds) (g : Graph) (c : Change) → OneEdit c → codeHere b g c ≡ changeCode b g c
-code-here b g (CreateVertex n t x) k = refl
-code-here b g (DeleteVertex v) k = absurd k
-code-here b g (CreateEdge n x o t) k = refl
-code-here b g (DeleteEdge n) k = refl
-code-here b g (RetypeVertex v t) k = refl
-code-here b g (RetypeEdge e t) k = refl
-code-here b g (SetValue v x) k = refl
-code-here b g (SetReading e l d) k = refl
-code-here b g (SetAlpha e v) k = refl
-code-here b g (SetOmega e v) k = refl
-code-here b g (VertexBefore x y) k = refl
-code-here b g (VertexAfter x y) k = refl
-code-here b g (EdgeBefore x y) k = refl
-code-here b g (EdgeAfter x y) k = refl
-code-here b g (WordBefore x y) k = refl
-code-here b g (WordAfter x y) k = refl
-
 -- what is known of a change that has none of codes 2 to 9: the rows that it reads are there, its edit can be made, and
 -- there is a row for it where there is room
-pub record Accepted (x : Change) (types i free : ℕ) (s : State) (t : List ℕ) : Type 0 where
-  pub fits : ChangeFits x
-  pub uncoded : (g : Graph) → HoldsVE (s .vertices) (s .edges) g → codeHere (boundsOf (s .vertices) (s .edges) types) g x ≡ 0
-  pub rows : CanPlan x s
-  pub can : Can (planS x s) s
-  pub words : ReadingWords x s
-  pub room : free ≢ 0 → 12 * i + 12 ≤ length t
+pub record Accepted (x : SingleChange) (types : ℕ) (a : Attempt) : Type 0 where
+  pub fits : SingleFits x
+  pub uncoded : (g : Graph) → HoldsVE (a .state .vertices) (a .state .edges) g → codeOn x types (a .state) g ≡ 0
+  pub rows : CanPlan x (a .state)
+  pub can : Can (planS x (a .state)) (a .state)
+  pub words : ReadingWords x (a .state)
+  pub room : a .free ≢ 0 → 12 * a .row + 12 ≤ length (a .journal)
 
 -- c is its code of those
-module _ {x : Change} {types i free : ℕ} {h : Head} {vertices edges t : List ℕ} (f : ChangeFits x) {c : ℕ}
-    (e : (g : Graph) → HoldsVE vertices edges g → c ≡ codeHere (boundsOf vertices edges types) g x) where
-  pub one-refused : c ≢ 0 → {r : Made} → r ≡ record { head = h; code = c; cost = 0 } → One x types i free (state h vertices edges) t (r .code) (r .cost) (state (r .head) vertices edges) t
+module _ {x : SingleChange} {types i free : ℕ} {h : Head} {vertices edges t : List ℕ} (f : SingleFits x) {c : ℕ}
+    (e : (g : Graph) → HoldsVE vertices edges g → c ≡ codeOn x types (state h vertices edges) g) where
+  pub one-refused : c ≢ 0 → {r : Made} → r ≡ record { head = h; code = c; cost = 0 }
+      → One x types (attempt i free (state h vertices edges) t) (outcome (r .code) (r .cost) (state (r .head) vertices edges) t)
   unfolding attempted
-  one-refused n q = subst (λ (y : Made). One x types i free (state h vertices edges) t (y .code) (y .cost) (state (y .head) vertices edges) t) (sym q) (record {
+  one-refused n q = subst (λ (y : Made). One x types (attempt i free (state h vertices edges) t) (outcome (y .code) (y .cost) (state (y .head) vertices edges) t)) (sym q) (record {
     fits = f;
     comes = λ g y.
-        let s = state h vertices edges in
-        let r = tried (planS x s) i free s t in
-        ap (λ (p : Bool). p ⇒ r else kept c s t) (sym (ne-eqb c 0 n)) ∙ ap (λ (k : ℕ). unlessRefused k s t r) (e g y);
+        let here = attempt i free (state h vertices edges) t in
+        let r = tried (planS x (here .state)) here in
+        ap (λ (p : Bool). p ⇒ r else kept c here) (sym (ne-eqb c 0 n)) ∙ ap (λ (k : ℕ). unlessRefused k here r) (e g y);
   })
 
-  pub accept : c ≡ 0 → OneEdit x → HoldsGraph (state h vertices edges) × (free ≢ 0 → 12 * i + 12 ≤ length t) → Accepted x types i free (state h vertices edges) t
-  accept z k p =
+  pub accept : c ≡ 0 → HoldsGraph (state h vertices edges) × (free ≢ 0 → 12 * i + 12 ≤ length t) → Accepted x types (attempt i free (state h vertices edges) t)
+  accept z p =
       let s = state h vertices edges in
       let b = boundsOf vertices edges types in
       let y = p .0 in
       let g = y .graph in
-      let u : (g : Graph) → HoldsVE vertices edges g → codeHere b g x ≡ 0 = λ g w. sym (e g w) ∙ z in
-      let a = allows b g (y .holds .sound) x f (sym (code-here b g x k) ∙ u g (h, y .holds)) in
+      let u : (g : Graph) → HoldsVE vertices edges g → codeOn x types s g ≡ 0 = λ g w. sym (e g w) ∙ z in
+      let a = singly-allows b g (y .holds .sound) x f (u g (h, y .holds)) in
       let q = plan-is s g (y .holds) b x a in
       let r = subst (λ (d : Edit). Room d s) q (has-room b s (y .sized types) g (y .holds) x a) in
       record {
         fits = f;
         uncoded = u;
         rows = can-plan b s (y .sized types) g (y .holds) x a;
-        can = subst (λ (d : Edit). Can d s) (sym q) (can-edit s g (y .holds) (small b s (y .sized types)) (plan x g) (plan-applies b g (y .holds .sound) x a (one-edit x k g .0)) r);
+        can = subst (λ (d : Edit). Can d s) (sym q) (can-edit s g (y .holds) (small b s (y .sized types)) (plan x g) (plan-applies b g (y .holds .sound) x a) r);
         words = reads-words b s (y .sized types) g (y .holds) x a;
         room = p .1;
       }
 
--- a deletion
-pub one-deletion : {a types i free : ℕ} {h : Head} {vertices edges t : List ℕ} {r : Made} → r ≡ record { head = h; code = 1; cost = 0 }
-    → One (DeleteVertex a) types i free (state h vertices edges) t (r .code) (r .cost) (state (r .head) vertices edges) t
-one-deletion {a = a} q = one-refused {x = DeleteVertex a} tt {c = 1} (λ g y. refl) (λ e. omega arith) q
+module _ {x : SingleChange} {types : ℕ} {a : Attempt} where
+  -- an edit that is the planned one can be made
+  pub can-make : {e : Edit} → Accepted x types a → e ≡ planS x (a .state) → Can e (a .state) × (a .free ≢ 0 → 12 * a .row + 12 ≤ length (a .journal))
+  can-make k q = (can-by (a .state) (sym q) (k .can), k .room)
 
--- an edit that is the planned one can be made
-pub can-make : {x : Change} {types i free : ℕ} {s : State} {t : List ℕ} {e : Edit} → Accepted x types i free s t → e ≡ planS x s → Can e s × (free ≢ 0 → 12 * i + 12 ≤ length t)
-can-make {s = s} a q = (can-by s (sym q) (a .can), a .room)
+  module _ {o : Outcome} where
+    pub one-tried : Accepted x types a → Tries (planS x (a .state)) a o → One x types a o
+    unfolding attempted
+    one-tried k m = record {
+      fits = k .fits;
+      comes = λ g y. m .comes ∙ ap (λ (k : ℕ). unlessRefused k a (tried (planS x (a .state)) a)) (sym (k .uncoded g y));
+    }
 
-pub one-tried : {x : Change} {types i free : ℕ} {s s′ : State} {t t′ : List ℕ} {k n : ℕ} → Accepted x types i free s t → Tries (planS x s) i free s t k n s′ t′ → One x types i free s t k n s′ t′
-unfolding attempted
-one-tried {x = x} {i = i} {free = free} {s = s} {t = t} a m = record {
-  fits = a .fits;
-  comes = λ g y. m .comes ∙ ap (λ (k : ℕ). unlessRefused k s t (tried (planS x s) i free s t)) (sym (a .uncoded g y));
-}
+    pub one-told : One x types a o → (g : Graph) → HoldsVE (a .state .vertices) (a .state .edges) g → Told (planS x (a .state)) (codeOn x types (a .state) g) a o
+    unfolding attempted
+    one-told r g y = told _ _ _ _ (r .comes g y)
 
-pub one-told : {x : Change} {types i free : ℕ} {s s′ : State} {t t′ : List ℕ} {k n : ℕ} → OneEdit x → One x types i free s t k n s′ t′ →
-    (g : Graph) → HoldsVE (s .vertices) (s .edges) g → Told (planS x s) (changeCode (boundsOf (s .vertices) (s .edges) types) g x) i free s t k n s′ t′
-unfolding attempted
-one-told {x = x} {types = types} {i = i} {free = free} {s = s} {t = t} o r g y =
-    told _ _ _ _ _ _ _ _ _ _ (r .comes g y ∙ ap (λ (k : ℕ). unlessRefused k s t (tried (planS x s) i free s t)) (code-here (boundsOf (s .vertices) (s .edges) types) g x o))
-
--- in an arm of the match
-pub one-by : {x y : Change} {types i free : ℕ} {s s′ : State} {t t′ : List ℕ} {k n : ℕ} → x ≡ y → One y types i free s t k n s′ t′ → One x types i free s t k n s′ t′
-one-by {types = types} {i = i} {free = free} {s = s} {s′ = s′} {t = t} {t′ = t′} {k = k} {n = n} e o = subst (λ (z : Change). One z types i free s t k n s′ t′) (sym e) o
+    -- in an arm of the match
+    pub one-by : {y : SingleChange} → y ≡ x → One x types a o → One y types a o
+    one-by e m = subst (λ (z : SingleChange). One z types a o) (sym e) m
 
 -- ---- what is written is the plan
 
-pub tries-by : {e e′ : Edit} {i free : ℕ} {s s′ : State} {t t′ : List ℕ} {k n : ℕ} → e ≡ e′ → Tries e i free s t k n s′ t′ → Tries e′ i free s t k n s′ t′
-tries-by {i = i} {free = free} {s = s} {s′ = s′} {t = t} {t′ = t′} {k = k} {n = n} p w = subst (λ (x : Edit). Tries x i free s t k n s′ t′) p w
+pub tries-by : {e e′ : Edit} {a : Attempt} {o : Outcome} → e ≡ e′ → Tries e a o → Tries e′ a o
+tries-by {a = a} {o = o} p w = subst (λ (x : Edit). Tries x a o) p w
 
 pub words-by : {k k′ d d′ : ℕ} → k ≡ k′ → d ≡ d′ → IsWords k′ d′ → IsWords k d
 words-by p q w = rw (p, q) w

@@ -1,23 +1,23 @@
 // Kinds 1 and 3 to 8, one function each: its codes, the words that its edit names, read off the tables, and the edit
 // tried. A caller has tables that hold a graph, and room for the row where `free` is not 0; the words of the call may
 // be any.
-use graph::Change;
+use graph::SingleChange;
 use graph_tables::Head;
-use graph_tables::choice::choose;
-use graph_tables::rows::edge_type;
-use graph_tables::rows::last_word;
-use graph_tables::rows::reading_decimetres;
-use graph_tables::rows::reading_kind;
-use graph_tables::rows::vertex_type;
-use graph_tables::rows::vertex_value;
-use journal::removal::edge_words;
+use graph_tables::fields::VERTEX_LAST;
+use graph_tables::fields::VERTEX_TYPE;
+use graph_tables::fields::VERTEX_VALUE;
+use graph_tables::rows::edge_fields;
+use graph_tables::rows::vertex_field;
+use lists::numbers::choose;
 use tried_edits::Made;
+use tried_edits::removal::removed_edge;
 use tried_edits::unchanged;
 ghost use mathlib.Core.Path.{_≡_};
 ghost use Prim.Native.Nat.{_+_, _*_, _≤_};
 ghost use lib.ListN.{length};
 ghost use Rattle.graph_tables.specs.Tables.{state, entryState, exitState};
 ghost use Rattle.single_changes.specs.One.{HoldsGraph, One, Untyped};
+ghost use Rattle.tried_edits.specs.Tried.{attempt, outcome};
 
 // Kind 1.
 pub fn create_vertex(
@@ -34,9 +34,10 @@ pub fn create_vertex(
 ) -> Made
     requires { ⌜ HoldsGraph (state head (now vertices) (now edges))
         × ((free ≡ 0 → ⊥) → 12 * row + 12 ≤ length (now journal)) ⌝ }
-    ensures { λ r. ⌜ One (Change.CreateVertex n sort value) types row free (entryState head vertices edges)
-        (now (journal .entry)) (r .code) (r .cost) (state (r .head) (now (vertices .exit)) (now (edges .entry)))
-        (now (journal .exit)) ⌝ }
+    ensures { λ r. ⌜ One (SingleChange.CreateVertex n sort value) types
+        (attempt row free (entryState head vertices edges) (now (journal .entry)))
+        (outcome (r .code) (r .cost) (state (r .head) (now (vertices .exit)) (now (edges .entry)))
+        (now (journal .exit))) ⌝ }
 {
     let c = change_codes::create_vertex(vertices, types, n, sort);
     if c != 0 {
@@ -62,16 +63,17 @@ pub fn create_edge(
 ) -> Made
     requires { ⌜ HoldsGraph (state head (now vertices) (now edges))
         × ((free ≡ 0 → ⊥) → 12 * row + 12 ≤ length (now journal)) ⌝ }
-    ensures { λ r. ⌜ One (Change.CreateEdge n a z sort) types row free (entryState head vertices edges)
-        (now (journal .entry)) (r .code) (r .cost) (exitState (r .head) vertices edges) (now (journal .exit)) ⌝ }
+    ensures { λ r. ⌜ One (SingleChange.CreateEdge n a z sort) types
+        (attempt row free (entryState head vertices edges) (now (journal .entry)))
+        (outcome (r .code) (r .cost) (exitState (r .head) vertices edges) (now (journal .exit))) ⌝ }
 {
     let c = change_codes::create_edge(vertices, edges, types, n, a, z, sort);
     if c != 0 {
         return unchanged(head, c);
     }
     let p = head.elast;
-    let out = last_word(vertices, a);
-    let l = last_word(vertices, z);
+    let out = vertex_field(vertices, a, VERTEX_LAST);
+    let l = vertex_field(vertices, z, VERTEX_LAST);
     let into = choose(a, z, 2 * n, l);
     tried_edits::insert_edge(
         head,
@@ -102,14 +104,15 @@ pub fn delete_edge(
 ) -> Made
     requires { ⌜ HoldsGraph (state head (now vertices) (now edges))
         × ((free ≡ 0 → ⊥) → 12 * row + 12 ≤ length (now journal)) ⌝ }
-    ensures { λ r. ⌜ Untyped (Change.DeleteEdge n) row free (entryState head vertices edges) (now (journal .entry))
-        (r .code) (r .cost) (exitState (r .head) vertices edges) (now (journal .exit)) ⌝ }
+    ensures { λ r. ⌜ Untyped (SingleChange.DeleteEdge n)
+        (attempt row free (entryState head vertices edges) (now (journal .entry)))
+        (outcome (r .code) (r .cost) (exitState (r .head) vertices edges) (now (journal .exit))) ⌝ }
 {
     let c = change_codes::edge_code(edges, n);
     if c != 0 {
         return unchanged(head, c);
     }
-    let w = edge_words(edges, n);
+    let w = removed_edge(edges, n);
     tried_edits::remove_edge(head, vertices, edges, journal, row, free, n, w)
 }
 
@@ -127,16 +130,17 @@ pub fn retype_vertex(
 ) -> Made
     requires { ⌜ HoldsGraph (state head (now vertices) (now edges))
         × ((free ≡ 0 → ⊥) → 12 * row + 12 ≤ length (now journal)) ⌝ }
-    ensures { λ r. ⌜ One (Change.RetypeVertex a sort2) types row free (entryState head vertices edges)
-        (now (journal .entry)) (r .code) (r .cost) (state (r .head) (now (vertices .exit)) (now (edges .entry)))
-        (now (journal .exit)) ⌝ }
+    ensures { λ r. ⌜ One (SingleChange.RetypeVertex a sort2) types
+        (attempt row free (entryState head vertices edges) (now (journal .entry)))
+        (outcome (r .code) (r .cost) (state (r .head) (now (vertices .exit)) (now (edges .entry)))
+        (now (journal .exit))) ⌝ }
 {
     let c = change_codes::retype_vertex(vertices, types, a, sort2);
     if c != 0 {
         return unchanged(head, c);
     }
-    let s = vertex_type(vertices, a);
-    let x = vertex_value(vertices, a);
+    let s = vertex_field(vertices, a, VERTEX_TYPE);
+    let x = vertex_field(vertices, a, VERTEX_VALUE);
     tried_edits::set_vertex(head, vertices, edges, journal, row, free, a, s, x, sort2, x)
 }
 
@@ -154,17 +158,16 @@ pub fn retype_edge(
 ) -> Made
     requires { ⌜ HoldsGraph (state head (now vertices) (now edges))
         × ((free ≡ 0 → ⊥) → 12 * row + 12 ≤ length (now journal)) ⌝ }
-    ensures { λ r. ⌜ One (Change.RetypeEdge a sort2) types row free (entryState head vertices edges)
-        (now (journal .entry)) (r .code) (r .cost) (state (r .head) (now (vertices .entry)) (now (edges .exit)))
-        (now (journal .exit)) ⌝ }
+    ensures { λ r. ⌜ One (SingleChange.RetypeEdge a sort2) types
+        (attempt row free (entryState head vertices edges) (now (journal .entry)))
+        (outcome (r .code) (r .cost) (state (r .head) (now (vertices .entry)) (now (edges .exit)))
+        (now (journal .exit))) ⌝ }
 {
     let c = change_codes::retype_edge(edges, types, a, sort2);
     if c != 0 {
         return unchanged(head, c);
     }
-    let s = edge_type(edges, a);
-    let k = reading_kind(edges, a);
-    let d = reading_decimetres(edges, a);
+    let w = edge_fields(edges, a);
     tried_edits::set_edge(
         head,
         vertices,
@@ -173,12 +176,12 @@ pub fn retype_edge(
         row,
         free,
         a,
-        s,
-        k,
-        d,
+        w.sort,
+        w.kind,
+        w.decimetres,
         sort2,
-        k,
-        d,
+        w.kind,
+        w.decimetres,
     )
 }
 
@@ -195,16 +198,17 @@ pub fn set_value(
 ) -> Made
     requires { ⌜ HoldsGraph (state head (now vertices) (now edges))
         × ((free ≡ 0 → ⊥) → 12 * row + 12 ≤ length (now journal)) ⌝ }
-    ensures { λ r. ⌜ Untyped (Change.SetValue a value2) row free (entryState head vertices edges)
-        (now (journal .entry)) (r .code) (r .cost) (state (r .head) (now (vertices .exit)) (now (edges .entry)))
-        (now (journal .exit)) ⌝ }
+    ensures { λ r. ⌜ Untyped (SingleChange.SetValue a value2)
+        (attempt row free (entryState head vertices edges) (now (journal .entry)))
+        (outcome (r .code) (r .cost) (state (r .head) (now (vertices .exit)) (now (edges .entry)))
+        (now (journal .exit))) ⌝ }
 {
     let c = change_codes::vertex_code(vertices, a);
     if c != 0 {
         return unchanged(head, c);
     }
-    let s = vertex_type(vertices, a);
-    let x = vertex_value(vertices, a);
+    let s = vertex_field(vertices, a, VERTEX_TYPE);
+    let x = vertex_field(vertices, a, VERTEX_VALUE);
     tried_edits::set_vertex(
         head,
         vertices,
@@ -234,17 +238,16 @@ pub fn set_reading(
 ) -> Made
     requires { ⌜ HoldsGraph (state head (now vertices) (now edges))
         × ((free ≡ 0 → ⊥) → 12 * row + 12 ≤ length (now journal)) ⌝ }
-    ensures { λ r. ⌜ Untyped (Change.SetReading a kind2 decimetres2) row free (entryState head vertices edges)
-        (now (journal .entry)) (r .code) (r .cost) (state (r .head) (now (vertices .entry)) (now (edges .exit)))
-        (now (journal .exit)) ⌝ }
+    ensures { λ r. ⌜ Untyped (SingleChange.SetReading a kind2 decimetres2)
+        (attempt row free (entryState head vertices edges) (now (journal .entry)))
+        (outcome (r .code) (r .cost) (state (r .head) (now (vertices .entry)) (now (edges .exit)))
+        (now (journal .exit))) ⌝ }
 {
     let c = change_codes::set_reading(edges, a, kind2, decimetres2);
     if c != 0 {
         return unchanged(head, c);
     }
-    let s = edge_type(edges, a);
-    let k = reading_kind(edges, a);
-    let d = reading_decimetres(edges, a);
+    let w = edge_fields(edges, a);
     tried_edits::set_edge(
         head,
         vertices,
@@ -253,10 +256,10 @@ pub fn set_reading(
         row,
         free,
         a,
-        s,
-        k,
-        d,
-        s,
+        w.sort,
+        w.kind,
+        w.decimetres,
+        w.sort,
         kind2,
         decimetres2,
     )

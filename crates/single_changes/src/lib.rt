@@ -1,19 +1,18 @@
-// The changes of one edit, all but the deletion of a vertex: codes, row and tables in one go, by one choice of the
-// kind.
-use graph::Change;
+// The changes of one edit: codes, row and tables in one go, by one choice of the kind.
+use graph::SingleChange;
 use graph_tables::Head;
 use tried_edits::Made;
-use tried_edits::unchanged;
 ghost use mathlib.Core.Path.{_≡_};
 ghost use Prim.Native.Nat.{_+_, _*_, _≤_};
 ghost use lib.ListN.{length};
 ghost use Rattle.graph_tables.specs.Tables.{state, entryState, exitState};
 ghost use Rattle.single_changes.specs.One.{HoldsGraph, One};
+ghost use Rattle.tried_edits.specs.Tried.{attempt, outcome};
 
 mod kinds; // kinds 1 and 3 to 8, one function each
 mod moves; // kinds 9 to 16
 
-// A change of one edit: `row` is its row, `free` the room in the journal. The deletion of a vertex is refused here.
+// A change of one edit: `row` is its row, `free` the room in the journal.
 pub fn make(
     head: Head,
     vertices: &mut [u32],
@@ -22,15 +21,16 @@ pub fn make(
     types: u32,
     row: u32,
     free: u32,
-    change: Change,
+    change: SingleChange,
 ) -> Made
     requires { ⌜ HoldsGraph (state head (now vertices) (now edges))
         × ((free ≡ 0 → ⊥) → 12 * row + 12 ≤ length (now journal)) ⌝ }
-    ensures { λ r. ⌜ One change types row free (entryState head vertices edges) (now (journal .entry)) (r .code)
-        (r .cost) (exitState (r .head) vertices edges) (now (journal .exit)) ⌝ }
+    ensures { λ r. ⌜ One change types
+        (attempt row free (entryState head vertices edges) (now (journal .entry)))
+        (outcome (r .code) (r .cost) (exitState (r .head) vertices edges) (now (journal .exit))) ⌝ }
 {
     match change {
-        Change::CreateVertex(n, sort, value) => kinds::create_vertex(
+        SingleChange::CreateVertex(n, sort, value) => kinds::create_vertex(
             head,
             vertices,
             edges,
@@ -42,8 +42,7 @@ pub fn make(
             sort,
             value,
         ),
-        Change::DeleteVertex(_a) => unchanged(head, 1),
-        Change::CreateEdge(n, a, z, sort) => kinds::create_edge(
+        SingleChange::CreateEdge(n, a, z, sort) => kinds::create_edge(
             head,
             vertices,
             edges,
@@ -56,8 +55,16 @@ pub fn make(
             z,
             sort,
         ),
-        Change::DeleteEdge(n) => kinds::delete_edge(head, vertices, edges, journal, row, free, n),
-        Change::RetypeVertex(a, sort) => kinds::retype_vertex(
+        SingleChange::DeleteEdge(n) => kinds::delete_edge(
+            head,
+            vertices,
+            edges,
+            journal,
+            row,
+            free,
+            n,
+        ),
+        SingleChange::RetypeVertex(a, sort) => kinds::retype_vertex(
             head,
             vertices,
             edges,
@@ -68,7 +75,7 @@ pub fn make(
             a,
             sort,
         ),
-        Change::RetypeEdge(a, sort) => kinds::retype_edge(
+        SingleChange::RetypeEdge(a, sort) => kinds::retype_edge(
             head,
             vertices,
             edges,
@@ -79,7 +86,7 @@ pub fn make(
             a,
             sort,
         ),
-        Change::SetValue(a, value) => kinds::set_value(
+        SingleChange::SetValue(a, value) => kinds::set_value(
             head,
             vertices,
             edges,
@@ -89,7 +96,7 @@ pub fn make(
             a,
             value,
         ),
-        Change::SetReading(a, kind, decimetres) => kinds::set_reading(
+        SingleChange::SetReading(a, kind, decimetres) => kinds::set_reading(
             head,
             vertices,
             edges,
@@ -100,9 +107,27 @@ pub fn make(
             kind,
             decimetres,
         ),
-        Change::SetAlpha(a, u) => moves::set_alpha(head, vertices, edges, journal, row, free, a, u),
-        Change::SetOmega(a, u) => moves::set_omega(head, vertices, edges, journal, row, free, a, u),
-        Change::VertexBefore(a, b) => moves::vertex_before(
+        SingleChange::SetAlpha(a, u) => moves::set_alpha(
+            head,
+            vertices,
+            edges,
+            journal,
+            row,
+            free,
+            a,
+            u,
+        ),
+        SingleChange::SetOmega(a, u) => moves::set_omega(
+            head,
+            vertices,
+            edges,
+            journal,
+            row,
+            free,
+            a,
+            u,
+        ),
+        SingleChange::VertexBefore(a, b) => moves::vertex_before(
             head,
             vertices,
             edges,
@@ -112,7 +137,7 @@ pub fn make(
             a,
             b,
         ),
-        Change::VertexAfter(a, b) => moves::vertex_after(
+        SingleChange::VertexAfter(a, b) => moves::vertex_after(
             head,
             vertices,
             edges,
@@ -122,7 +147,7 @@ pub fn make(
             a,
             b,
         ),
-        Change::EdgeBefore(a, b) => moves::edge_before(
+        SingleChange::EdgeBefore(a, b) => moves::edge_before(
             head,
             vertices,
             edges,
@@ -132,7 +157,7 @@ pub fn make(
             a,
             b,
         ),
-        Change::EdgeAfter(a, b) => moves::edge_after(
+        SingleChange::EdgeAfter(a, b) => moves::edge_after(
             head,
             vertices,
             edges,
@@ -142,7 +167,7 @@ pub fn make(
             a,
             b,
         ),
-        Change::WordBefore(a, b) => moves::word_before(
+        SingleChange::WordBefore(a, b) => moves::word_before(
             head,
             vertices,
             edges,
@@ -152,7 +177,7 @@ pub fn make(
             a,
             b,
         ),
-        Change::WordAfter(a, b) => moves::word_after(
+        SingleChange::WordAfter(a, b) => moves::word_after(
             head,
             vertices,
             edges,

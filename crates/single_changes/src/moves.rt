@@ -1,14 +1,17 @@
 // Kinds 9 to 16, one function each, as in kinds.rt: a word that goes to another vertex, and what moves in its order.
 // Pairs that differ in a side stay apart: a function of this size with two callers is not compiled into them, and the
 // head then goes through memory for every kind; `word_last` is small enough.
-use graph::Change;
+use graph::SingleChange;
 use graph_tables::Head;
-use graph_tables::choice::choose;
-use graph_tables::rows::edge_prev;
-use graph_tables::rows::last_word;
-use graph_tables::rows::this;
-use graph_tables::rows::vertex_prev;
-use graph_tables::rows::word_prev;
+use graph_tables::fields::EDGE_PREV;
+use graph_tables::fields::HALF_PREV;
+use graph_tables::fields::HALF_THIS;
+use graph_tables::fields::VERTEX_LAST;
+use graph_tables::fields::VERTEX_PREV;
+use graph_tables::rows::edge_field;
+use graph_tables::rows::half_field;
+use graph_tables::rows::vertex_field;
+use lists::numbers::choose;
 use tried_edits::Made;
 use tried_edits::unchanged;
 ghost use mathlib.Core.Path.{_≡_};
@@ -25,9 +28,9 @@ ghost use Rattle.graph_tables.specs.Tables.{
   entryState,
   exitState,
 };
-ghost use Rattle.queries.specs.Plans.{planWordLast, unless};
+ghost use Rattle.tried_edits.specs.Plans.{planWordLast, unless};
 ghost use Rattle.single_changes.specs.One.{HoldsGraph, Untyped};
-ghost use Rattle.tried_edits.specs.Tried.{Tries};
+ghost use Rattle.tried_edits.specs.Tried.{attempt, outcome, Tries};
 
 // Kinds 9 and 10: word w last in the list of u.
 fn word_last(
@@ -43,13 +46,13 @@ fn word_last(
     requires { ⌜ HalfRowIn (now edges) w × VertexRowIn (now vertices) u
         × CanMoveWord w (wthis (now edges) w) u (unless w (wprev (now edges) w) (vlast (now vertices) u))
         (state head (now vertices) (now edges)) × ((free ≡ 0 → ⊥) → 12 * row + 12 ≤ length (now journal)) ⌝ }
-    ensures { λ r. ⌜ Tries (planWordLast (now (vertices .entry)) (now (edges .entry)) w u) row free
-        (entryState head vertices edges) (now (journal .entry)) (r .code) (r .cost)
-        (exitState (r .head) vertices edges) (now (journal .exit)) ⌝ }
+    ensures { λ r. ⌜ Tries (planWordLast (now (vertices .entry)) (now (edges .entry)) w u)
+        (attempt row free (entryState head vertices edges) (now (journal .entry)))
+        (outcome (r .code) (r .cost) (exitState (r .head) vertices edges) (now (journal .exit))) ⌝ }
 {
-    let v = this(edges, w);
-    let p = word_prev(edges, w);
-    let l = last_word(vertices, u);
+    let v = half_field(edges, w, HALF_THIS);
+    let p = half_field(edges, w, HALF_PREV);
+    let l = vertex_field(vertices, u, VERTEX_LAST);
     let q = choose(l, w, p, l);
     tried_edits::move_word(head, vertices, edges, journal, row, free, w, v, p, u, q)
 }
@@ -67,8 +70,9 @@ pub fn set_alpha(
 ) -> Made
     requires { ⌜ HoldsGraph (state head (now vertices) (now edges))
         × ((free ≡ 0 → ⊥) → 12 * row + 12 ≤ length (now journal)) ⌝ }
-    ensures { λ r. ⌜ Untyped (Change.SetAlpha a u) row free (entryState head vertices edges) (now (journal .entry))
-        (r .code) (r .cost) (exitState (r .head) vertices edges) (now (journal .exit)) ⌝ }
+    ensures { λ r. ⌜ Untyped (SingleChange.SetAlpha a u)
+        (attempt row free (entryState head vertices edges) (now (journal .entry)))
+        (outcome (r .code) (r .cost) (exitState (r .head) vertices edges) (now (journal .exit))) ⌝ }
 {
     let c = change_codes::set_end(vertices, edges, a, u);
     if c != 0 {
@@ -90,8 +94,9 @@ pub fn set_omega(
 ) -> Made
     requires { ⌜ HoldsGraph (state head (now vertices) (now edges))
         × ((free ≡ 0 → ⊥) → 12 * row + 12 ≤ length (now journal)) ⌝ }
-    ensures { λ r. ⌜ Untyped (Change.SetOmega a u) row free (entryState head vertices edges) (now (journal .entry))
-        (r .code) (r .cost) (exitState (r .head) vertices edges) (now (journal .exit)) ⌝ }
+    ensures { λ r. ⌜ Untyped (SingleChange.SetOmega a u)
+        (attempt row free (entryState head vertices edges) (now (journal .entry)))
+        (outcome (r .code) (r .cost) (exitState (r .head) vertices edges) (now (journal .exit))) ⌝ }
 {
     let c = change_codes::set_end(vertices, edges, a, u);
     if c != 0 {
@@ -113,15 +118,17 @@ pub fn vertex_before(
 ) -> Made
     requires { ⌜ HoldsGraph (state head (now vertices) (now edges))
         × ((free ≡ 0 → ⊥) → 12 * row + 12 ≤ length (now journal)) ⌝ }
-    ensures { λ r. ⌜ Untyped (Change.VertexBefore a b) row free (entryState head vertices edges) (now (journal .entry))
-        (r .code) (r .cost) (state (r .head) (now (vertices .exit)) (now (edges .entry))) (now (journal .exit)) ⌝ }
+    ensures { λ r. ⌜ Untyped (SingleChange.VertexBefore a b)
+        (attempt row free (entryState head vertices edges) (now (journal .entry)))
+        (outcome (r .code) (r .cost) (state (r .head) (now (vertices .exit)) (now (edges .entry)))
+        (now (journal .exit))) ⌝ }
 {
     let c = change_codes::order_vertices(vertices, a, b);
     if c != 0 {
         return unchanged(head, c);
     }
-    let p = vertex_prev(vertices, a);
-    let x = vertex_prev(vertices, b);
+    let p = vertex_field(vertices, a, VERTEX_PREV);
+    let x = vertex_field(vertices, b, VERTEX_PREV);
     let q = choose(x, a, p, x);
     tried_edits::move_vertex(head, vertices, edges, journal, row, free, a, p, q)
 }
@@ -139,14 +146,16 @@ pub fn vertex_after(
 ) -> Made
     requires { ⌜ HoldsGraph (state head (now vertices) (now edges))
         × ((free ≡ 0 → ⊥) → 12 * row + 12 ≤ length (now journal)) ⌝ }
-    ensures { λ r. ⌜ Untyped (Change.VertexAfter a b) row free (entryState head vertices edges) (now (journal .entry))
-        (r .code) (r .cost) (state (r .head) (now (vertices .exit)) (now (edges .entry))) (now (journal .exit)) ⌝ }
+    ensures { λ r. ⌜ Untyped (SingleChange.VertexAfter a b)
+        (attempt row free (entryState head vertices edges) (now (journal .entry)))
+        (outcome (r .code) (r .cost) (state (r .head) (now (vertices .exit)) (now (edges .entry)))
+        (now (journal .exit))) ⌝ }
 {
     let c = change_codes::order_vertices(vertices, a, b);
     if c != 0 {
         return unchanged(head, c);
     }
-    let p = vertex_prev(vertices, a);
+    let p = vertex_field(vertices, a, VERTEX_PREV);
     tried_edits::move_vertex(head, vertices, edges, journal, row, free, a, p, b)
 }
 
@@ -163,15 +172,17 @@ pub fn edge_before(
 ) -> Made
     requires { ⌜ HoldsGraph (state head (now vertices) (now edges))
         × ((free ≡ 0 → ⊥) → 12 * row + 12 ≤ length (now journal)) ⌝ }
-    ensures { λ r. ⌜ Untyped (Change.EdgeBefore a b) row free (entryState head vertices edges) (now (journal .entry))
-        (r .code) (r .cost) (state (r .head) (now (vertices .entry)) (now (edges .exit))) (now (journal .exit)) ⌝ }
+    ensures { λ r. ⌜ Untyped (SingleChange.EdgeBefore a b)
+        (attempt row free (entryState head vertices edges) (now (journal .entry)))
+        (outcome (r .code) (r .cost) (state (r .head) (now (vertices .entry)) (now (edges .exit)))
+        (now (journal .exit))) ⌝ }
 {
     let c = change_codes::order_edges(edges, a, b);
     if c != 0 {
         return unchanged(head, c);
     }
-    let p = edge_prev(edges, a);
-    let x = edge_prev(edges, b);
+    let p = edge_field(edges, a, EDGE_PREV);
+    let x = edge_field(edges, b, EDGE_PREV);
     let q = choose(x, a, p, x);
     tried_edits::move_edge(head, vertices, edges, journal, row, free, a, p, q)
 }
@@ -189,14 +200,16 @@ pub fn edge_after(
 ) -> Made
     requires { ⌜ HoldsGraph (state head (now vertices) (now edges))
         × ((free ≡ 0 → ⊥) → 12 * row + 12 ≤ length (now journal)) ⌝ }
-    ensures { λ r. ⌜ Untyped (Change.EdgeAfter a b) row free (entryState head vertices edges) (now (journal .entry))
-        (r .code) (r .cost) (state (r .head) (now (vertices .entry)) (now (edges .exit))) (now (journal .exit)) ⌝ }
+    ensures { λ r. ⌜ Untyped (SingleChange.EdgeAfter a b)
+        (attempt row free (entryState head vertices edges) (now (journal .entry)))
+        (outcome (r .code) (r .cost) (state (r .head) (now (vertices .entry)) (now (edges .exit)))
+        (now (journal .exit))) ⌝ }
 {
     let c = change_codes::order_edges(edges, a, b);
     if c != 0 {
         return unchanged(head, c);
     }
-    let p = edge_prev(edges, a);
+    let p = edge_field(edges, a, EDGE_PREV);
     tried_edits::move_edge(head, vertices, edges, journal, row, free, a, p, b)
 }
 
@@ -213,16 +226,17 @@ pub fn word_before(
 ) -> Made
     requires { ⌜ HoldsGraph (state head (now vertices) (now edges))
         × ((free ≡ 0 → ⊥) → 12 * row + 12 ≤ length (now journal)) ⌝ }
-    ensures { λ r. ⌜ Untyped (Change.WordBefore a b) row free (entryState head vertices edges)
-        (now (journal .entry)) (r .code) (r .cost) (exitState (r .head) vertices edges) (now (journal .exit)) ⌝ }
+    ensures { λ r. ⌜ Untyped (SingleChange.WordBefore a b)
+        (attempt row free (entryState head vertices edges) (now (journal .entry)))
+        (outcome (r .code) (r .cost) (exitState (r .head) vertices edges) (now (journal .exit))) ⌝ }
 {
     let c = change_codes::order_words(edges, a, b);
     if c != 0 {
         return unchanged(head, c);
     }
-    let v = this(edges, a);
-    let p = word_prev(edges, a);
-    let x = word_prev(edges, b);
+    let v = half_field(edges, a, HALF_THIS);
+    let p = half_field(edges, a, HALF_PREV);
+    let x = half_field(edges, b, HALF_PREV);
     let q = choose(x, a, p, x);
     tried_edits::move_word(head, vertices, edges, journal, row, free, a, v, p, v, q)
 }
@@ -240,14 +254,15 @@ pub fn word_after(
 ) -> Made
     requires { ⌜ HoldsGraph (state head (now vertices) (now edges))
         × ((free ≡ 0 → ⊥) → 12 * row + 12 ≤ length (now journal)) ⌝ }
-    ensures { λ r. ⌜ Untyped (Change.WordAfter a b) row free (entryState head vertices edges) (now (journal .entry))
-        (r .code) (r .cost) (exitState (r .head) vertices edges) (now (journal .exit)) ⌝ }
+    ensures { λ r. ⌜ Untyped (SingleChange.WordAfter a b)
+        (attempt row free (entryState head vertices edges) (now (journal .entry)))
+        (outcome (r .code) (r .cost) (exitState (r .head) vertices edges) (now (journal .exit))) ⌝ }
 {
     let c = change_codes::order_words(edges, a, b);
     if c != 0 {
         return unchanged(head, c);
     }
-    let v = this(edges, a);
-    let p = word_prev(edges, a);
+    let v = half_field(edges, a, HALF_THIS);
+    let p = half_field(edges, a, HALF_PREV);
     tried_edits::move_word(head, vertices, edges, journal, row, free, a, v, p, v, b)
 }

@@ -1,7 +1,6 @@
 -- Where a call leads is the machine's; one that leads too far is refused with 10.
 use Prim.Native.Nat.{ℕ, zero, suc, _+_, _-_, _*_, _/_, _≤_, _<_}
 use mathlib.Core.Path.{_≡_, refl, sym, ap, subst, _∙_}
-use mathlib.Core.Logic.{_⊎_, inl, inr}
 use mathlib.Core.Bool.{Bool, true, false, not, _&&_, _||_}
 use mathlib.Core.List.{List, [], _∷_, map}
 use native.Mathlib.Omega.{arith}
@@ -11,26 +10,26 @@ use lib.Seq.{getD-take, getD-drop}
 use borrow.Author.Tests.{eqb-true, eqb-false, le-ltb, leb-true}
 use Rattle.lists.specs.Choice.{_⇒_else_, _==_, within}
 use Rattle.lists.specs.Lists.{overwritten}
-use Rattle.lists.proofs.Bools.{tf, ft, or-true, within-range}
+use Rattle.lists.proofs.Bools.{tf, ft, within-range}
 use Rattle.graph.specs.WellFormed.{Bounds}
 use Rattle.history.specs.Machine.{Machine, MarkPlace, gone, at, stands, placeOr, freeOf, onward, name, holderOf, isMark}
 use Rattle.history.proofs.Timelines.{onward-back, onward-end}
 use Rattle.marks.specs.Marked.{inSet, placeIn}
 use Rattle.marks.specs.Named.{holderIn}
-use Rattle.marks.proofs.MarkLaws.{in-marks, in-set, place-is}
+use Rattle.marks.proofs.MarkLaws.{in-set, place-is}
 use Rattle.marks.proofs.NameLaws.{holder-same}
 use Rattle.commands.specs.Answers.{refuses}
 use Rattle.commands.specs.Calls.{Call, callAt}
 use Rattle.commands.specs.Commands.{commandOf, callOf}
 use Rattle.commands.specs.declared.HistoryCall.the-variants.{Redo, GoTo, GoToName}
-use Rattle.machine.specs.Calls.{Parameters, known}
+use Rattle.machine.specs.Calls.{Parameters}
 use Rattle.machine.specs.HistoryCodes.{tooFar, placeOf, outOfReach}
 use Rattle.machine.specs.Codes.{refusal}
 use Rattle.machine.specs.Machine.{answers, step, last}
 use Rattle.machine.specs.Run.{answerWords}
 use Rattle.machine.specs.Stores.{StoreCall, storeCallsOf}
 use Rattle.machine.proofs.Families.{history-beyond}
-use Rattle.machine.proofs.OnWords.{ofKind, call-is, unknown, next-kind}
+use Rattle.commands.proofs.ByKind.{ofKind, call-is, unknown, next-kind, by-kind}
 use Rattle.history_calls.specs.declared.Store.{Store}
 use Rattle.history_calls.specs.Memory.{Memory}
 use Rattle.history_calls.specs.Represents.{Represents}
@@ -43,7 +42,6 @@ use Rattle.store_calls.specs.Guard.{
   nextPlace,
   placeAhead,
   mayRedo,
-  goesOn,
   Alike,
   Together,
   callsIn,
@@ -158,37 +156,25 @@ module _ (n : ℕ) (m : Machine) where
     no : {A : Type 0} → A → false ≡ false
     no a = refl
 
-    early : x .kind ≤ 22 → 1 ≤ x .kind → AsNear x
+    early : 1 ≤ x .kind → x .kind ≤ 22 → AsNear x
     unfolding commandOf
-    early top = next 1 no (next 2 no (next 3 no (next 4 no (next 5 no (next 6 no (next 7 no (next 8 no (next 9 no (next 10 no (next 11 no (next 12 no
+    early low top = (next 1 no (next 2 no (next 3 no (next 4 no (next 5 no (next 6 no (next 7 no (next 8 no (next 9 no (next 10 no (next 11 no (next 12 no
         (next 13 no (next 14 no (next 15 no (next 16 no (next 17 no (next 18 no (next 19 no (next 20 (λ e. e) (next 21 (λ e. e)
-        (next 22 no (λ h. absurd (omega arith)))))))))))))))))))))))
+        (next 22 no (λ h. absurd (omega arith)))))))))))))))))))))))) low
 
-    late : x .kind ≤ 54 → 30 ≤ x .kind → AsNear x
+    late : 30 ≤ x .kind → x .kind ≤ 54 → AsNear x
     unfolding commandOf
-    late top = next 30 no (next 31 no (next 32 no (next 33 no (next 34 no (next 35 no (next 36 no (next 37 no (next 38 no (next 39 no (next 40 no
+    late low top = (next 30 no (next 31 no (next 32 no (next 33 no (next 34 no (next 35 no (next 36 no (next 37 no (next 38 no (next 39 no (next 40 no
         (next 41 no (next 42 no (next 43 no (next 44 no (next 45 no (next 46 no (next 47 no (next 48 no (next 49 no (next 50 no (next 51 no
-        (next 52 no (next 53 no (next 54 no (λ h. absurd (omega arith))))))))))))))))))))))))))
+        (next 52 no (next 53 no (next 54 no (λ h. absurd (omega arith))))))))))))))))))))))))))) low
 
-    latest : x .kind ≤ 59 → 56 ≤ x .kind → AsNear x
+    latest : 56 ≤ x .kind → x .kind ≤ 59 → AsNear x
     unfolding commandOf
-    latest top = next 56 no (next 57 (λ e. e) (next 58 no (next 59 no (λ h. absurd (omega arith)))))
+    latest low top = (next 56 no (next 57 (λ e. e) (next 58 no (next 59 no (λ h. absurd (omega arith)))))) low
 
     -- a call within reach is so as a command
     pub command-near : AsNear x
-    command-near = go (known (x .kind)) refl
-      where
-        later : (within 30 54 (x .kind) ≡ true) ⊎ (within 56 59 (x .kind) ≡ true) → AsNear x
-        later (inl h) = let r = within-range 30 54 (x .kind) h in late (r .1) (r .0)
-        later (inr h) = let r = within-range 56 59 (x .kind) h in latest (r .1) (r .0)
-
-        either : (within 1 22 (x .kind) ≡ true) ⊎ ((within 30 54 (x .kind) || within 56 59 (x .kind)) ≡ true) → AsNear x
-        either (inl h) = let r = within-range 1 22 (x .kind) h in early (r .1) (r .0)
-        either (inr h) = later (or-true (within 30 54 (x .kind)) (within 56 59 (x .kind)) h)
-
-        go : (t : Bool) → known (x .kind) ≡ t → AsNear x
-        go true e = either (or-true (within 1 22 (x .kind)) _ e)
-        go false e = λ f. ap (λ c. outOfReach n m (callOf c)) (unknown x e)
+    command-near = by-kind x (AsNear x) early late latest (λ e f. ap (λ c. outOfReach n m (callOf c)) (unknown x e))
 
 -- out of reach it is refused with 10
 far-code : (v : Parameters) (m : Machine) (x : Call) → outOfReach (v .changes) m x ≡ true → refusal v m (commandOf x) ≡ 10

@@ -85,7 +85,8 @@ abbrev pub Served : List Store → List Store → Slice → Slice → Slice → 
 Served first all vertices edges journal marks closed types calls answers stores room v e t =
     (w : Parameters) → (s : Stores) → s .count ≡ stores → room ≡ jointRoom s
     → Serving w (sizes v e t) first
-    (whole (now (vertices .entry)) (now (edges .entry)) (now (journal .entry)) (now (marks .entry))) (now (closed .entry)) types s
+    (whole (now (vertices .entry)) (now (edges .entry)) (now (journal .entry)) (now (marks .entry)))
+    (now (closed .entry)) types s
     → AfterAll w (sizes v e t) s (storeCallsOf (now (calls .entry))) all
     (whole (now (vertices .exit)) (now (edges .exit)) (now (journal .exit)) (now (marks .exit))) (now (closed .entry))
     types (now (answers .entry)) (now (answers .exit))

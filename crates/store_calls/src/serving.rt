@@ -1,21 +1,13 @@
 // Every call of a list, each on its store; calls of one store in a row as one stretch.
 use crate::guard::answer;
 use history_calls::Store;
+use lists::numbers::smaller;
 ghost use mathlib.Core.Path.{_≡_};
-ghost use Prim.Native.Nat.{_+_, _*_, _/_, _≤_, _<_, min};
+ghost use Prim.Native.Nat.{_+_, _*_, _/_, _≤_, _<_};
 ghost use lib.ListN.{length};
 ghost use Rattle.lists.specs.Choice.{within};
 ghost use Rattle.store_calls.specs.Parts.{RestStays};
 ghost use Rattle.store_calls.specs.Serving.{Serves, Served, slotOf};
-
-fn smaller(a: u32, b: u32) -> u32
-    ensures { λ r. ⌜ r ≡ min a b ⌝ }
-{
-    if a <= b {
-        return a;
-    }
-    b
-}
 
 // Is it the number of one of so many stores?
 fn is_store(number: u32, stores: usize) -> bool

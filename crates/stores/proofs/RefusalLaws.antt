@@ -14,9 +14,9 @@ use Rattle.lists.proofs.Bools.{and-true, within-range}
 use Rattle.type_rows.specs.Rows.{rowFits, goodRows}
 use Rattle.graph.specs.WellFormed.{Bounds}
 use Rattle.image.specs.Image.{imageLength}
-use Rattle.image.specs.Checks.{bounds, verdict, codeOf, loadCode}
-use Rattle.image.specs.declared.Verdict.{Verdict}
-use Rattle.image.specs.declared.Verdict.the-variants.{Sound, BadHeader, BadRecord, BadIncidence}
+use Rattle.image_check.specs.Checks.{bounds, verdict, codeOf, loadCode}
+use Rattle.image_check.specs.declared.Verdict.{Verdict}
+use Rattle.image_check.specs.declared.Verdict.the-variants.{Sound, BadHeader, BadRecord, BadIncidence}
 use Rattle.machine.specs.Calls.{Parameters, boundsIn}
 use Rattle.machine.specs.Run.{Limits, numberBeside}
 use Rattle.machine.specs.StoreRun.{LentStores, parametersIn, statedLength, startsCode, startsOffset, storesRefusal, storesNumber}

@@ -11,13 +11,13 @@ use lib.Seq.{take-all, take-length, drop-length, drop-drop, getD-take}
 use borrow.Author.Tests.{ltb-true, ltb-false, eqb-true, eqb-false, eq-eqb, ne-eqb}
 use Rattle.lists.specs.Choice.{_⇒_else_, _==_}
 use Rattle.graph.specs.WellFormed.{Bounds}
-use Rattle.image.specs.Checks.{codeOf, offsetOf, loadCode, loadOffset}
-use Rattle.image.specs.declared.Verdict.{Verdict}
-use Rattle.image.specs.declared.Verdict.the-variants.{Sound, BadHeader, BadRecord, BadIncidence}
+use Rattle.image_check.specs.Checks.{codeOf, offsetOf, loadCode, loadOffset}
+use Rattle.image_check.specs.declared.Verdict.{Verdict}
+use Rattle.image_check.specs.declared.Verdict.the-variants.{Sound, BadHeader, BadRecord, BadIncidence}
 use Rattle.machine.specs.Run.{numberBeside}
 use Rattle.stores.specs.Refusals.{numberAt}
 use Rattle.image.proofs.Headers.{header-words}
-use Rattle.image.proofs.LoadCodes.{code-loads}
+use Rattle.image_check.proofs.LoadCodes.{code-loads}
 use Rattle.image.proofs.Loads.{loaded}
 use Rattle.image.specs.Image.{loadable}
 use Rattle.machine.specs.StoreRun.{statedLength, imagesFrom, startsCode, startsOffset, imageAt}

@@ -8,8 +8,8 @@ use lib.Dec.{ltb}
 use Rattle.lists.specs.Choice.{_⇒_else_, _==_, within}
 use Rattle.graph.specs.Limits.{mostVertices, mostEdges, mostChanges}
 use Rattle.machine.specs.StoreRun.{LentStores, mostStores}
-use Rattle.image.specs.declared.Verdict.{Verdict}
-use Rattle.image.specs.declared.Verdict.the-variants.{Sound, BadHeader, BadRecord, BadIncidence}
+use Rattle.image_check.specs.declared.Verdict.{Verdict}
+use Rattle.image_check.specs.declared.Verdict.the-variants.{Sound, BadHeader, BadRecord, BadIncidence}
 use Rattle.engine.specs.Refusals.{Lends}
 
 -- the number beside the code of a verdict on the image that stands at a place

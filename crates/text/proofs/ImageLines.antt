@@ -12,7 +12,7 @@ use Rattle.lists.specs.Choice.{_==_, within}
 use Rattle.lists.specs.Lists.{all, equalLists, overwritten}
 use Rattle.lists.proofs.Bools.{and-false}
 use Rattle.decimal.specs.Decimal.{valueOf}
-use Rattle.decimal.proofs.Stores.{one-drop}
+use Rattle.lists.proofs.WordLaws.{one-drop}
 use Rattle.text.specs.Reading.{onFirst, pieces, goodNumber}
 use Rattle.text.specs.Scan.{scan, isValue, wordsFrom}
 use Rattle.text.specs.Writing.{imageWord}

@@ -11,7 +11,8 @@ use Rattle.lists.specs.Lists.{concatMap}
 use Rattle.text.specs.Writing.{spaced, imageWord, unreadableWord, doneWord, refusedWord, lineOf, answerLine, answerLines, writeText, boundedText, unreadableText, refusedLine}
 use Rattle.decimal.specs.Stored.{WrittenAt}
 use Rattle.decimal.proofs.Digits.{digits-most}
-use Rattle.decimal.proofs.Stores.{one-drop, written-as}
+use Rattle.decimal.proofs.Stores.{written-as}
+use Rattle.lists.proofs.WordLaws.{one-drop}
 
 pub spaced-most : (n : ℕ) → length (spaced n) ≤ 11
 unfolding spaced

@@ -7,7 +7,8 @@ use native.Mathlib.Omega.{arith}
 use lib.ListN.{length, getD, drop, length-append, drop-of-length-le}
 use lib.Seq.{sets}
 use Rattle.lists.specs.Choice.{_⇒_else_, _==_}
-use Rattle.decimal.proofs.Stores.{then, one-drop}
+use Rattle.decimal.proofs.Stores.{then}
+use Rattle.lists.proofs.WordLaws.{one-drop}
 use Rattle.text.specs.declared.reading.Number.{Number}
 use Rattle.text.specs.declared.reading.Lines.{Lines}
 use Rattle.text.specs.Scan.{scan, lineIn, byteIn, newlineIn, numberAfter, wordAt, wordsFrom}

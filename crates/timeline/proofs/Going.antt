@@ -16,14 +16,14 @@ use Rattle.graph_tables.specs.Tables.{State}
 use Rattle.timeline.specs.declared.Ahead.{Ahead}
 use Rattle.timeline.specs.declared.Position.{Position}
 use Rattle.timeline.specs.JournalRows.{JournalRows, shifted, Reach, crossed}
-use Rattle.timeline.specs.Steps.{rowsTo, Behind, Advances, Side, Aims, Journal}
+use Rattle.timeline.specs.Steps.{rowsTo, Behind, Advances, NotPast, Aims, Journal}
 use Rattle.timeline.proofs.Steps.{NextStep, next-step, behind-within, journal-behind, steps-short}
 
 pub reach-one : (back : Bool) (n p m : ℕ) → n ≢ 0 → Reach back n p m → Reach back 1 p m
 reach-one true n p m z h = omega arith
 reach-one false n p m z h = omega arith
 
-side-same : (back : Bool) (u : ℕ) → Side back u u
+side-same : (back : Bool) (u : ℕ) → NotPast back u u
 side-same true u = omega arith
 side-same false u = omega arith
 
@@ -82,7 +82,7 @@ module _ (t : List ℕ) (g : Graph) (ss : List Step) (q u : ℕ) (a : Ahead) whe
   row-reach true k n = omega (arith, k .side, n)
   row-reach false k n = omega (arith, k .side, n, behind-within t g ss (k .place) (a .end) (k .behind))
 
-  nearer-end : (back : Bool) → Aims t g ss back q u a → u ≢ a .end → Side back (shifted back 1 u) (a .end)
+  nearer-end : (back : Bool) → Aims t g ss back q u a → u ≢ a .end → NotPast back (shifted back 1 u) (a .end)
   nearer-end true k n = omega (arith, k .side, n)
   nearer-end false k n = omega (arith, k .side, n)
 
@@ -92,7 +92,7 @@ module _ (t : List ℕ) (g : Graph) (ss : List Step) (q u : ℕ) (a : Ahead) whe
     behind = k .behind;
     reach = k .reach;
     goal = k .goal;
-    side = subst (λ (i : ℕ). Side back i (a .end)) (sym e) (nearer-end back k n);
+    side = subst (λ (i : ℕ). NotPast back i (a .end)) (sym e) (nearer-end back k n);
   }
 
 -- where the present step ends
@@ -117,7 +117,7 @@ end-short t g ss back q u a k = omega (arith, behind-within t g ss (k .place) (a
 abbrev pub rowsLeft : ℕ → Ahead → ℕ
 rowsLeft u a = a .left * 4294967296 + ((u - a .end) + (a .end - u))
 
-apart-less : (back : Bool) (u u′ e : ℕ) → Side back u e → u ≢ e → u′ ≡ shifted back 1 u → (u′ - e) + (e - u′) < (u - e) + (e - u)
+apart-less : (back : Bool) (u u′ e : ℕ) → NotPast back u e → u ≢ e → u′ ≡ shifted back 1 u → (u′ - e) + (e - u′) < (u - e) + (e - u)
 apart-less true u u′ e s n f = less u u′ e (omega (arith, s, n)) f
   where
     less : (u u′ e : ℕ) → e < u → u′ ≡ u - 1 → (u′ - e) + (e - u′) < (u - e) + (e - u)
@@ -133,7 +133,7 @@ apart-short u e x y = omega arith
 step-less : (l l′ d d′ e : ℕ) → l′ + 1 ≡ l → d′ < d → d < 4294967296 → l′ * 4294967296 + d′ < l * 4294967296 + e
 step-less l l′ d d′ e x y z = omega arith
 
-pub fewer-left : (back : Bool) (u u′ : ℕ) (a r : Ahead) → Advances u a r → Side back u (r .end) → u ≢ r .end → u′ ≡ shifted back 1 u → u < 4294967296 → r .end < 4294967296
+pub fewer-left : (back : Bool) (u u′ : ℕ) (a r : Ahead) → Advances u a r → NotPast back u (r .end) → u ≢ r .end → u′ ≡ shifted back 1 u → u < 4294967296 → r .end < 4294967296
     → rowsLeft u′ r < rowsLeft u a
 fewer-left back u u′ a r d s n e x y =
     let l = apart-less back u u′ (r .end) s n e in

@@ -20,25 +20,25 @@ use Rattle.graph_tables.specs.Holds.{Holds}
 use Rattle.graph_tables.specs.Edits.{applyS, Can}
 use Rattle.graph_tables.specs.Capacities.{Sized}
 use Rattle.graph_tables.proofs.Callers.{can-apply, edited, edited-sized, can-revert, reverted, reverted-sized}
-use Rattle.timeline.specs.JournalRows.{made, JournalRows, shifted, Reach, crossed}
+use Rattle.timeline.specs.JournalRows.{graphAfter, JournalRows, shifted, Reach, crossed}
 
 -- ---- what the rows make is well formed and within the bounds
 
-module _ (b : Bounds) (t : List ℕ) (g : Graph) (n : ℕ) (applies : (i : ℕ) → i < n → Applies (rowAt t i) (made t g i)) where
-  pub made-sound : WellFormed g → (u : ℕ) → u ≤ n → WellFormed (made t g u)
+module _ (b : Bounds) (t : List ℕ) (g : Graph) (n : ℕ) (applies : (i : ℕ) → i < n → Applies (rowAt t i) (graphAfter t g i)) where
+  pub made-sound : WellFormed g → (u : ℕ) → u ≤ n → WellFormed (graphAfter t g u)
   made-sound w zero h = w
-  made-sound w (suc u) h = keeps-formed (rowAt t u) (made t g u) (applies u (omega arith)) (made-sound w u (omega arith))
+  made-sound w (suc u) h = keeps-formed (rowAt t u) (graphAfter t g u) (applies u (omega arith)) (made-sound w u (omega arith))
 
-  pub made-within : ((i : ℕ) → i < n → EditIn b (rowAt t i)) → Within b g → (u : ℕ) → u ≤ n → Within b (made t g u)
+  pub made-within : ((i : ℕ) → i < n → EditIn b (rowAt t i)) → Within b g → (u : ℕ) → u ≤ n → Within b (graphAfter t g u)
   made-within i w zero h = w
-  made-within i w (suc u) h = keeps-within b (rowAt t u) (made t g u) (applies u (omega arith)) (i u (omega arith)) (made-within i w u (omega arith))
+  made-within i w (suc u) h = keeps-within b (rowAt t u) (graphAfter t g u) (applies u (omega arith)) (i u (omega arith)) (made-within i w u (omega arith))
 
 module _ (b : Bounds) (t : List ℕ) (g : Graph) (n : ℕ) (s : State) where
-  pub rows-sound : (u v : ℕ) → JournalRows b t g n s u → v ≤ n → WellFormed (made t g v)
+  pub rows-sound : (u v : ℕ) → JournalRows b t g n s u → v ≤ n → WellFormed (graphAfter t g v)
   rows-sound u v k h = made-sound b t g n (k .applies) (k .sound) v h
 
   -- other tables that hold what v rows make
-  moved : (s′ : State) (u v : ℕ) → JournalRows b t g n s u → Sized b s′ → v ≤ n → Holds s′ (made t g v) → JournalRows b t g n s′ v
+  moved : (s′ : State) (u v : ℕ) → JournalRows b t g n s u → Sized b s′ → v ≤ n → Holds s′ (graphAfter t g v) → JournalRows b t g n s′ v
   moved s′ u v k z i h = record {
     sized = z;
     sound = k .sound;
@@ -56,26 +56,26 @@ module _ (b : Bounds) (t : List ℕ) (g : Graph) (n : ℕ) (s : State) where
     last : u < n
     last = omega (arith, k .upto)
 
-    sound : WellFormed (made t g u)
+    sound : WellFormed (graphAfter t g u)
     sound = rows-sound (suc u) u k (omega (arith, last))
 
     pub can-back : Can (inverse (rowAt t u)) s
-    can-back = can-revert b s (k .sized) (rowAt t u) (made t g u) sound (k .applies u last) (k .inside u last) (k .holds) _ refl
+    can-back = can-revert b s (k .sized) (rowAt t u) (graphAfter t g u) sound (k .applies u last) (k .inside u last) (k .holds) _ refl
 
     pub rows-back : (s′ : State) → s′ ≡ applyS (inverse (rowAt t u)) s → JournalRows b t g n s′ u
     rows-back s′ q =
-        moved s′ (suc u) u k (reverted-sized b s (k .sized) (rowAt t u) (made t g u) sound (k .applies u last) (k .inside u last) (k .holds) _ s′ refl q)
-        (omega (arith, last)) (reverted b s (k .sized) (rowAt t u) (made t g u) sound (k .applies u last) (k .inside u last) (k .holds) _ s′ refl q)
+        moved s′ (suc u) u k (reverted-sized b s (k .sized) (rowAt t u) (graphAfter t g u) sound (k .applies u last) (k .inside u last) (k .holds) _ s′ refl q)
+        (omega (arith, last)) (reverted b s (k .sized) (rowAt t u) (graphAfter t g u) sound (k .applies u last) (k .inside u last) (k .holds) _ s′ refl q)
 
   -- one row on
   module _ (u : ℕ) (k : JournalRows b t g n s u) (l : u < n) where
     pub can-on : Can (rowAt t u) s
-    can-on = can-apply b s (k .sized) (made t g u) (k .holds) (rowAt t u) (k .applies u l) (k .inside u l)
+    can-on = can-apply b s (k .sized) (graphAfter t g u) (k .holds) (rowAt t u) (k .applies u l) (k .inside u l)
 
     pub rows-on : (s′ : State) → s′ ≡ applyS (rowAt t u) s → JournalRows b t g n s′ (suc u)
     rows-on s′ q =
-        moved s′ u (suc u) k (edited-sized b s (k .sized) (made t g u) (k .holds) (rowAt t u) (k .applies u l) (k .inside u l) s′ q)
-        (omega arith) (edited b s (k .sized) (made t g u) (k .holds) (rowAt t u) (k .applies u l) (k .inside u l) s′ q)
+        moved s′ u (suc u) k (edited-sized b s (k .sized) (graphAfter t g u) (k .holds) (rowAt t u) (k .applies u l) (k .inside u l) s′ q)
+        (omega arith) (edited b s (k .sized) (graphAfter t g u) (k .holds) (rowAt t u) (k .applies u l) (k .inside u l) s′ q)
 
   pub rows-cut : (u : ℕ) → JournalRows b t g n s u → JournalRows b t g u s u
   rows-cut u k = record {
@@ -90,7 +90,7 @@ module _ (b : Bounds) (t : List ℕ) (g : Graph) (n : ℕ) (s : State) where
     holds = k .holds;
   }
 
-pub made-agree : (u : ℕ) (t t′ : List ℕ) (g : Graph) → SameBelow u t t′ → (i : ℕ) → i ≤ u → made t′ g i ≡ made t g i
+pub made-agree : (u : ℕ) (t t′ : List ℕ) (g : Graph) → SameBelow u t t′ → (i : ℕ) → i ≤ u → graphAfter t′ g i ≡ graphAfter t g i
 made-agree u t t′ g b zero h = refl
 made-agree u t t′ g b (suc i) h = rw (row-agree u i t t′ b (omega arith), made-agree u t t′ g b i (omega arith))
 
@@ -130,17 +130,17 @@ module _ (b : Bounds) (t : List ℕ) (g : Graph) (n : ℕ) (s : State) (u : ℕ)
 -- ---- an edit is written down as the row after the last
 
 module _ (b : Bounds) (t t′ : List ℕ) (g : Graph) (s : State) (u : ℕ) (e : Edit) (c : RowStep) (k : JournalRows b t g u s u) (room : 12 * u + 12 ≤ length t)
-    (a : Applies e (made t g u)) (i : EditIn b e) (q : t′ ≡ rowed u e c t) where
+    (a : Applies e (graphAfter t g u)) (i : EditIn b e) (q : t′ ≡ rowed u e c t) where
   below : SameBelow u t t′
   below = rowed-below u e c t t′ q room
 
   row : rowAt t′ u ≡ e
   row = rowed-row u e c t t′ q room
 
-  old : (i : ℕ) → i ≤ u → made t′ g i ≡ made t g i
+  old : (i : ℕ) → i ≤ u → graphAfter t′ g i ≡ graphAfter t g i
   old i h = made-agree u t t′ g below i h
 
-  pub made-more : made t′ g (suc u) ≡ apply e (made t g u)
+  pub made-more : graphAfter t′ g (suc u) ≡ apply e (graphAfter t g u)
   made-more = rw (row, old u (omega arith))
 
   by-row : (P : Edit → ℕ → Type 0) → ((i : ℕ) → i < u → P (rowAt t i) i) → P e u → (i : ℕ) → i < suc u → P (rowAt t′ i) i
@@ -151,8 +151,8 @@ module _ (b : Bounds) (t t′ : List ℕ) (g : Graph) (s : State) (u : ℕ) (e :
         subst (λ (b : Edit). P b i) (sym (row-agree u i t t′ below l)) (f i l)
   ]
 
-  applies′ : (i : ℕ) → i < suc u → Applies (rowAt t′ i) (made t′ g i)
-  applies′ i h = subst (λ (x : Graph). Applies (rowAt t′ i) x) (sym (old i (omega arith))) (by-row (λ b j. Applies b (made t g j)) (k .applies) a i h)
+  applies′ : (i : ℕ) → i < suc u → Applies (rowAt t′ i) (graphAfter t′ g i)
+  applies′ i h = subst (λ (x : Graph). Applies (rowAt t′ i) x) (sym (old i (omega arith))) (by-row (λ b j. Applies b (graphAfter t g j)) (k .applies) a i h)
 
   -- it is still to be carried out
   pub rows-added : JournalRows b t′ g (suc u) s u
@@ -170,7 +170,7 @@ module _ (b : Bounds) (t t′ : List ℕ) (g : Graph) (s : State) (u : ℕ) (e :
 
 -- an edit that was written down and carried out
 pub written-rows : (b : Bounds) (g : Graph) (e : Edit) (c : RowStep) (u : ℕ) (s : State) (t : List ℕ) (s′ : State) (t′ : List ℕ)
-    → 12 * u + 12 ≤ length t → EditIn b e → Applies e (made t g u) → JournalRows b t g u s u → Written e c u s t s′ t′
+    → 12 * u + 12 ≤ length t → EditIn b e → Applies e (graphAfter t g u) → JournalRows b t g u s u → Written e c u s t s′ t′
     → JournalRows b t′ g (suc u) s′ (suc u)
 written-rows b g e c u s t s′ t′ room i a k w =
     rows-on b t′ g (suc u) s u (rows-added b t t′ g s u e c k room a i (w .row)) (omega arith) s′

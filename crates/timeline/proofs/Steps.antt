@@ -23,7 +23,7 @@ use Rattle.graph_tables.specs.Capacities.{Sized}
 use Rattle.graph_tables.proofs.GraphRead.{holds-one}
 use Rattle.timeline.specs.declared.Position.{Position}
 use Rattle.timeline.specs.declared.Current.{Current}
-use Rattle.timeline.specs.JournalRows.{made, JournalRows, shifted, Reach, crossed}
+use Rattle.timeline.specs.JournalRows.{graphAfter, JournalRows, shifted, Reach, crossed}
 use Rattle.timeline.specs.Steps.{rowsTo, StepAt, StepsAt, Behind, Journal, Open}
 use Rattle.timeline.proofs.JournalRowLaws.{made-within, made-agree, rows-cut, made-more, written-rows}
 
@@ -59,7 +59,7 @@ turn-at t g i (suc p) (x ∷ ss) l h =
     record { cost = r .cost; some = r .some; next = r .next; first = r .first; last = r .last; within = r .within }
 
 -- the first p steps' rows make Gp
-pub makes-current : (t : List ℕ) (g : Graph) (i p : ℕ) (ss : List Step) → StepsAt t g i ss → p ≤ length ss → graphAt p (made t g i) ss ≡ made t g (rowsTo i p ss)
+pub makes-current : (t : List ℕ) (g : Graph) (i p : ℕ) (ss : List Step) → StepsAt t g i ss → p ≤ length ss → graphAt p (graphAfter t g i) ss ≡ graphAfter t g (rowsTo i p ss)
 makes-current t g i zero ss l h = refl
 makes-current t g i (suc p) [] l h = absurd (omega arith)
 makes-current t g i (suc p) (x ∷ ss) l h = ap (λ (y : Graph). graphAt p y ss) (l .0 .makes) ∙ makes-current t g (i + x .cost) p ss (l .1) (omega arith)
@@ -67,8 +67,8 @@ makes-current t g i (suc p) (x ∷ ss) l h = ap (λ (y : Graph). graphAt p y ss)
 -- ---- what the journal says of the present graph
 
 module _ (b : Bounds) (j : Position) (s : State) (t : List ℕ) (l : Timeline) (k : Journal b j s t l) where
-  current-made : presentIn l ≡ made t (l .start) (j .used)
-  current-made = makes-current t (l .start) 0 (l .place) (l .steps) (k .steps-at) (k .inside) ∙ ap (made t (l .start)) (sym (k .used))
+  current-made : presentIn l ≡ graphAfter t (l .start) (j .used)
+  current-made = makes-current t (l .start) 0 (l .place) (l .steps) (k .steps-at) (k .inside) ∙ ap (graphAfter t (l .start)) (sym (k .used))
 
   -- the tables hold Gp
   pub holds-current : Holds s (presentIn l)
@@ -227,7 +227,7 @@ journal-close b j j′ s s′ t t′ l x k w y z p q r =
 
 -- ---- the bench of a step is no part of its rows
 
-made-signed : (t : List ℕ) (g : Graph) (u w : ℕ) (i : ℕ) → made (signed u w t) g i ≡ made t g i
+made-signed : (t : List ℕ) (g : Graph) (u w : ℕ) (i : ℕ) → graphAfter (signed u w t) g i ≡ graphAfter t g i
 made-signed t g u w zero = refl
 made-signed t g u w (suc i) = λ z. apply (signed-row u w t i z) (made-signed t g u w i z)
 
@@ -236,7 +236,7 @@ rows-signed b t g n s v u w k = record {
   sized = k .sized;
   sound = k .sound;
   bounded = k .bounded;
-  applies = λ i h. subst (λ (e : Edit). Applies e (made (signed u w t) g i)) (sym (signed-row u w t i)) (subst (Applies (rowAt t i)) (sym (made-signed t g u w i)) (k .applies i h));
+  applies = λ i h. subst (λ (e : Edit). Applies e (graphAfter (signed u w t) g i)) (sym (signed-row u w t i)) (subst (Applies (rowAt t i)) (sym (made-signed t g u w i)) (k .applies i h));
   inside = λ i h. subst (EditIn b) (sym (signed-row u w t i)) (k .inside i h);
   within = omega (arith, k .within, signed-length u w t);
   short = rw (signed-length u w t) (k .short);
@@ -258,8 +258,8 @@ module _ (b : Bounds) (j : Position) (s₀ : State) (t₀ : List ℕ) (l : Timel
   })
 
   module _ (s : State) (t : List ℕ) (u : ℕ) (k : Open b j s₀ t₀ l (costing c) s t u) where
-    open-now : (g : Graph) → Holds s g → g ≡ made t (l .start) u
-    open-now g h = holds-one s g (made t (l .start) u) h (k .rows .holds)
+    open-now : (g : Graph) → Holds s g → g ≡ graphAfter t (l .start) u
+    open-now g h = holds-one s g (graphAfter t (l .start) u) h (k .rows .holds)
 
     -- one row more
     module _ (g : Graph) (e : Edit) (h : Holds s g) (a : Applies e g) (i : EditIn b e) (f : 12 * u + 12 ≤ length t) (s′ : State) (t′ : List ℕ) (u′ : ℕ)
@@ -297,7 +297,7 @@ module _ (b : Bounds) (j : Position) (s₀ : State) (t₀ : List ℕ) (l : Timel
           some = o;
           first = e (j .used) ∙ k .says (j .used) (omega arith) (omega arith);
           last = e (j .used + c - 1) ∙ k .says (j .used + c - 1) (omega arith) (omega arith);
-          makes = open-now g h ∙ ap (made t (l .start)) n ∙ sym (r (j .used + c));
+          makes = open-now g h ∙ ap (graphAfter t (l .start)) n ∙ sym (r (j .used + c));
           benched = signed-bench (j .used) w t (omega (arith, k .rows .within));
         })
         (subst (λ (i : ℕ). JournalRows b t′ (l .start) i s i) n (rows-signed b t (l .start) u s u (j .used) w (k .rows))) x y (z ∙ n)

@@ -12,21 +12,21 @@ use Rattle.graph_tables.specs.Holds.{Holds}
 use Rattle.graph_tables.specs.Capacities.{Sized}
 
 -- what the first i rows make of g
-abbrev pub made : List ℕ → Graph → ℕ → Graph
-made t g zero = g
-made t g (suc i) = apply (rowAt t i) (made t g i)
+abbrev pub graphAfter : List ℕ → Graph → ℕ → Graph
+graphAfter t g zero = g
+graphAfter t g (suc i) = apply (rowAt t i) (graphAfter t g i)
 
 -- n rows that lead on from g, each within the bounds, of which the tables have u behind them
 pub record JournalRows (b : Bounds) (t : List ℕ) (g : Graph) (n : ℕ) (s : State) (u : ℕ) : Type 0 where
   pub sized : Sized b s
   pub sound : WellFormed g
   pub bounded : Within b g
-  pub applies : (i : ℕ) → i < n → Applies (rowAt t i) (made t g i)
+  pub applies : (i : ℕ) → i < n → Applies (rowAt t i) (graphAfter t g i)
   pub inside : (i : ℕ) → i < n → EditIn b (rowAt t i)
   pub within : 12 * n ≤ length t
   pub short : length t < 2 ^ 32
   pub upto : u ≤ n
-  pub holds : Holds s (made t g u)
+  pub holds : Holds s (graphAfter t g u)
 
 -- ---- the ways back and on
 

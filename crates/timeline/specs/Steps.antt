@@ -12,7 +12,7 @@ use Rattle.journal.specs.Rows.{RowStep, costing, stepAt, benchAt, SameBelow}
 use Rattle.graph_tables.specs.Tables.{State}
 use Rattle.timeline.specs.declared.Ahead.{Ahead}
 use Rattle.timeline.specs.declared.Position.{Position}
-use Rattle.timeline.specs.JournalRows.{made, JournalRows, shifted, Reach}
+use Rattle.timeline.specs.JournalRows.{graphAfter, JournalRows, shifted, Reach}
 
 -- i and the costs of the first p steps: the row where step p + 1 begins, if the first step begins at row i
 abbrev pub rowsTo : ℕ → ℕ → List Step → ℕ
@@ -30,7 +30,7 @@ pub record StepAt (t : List ℕ) (g : Graph) (i : ℕ) (x : Step) : Type 0 where
   pub some : 1 ≤ x .cost
   pub first : stepAt t i ≡ rowStep x
   pub last : stepAt t (i + x .cost - 1) ≡ rowStep x
-  pub makes : x .graph ≡ made t g (i + x .cost)
+  pub makes : x .graph ≡ graphAfter t g (i + x .cost)
   pub benched : benchAt t i ≡ x .bench
 
 -- the rows of the steps, one after another from row i on
@@ -57,9 +57,9 @@ abbrev pub Advances : ℕ → Ahead → Ahead → Type 0
 Advances u a r = (u ≡ a .end → r .left + 1 ≡ a .left) × (u ≢ a .end → r ≡ a)
 
 -- e is u, or before it on the way back, or after it on the way on
-abbrev pub Side : Bool → ℕ → ℕ → Type 0
-Side true u e = e ≤ u
-Side false u e = u ≤ e
+abbrev pub NotPast : Bool → ℕ → ℕ → Type 0
+NotPast true u e = e ≤ u
+NotPast false u e = u ≤ e
 
 -- with u rows behind, the present step ends at the rows of a place from where place q is so many steps away
 pub record Aims (t : List ℕ) (g : Graph) (ss : List Step) (back : Bool) (q u : ℕ) (a : Ahead) : Type 0 where
@@ -67,7 +67,7 @@ pub record Aims (t : List ℕ) (g : Graph) (ss : List Step) (back : Bool) (q u :
   pub behind : Behind t g ss place (a .end)
   pub reach : Reach back (a .left) place (length ss)
   pub goal : q ≡ shifted back (a .left) place
-  pub side : Side back u (a .end)
+  pub side : NotPast back u (a .end)
 
 -- the position, the tables s and the journal's words t stand for the timeline l
 pub record Journal (b : Bounds) (j : Position) (s : State) (t : List ℕ) (l : Timeline) : Type 0 where

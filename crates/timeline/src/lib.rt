@@ -233,8 +233,8 @@ fn counted(p: u32, low: u32, made: u32, bench: u32) -> u32
     0
 }
 
-// Kind 59: how many of the steps above place `low`, up to place `high`, a bench made. The steps are gone through from
-// the first on.
+// For kind 59: how many of the steps above place `low`, up to place `high`, a bench made. The steps are gone through
+// from the first on.
 pub fn made_by(journal: &[u32], low: u32, high: u32, bench: u32) -> u32
     requires { ⌜ ((g : Graph) × (ss : List Step) × (u : ℕ) × Behind (now journal) g ss high u) ⌝ }
     ensures { λ r. ⌜ ((g : Graph) → (ss : List Step) → (u : ℕ) → Behind (now (journal .entry)) g ss high u

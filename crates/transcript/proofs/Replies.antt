@@ -8,9 +8,9 @@ use borrow.Author.Tests.{le-ltb, eq-eqb, ne-eqb}
 use Rattle.lists.specs.Lists.{overwritten}
 use Rattle.lists.proofs.Picks.{same, differ, same?}
 use Rattle.image.specs.Image.{load, save}
-use Rattle.image.specs.Checks.{codeOf, offsetOf, verdict, loadCode, loadOffset}
-use Rattle.image.specs.declared.Verdict.{Verdict}
-use Rattle.image.specs.declared.Verdict.the-variants.{Sound, BadHeader, BadRecord, BadIncidence}
+use Rattle.image_check.specs.Checks.{codeOf, offsetOf, verdict, loadCode, loadOffset}
+use Rattle.image_check.specs.declared.Verdict.{Verdict}
+use Rattle.image_check.specs.declared.Verdict.the-variants.{Sound, BadHeader, BadRecord, BadIncidence}
 use Rattle.history.specs.Machine.{fresh, present}
 use Rattle.commands.specs.Calls.{callsOf}
 use Rattle.machine.specs.Machine.{answers, last}

@@ -8,8 +8,8 @@ use borrow.Author.Tests.{eq-eqb}
 use Rattle.graph.specs.Graph.{Graph, empty}
 use Rattle.graph.specs.WellFormed.{wellFormed}
 use Rattle.image.specs.Image.{save}
-use Rattle.image.specs.Checks.{loadCode}
-use Rattle.image.proofs.LoadCodes.{code-loads}
+use Rattle.image_check.specs.Checks.{loadCode}
+use Rattle.image_check.proofs.LoadCodes.{code-loads}
 use Rattle.image.proofs.Loads.{saved-same, saved-loads}
 use Rattle.image.proofs.Room.{image-fits}
 use Rattle.image.proofs.WordSize.{InRange, image-small}

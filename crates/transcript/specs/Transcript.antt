@@ -6,7 +6,7 @@ use Rattle.lists.specs.Choice.{_⇒_else_, _==_}
 use Rattle.graph.specs.Graph.{empty}
 use Rattle.graph.specs.WellFormed.{Bounds}
 use Rattle.image.specs.Image.{save, load}
-use Rattle.image.specs.Checks.{loadCode, loadOffset}
+use Rattle.image_check.specs.Checks.{loadCode, loadOffset}
 use Rattle.history.specs.Machine.{Machine, fresh, present}
 use Rattle.machine.specs.Calls.{Parameters, boundsIn}
 use Rattle.commands.specs.Calls.{callsOf}

@@ -1,1 +1,3 @@
 pub mod Tries
+pub mod Removed
+pub mod PlanLaws

@@ -9,7 +9,17 @@ use Rattle.graph_tables.specs.Tables.{State}
 use Rattle.graph_tables.specs.Edits.{applyS}
 use Rattle.journal.specs.Rows.{costing, rowed}
 
--- what a change came to: code and cost, the tables with their head, and the journal
+-- what an edit is tried on: its row, how many rows are free, the tables with their head, and the journal
+pub record Attempt : Type 0 where
+  pub row : ℕ
+  pub free : ℕ
+  pub state : State
+  pub journal : List ℕ
+
+abbrev pub attempt : ℕ → ℕ → State → List ℕ → Attempt
+attempt i free s t = record { row = i; free = free; state = s; journal = t }
+
+-- what it came to: code and cost, the tables with their head, and the journal
 pub record Outcome : Type 0 where
   pub code : ℕ
   pub cost : ℕ
@@ -20,17 +30,16 @@ abbrev pub outcome : ℕ → ℕ → State → List ℕ → Outcome
 outcome code cost s t = record { code = code; cost = cost; state = s; journal = t }
 
 -- nothing is written
-abbrev pub kept : ℕ → State → List ℕ → Outcome
-kept code s t = outcome code 0 s t
+abbrev pub kept : ℕ → Attempt → Outcome
+kept code a = outcome code 0 (a .state) (a .journal)
 
--- an edit is row i, a step of cost 1, and is carried out
-abbrev pub written : Edit → ℕ → State → List ℕ → Outcome
-written e i s t = outcome 0 1 (applyS e s) (rowed i e (costing 1) t)
+-- the edit is written down as a row, a step of cost 1, and carried out
+abbrev pub written : Edit → Attempt → Outcome
+written e a = outcome 0 1 (applyS e (a .state)) (rowed (a .row) e (costing 1) (a .journal))
 
 -- an edit whose old and new agree writes nothing, any other is written where there is room
-unfoldable pub tried : Edit → ℕ → ℕ → State → List ℕ → Outcome
-tried e i free s t = idle e ⇒ kept 0 s t else (free == 0) ⇒ kept 10 s t else written e i s t
+unfoldable pub tried : Edit → Attempt → Outcome
+tried e a = idle e ⇒ kept 0 a else (a .free == 0) ⇒ kept 10 a else written e a
 
-pub record Tries (e : Edit) (i free : ℕ) (s : State) (t : List ℕ) (code cost : ℕ) (s′ : State)
-    (t′ : List ℕ) : Type 0 where
-  pub comes : outcome code cost s′ t′ ≡ tried e i free s t
+pub record Tries (e : Edit) (a : Attempt) (o : Outcome) : Type 0 where
+  pub comes : o ≡ tried e a

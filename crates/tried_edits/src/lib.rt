@@ -1,5 +1,6 @@
 // An edit tried: 0 and nothing written where its old and its new agree, 10 where there is no room for its row, else it
 // is written down as one row, a step of cost 1, and carried out.
+use crate::removal::RemovedEdge;
 use graph::Edit;
 use graph::Reading;
 use graph_tables::EdgeRecord;
@@ -7,12 +8,12 @@ use graph_tables::Head;
 use graph_tables::edges::place_edge;
 use graph_tables::incidence::attach;
 use journal::put_row;
-use journal::removal::EdgeWords;
 ghost use mathlib.Core.Path.{_≡_};
 ghost use mathlib.Core.Bool.{_&&_};
 ghost use Prim.Native.Nat.{_+_, _*_, _^_, _≤_, _<_};
 ghost use lib.ListN.{length};
 ghost use Rattle.lists.specs.Choice.{_==_};
+ghost use Rattle.linked_lists.specs.Links.{CanMove};
 ghost use Rattle.graph.specs.Graph.{readingOf, IsWords};
 ghost use Rattle.graph_tables.specs.Tables.{
   state,
@@ -24,10 +25,12 @@ ghost use Rattle.graph_tables.specs.Tables.{
   entryState,
   exitState,
 };
-ghost use Rattle.graph_tables.specs.Tables.{EdgeRowIn, CanMove, CanInsertVertex};
+ghost use Rattle.graph_tables.specs.Tables.{EdgeRowIn, CanInsertVertex};
 ghost use Rattle.graph_tables.specs.Tables.{CanInsertEdge, CanRemoveEdge, CanMoveWord};
-ghost use Rattle.journal.specs.Written.{removalOf};
-ghost use Rattle.tried_edits.specs.Tried.{Tries};
+ghost use Rattle.tried_edits.specs.Plans.{removalOf};
+ghost use Rattle.tried_edits.specs.Tried.{attempt, outcome, Tries};
+
+pub mod removal; // what the row of an edge says of its removal
 
 // What a change came to: the head after it, its code (0 where it is accepted) and its cost; 0 where it wrote nothing,
 // since it is refused or alters nothing.
@@ -101,9 +104,10 @@ pub fn insert_vertex(
 ) -> Made
     requires { ⌜ CanInsertVertex n p (state head (now vertices) (now edges))
         × ((free ≡ 0 → ⊥) → 12 * row + 12 ≤ length (now journal)) ⌝ }
-    ensures { λ r. ⌜ Tries (Edit.InsertVertex n sort value p) row free (entryState head vertices edges)
-        (now (journal .entry)) (r .code) (r .cost) (state (r .head) (now (vertices .exit)) (now (edges .entry)))
-        (now (journal .exit)) ⌝ }
+    ensures { λ r. ⌜ Tries (Edit.InsertVertex n sort value p)
+        (attempt row free (entryState head vertices edges) (now (journal .entry)))
+        (outcome (r .code) (r .cost) (state (r .head) (now (vertices .exit)) (now (edges .entry)))
+        (now (journal .exit))) ⌝ }
 {
     if free == 0 {
         return unchanged(head, 10);
@@ -113,7 +117,7 @@ pub fn insert_vertex(
     altered(head)
 }
 
-// As graph_tables::edges::insert_edge, whose one caller is to stay apply_edit, so that it is compiled into it.
+// As graph_tables::edges::insert_edge, which has no caller here, so that it is compiled into those that it has.
 pub fn insert_edge(
     head: Head,
     vertices: &mut [u32],
@@ -132,9 +136,9 @@ pub fn insert_edge(
     requires { ⌜ (n < 2 ^ 31) × CanInsertEdge n a z sort Reading.Untested p out into
         (state head (now vertices) (now edges))
         × ((free ≡ 0 → ⊥) → 12 * row + 12 ≤ length (now journal)) ⌝ }
-    ensures { λ r. ⌜ Tries (Edit.InsertEdge n a z sort Reading.Untested p out into) row free
-        (entryState head vertices edges) (now (journal .entry)) (r .code) (r .cost)
-        (exitState (r .head) vertices edges) (now (journal .exit)) ⌝ }
+    ensures { λ r. ⌜ Tries (Edit.InsertEdge n a z sort Reading.Untested p out into)
+        (attempt row free (entryState head vertices edges) (now (journal .entry)))
+        (outcome (r .code) (r .cost) (exitState (r .head) vertices edges) (now (journal .exit))) ⌝ }
 {
     if free == 0 {
         return unchanged(head, 10);
@@ -167,12 +171,13 @@ pub fn remove_edge(
     row: u32,
     free: u32,
     n: u32,
-    w: EdgeWords,
+    w: RemovedEdge,
 ) -> Made
     requires { ⌜ (n < 2 ^ 31) × CanRemoveEdge n (w .alpha) (w .omega) (state head (now vertices) (now edges))
         × IsWords (w .kind) (w .decimetres) × ((free ≡ 0 → ⊥) → 12 * row + 12 ≤ length (now journal)) ⌝ }
-    ensures { λ r. ⌜ Tries (removalOf n w) row free (entryState head vertices edges) (now (journal .entry)) (r .code)
-        (r .cost) (exitState (r .head) vertices edges) (now (journal .exit)) ⌝ }
+    ensures { λ r. ⌜ Tries (removalOf n w)
+        (attempt row free (entryState head vertices edges) (now (journal .entry)))
+        (outcome (r .code) (r .cost) (exitState (r .head) vertices edges) (now (journal .exit))) ⌝ }
 {
     if free == 0 {
         return unchanged(head, 10);
@@ -211,9 +216,10 @@ pub fn set_vertex(
     value2: u32,
 ) -> Made
     requires { ⌜ VertexRowIn (now vertices) n × ((free ≡ 0 → ⊥) → 12 * row + 12 ≤ length (now journal)) ⌝ }
-    ensures { λ r. ⌜ Tries (Edit.SetVertex n sort value sort2 value2) row free (entryState head vertices edges)
-        (now (journal .entry)) (r .code) (r .cost) (state (r .head) (now (vertices .exit)) (now (edges .entry)))
-        (now (journal .exit)) ⌝ }
+    ensures { λ r. ⌜ Tries (Edit.SetVertex n sort value sort2 value2)
+        (attempt row free (entryState head vertices edges) (now (journal .entry)))
+        (outcome (r .code) (r .cost) (state (r .head) (now (vertices .exit)) (now (edges .entry)))
+        (now (journal .exit))) ⌝ }
 {
     if agree(sort, sort2, value, value2) {
         return unchanged(head, 0);
@@ -258,9 +264,10 @@ pub fn set_edge(
 ) -> Made
     requires { ⌜ EdgeRowIn (now edges) n × IsWords kind decimetres × IsWords kind2 decimetres2 × ((free ≡ 0 → ⊥)
         → 12 * row + 12 ≤ length (now journal)) ⌝ }
-    ensures { λ r. ⌜ Tries (Edit.SetEdge n sort (readingOf kind decimetres) sort2 (readingOf kind2 decimetres2)) row
-        free (entryState head vertices edges) (now (journal .entry)) (r .code) (r .cost)
-        (state (r .head) (now (vertices .entry)) (now (edges .exit))) (now (journal .exit)) ⌝ }
+    ensures { λ r. ⌜ Tries (Edit.SetEdge n sort (readingOf kind decimetres) sort2 (readingOf kind2 decimetres2))
+        (attempt row free (entryState head vertices edges) (now (journal .entry)))
+        (outcome (r .code) (r .cost) (state (r .head) (now (vertices .entry)) (now (edges .exit)))
+        (now (journal .exit))) ⌝ }
 {
     if same_edge(sort, sort2, kind, kind2, decimetres, decimetres2) {
         return unchanged(head, 0);
@@ -301,8 +308,10 @@ pub fn move_vertex(
 ) -> Made
     requires { ⌜ CanMove vertexLinks n q (now vertices) (vertexListEnds head) × ((free ≡ 0 → ⊥)
         → 12 * row + 12 ≤ length (now journal)) ⌝ }
-    ensures { λ r. ⌜ Tries (Edit.MoveVertex n p q) row free (entryState head vertices edges) (now (journal .entry))
-        (r .code) (r .cost) (state (r .head) (now (vertices .exit)) (now (edges .entry))) (now (journal .exit)) ⌝ }
+    ensures { λ r. ⌜ Tries (Edit.MoveVertex n p q)
+        (attempt row free (entryState head vertices edges) (now (journal .entry)))
+        (outcome (r .code) (r .cost) (state (r .head) (now (vertices .exit)) (now (edges .entry)))
+        (now (journal .exit))) ⌝ }
 {
     if p == q {
         return unchanged(head, 0);
@@ -329,8 +338,10 @@ pub fn move_edge(
 ) -> Made
     requires { ⌜ CanMove edgeLinks n q (now edges) (edgeListEnds head)
         × ((free ≡ 0 → ⊥) → 12 * row + 12 ≤ length (now journal)) ⌝ }
-    ensures { λ r. ⌜ Tries (Edit.MoveEdge n p q) row free (entryState head vertices edges) (now (journal .entry))
-        (r .code) (r .cost) (state (r .head) (now (vertices .entry)) (now (edges .exit))) (now (journal .exit)) ⌝ }
+    ensures { λ r. ⌜ Tries (Edit.MoveEdge n p q)
+        (attempt row free (entryState head vertices edges) (now (journal .entry)))
+        (outcome (r .code) (r .cost) (state (r .head) (now (vertices .entry)) (now (edges .exit)))
+        (now (journal .exit))) ⌝ }
 {
     if p == q {
         return unchanged(head, 0);
@@ -359,8 +370,9 @@ pub fn move_word(
 ) -> Made
     requires { ⌜ CanMoveWord w v u q (state head (now vertices) (now edges))
         × ((free ≡ 0 → ⊥) → 12 * row + 12 ≤ length (now journal)) ⌝ }
-    ensures { λ r. ⌜ Tries (Edit.MoveWord w v p u q) row free (entryState head vertices edges) (now (journal .entry))
-        (r .code) (r .cost) (exitState (r .head) vertices edges) (now (journal .exit)) ⌝ }
+    ensures { λ r. ⌜ Tries (Edit.MoveWord w v p u q)
+        (attempt row free (entryState head vertices edges) (now (journal .entry)))
+        (outcome (r .code) (r .cost) (exitState (r .head) vertices edges) (now (journal .exit))) ⌝ }
 {
     if agree(v, u, p, q) {
         return unchanged(head, 0);

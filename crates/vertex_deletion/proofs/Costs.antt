@@ -10,10 +10,10 @@ use Rattle.graph_tables.specs.Tables.{State, incidenceLinks, endsAt}
 use Rattle.graph_tables.specs.Holds.{Holds}
 use Rattle.graph_tables.specs.Capacities.{Sized}
 use Rattle.graph_tables.proofs.Frames.{valid-i}
-use Rattle.queries.specs.Walks.{CanWalk, countedAt, distinctEdgesAt}
-use Rattle.queries.proofs.Answers.{can-walk}
-use Rattle.queries.proofs.ListWalks.{sum-few}
-use Rattle.queries.proofs.Counts.{counted-le, edges-counted}
+use Rattle.walks.specs.Walks.{CanWalk, countedAt, distinctEdgesAt}
+use Rattle.walks.proofs.Walkable.{can-walk}
+use Rattle.walks.proofs.ListWalks.{sum-few}
+use Rattle.walks.proofs.Counts.{counted-le, edges-counted}
 
 module _ (b : Bounds) (s : State) (z : Sized b s) (g : Graph) (h : Holds s g) (a : ℕ) (i : VertexThere g a) where
   pub can-count : CanWalk (s .vertices) (s .edges) a

@@ -17,17 +17,19 @@ use Rattle.graph_tables.specs.declared.Lookup.{Lookup}
 use Rattle.graph_tables.specs.declared.Lookup.the-variants.{Found, Missing}
 use Rattle.graph_tables.specs.Tables.{State, foundV}
 use Rattle.graph_tables.specs.Holds.{Holds}
-use Rattle.change_codes.proofs.Found.{vertex-there, vertex-lacking}
+use Rattle.graph_tables.proofs.LookedUp.{vertex-there, vertex-lacking}
 use Rattle.timeline.specs.declared.Position.{Position}
 use Rattle.timeline.specs.Current.{afterStep}
 use Rattle.timeline.specs.Steps.{Journal}
 use Rattle.timeline.proofs.Steps.{holds-current, sound-current}
-use Rattle.vertex_deletion.specs.Making.{Making}
+use Rattle.vertex_deletion.specs.Making.{stepStart, stage, Making}
+use Rattle.tried_edits.specs.Tried.{outcome}
 use Rattle.vertex_deletion.specs.Deleting.{deletionCode, Deletes}
-use Rattle.vertex_deletion.proofs.Rows.{some-cost, making-end}
+use Rattle.graph.proofs.ChangeLaws.{cost-real}
+use Rattle.vertex_deletion.proofs.Rows.{making-end}
 
 module _ (a free : ℕ) (j : Position) (s : State) (t : List ℕ) (f : Lookup) (e : f ≡ foundV (s .vertices) a) where
-  pub lacking : f ≡ Missing → Deletes a free j s t 4 0 s t
+  pub lacking : f ≡ Missing → Deletes a free j s t (outcome 4 0 s t)
   lacking i = record {
     coded = λ b l k.
         sym (ap (λ (p : Bool). not p ⇒ 4 else ltb free (cost (DeleteVertex a) (presentIn l)) ⇒ 10 else 0)
@@ -53,7 +55,7 @@ module _ (a free : ℕ) (j : Position) (s : State) (t : List ℕ) (f : Lookup) (
       by-room b l k p z =
           sym (ap (λ (u : Bool). not u ⇒ 4 else ltb free (cost (DeleteVertex a) (presentIn l)) ⇒ 10 else 0) (there b l k) ∙ ap (λ (u : Bool). u ⇒ 10 else 0) z)
 
-      pub too-dear : free < n → Deletes a free j s t 10 0 s t
+      pub too-dear : free < n → Deletes a free j s t (outcome 10 0 s t)
       too-dear h = record {
         coded = λ b l k. by-room b l k true (lt-ltb free (cost (DeleteVertex a) (presentIn l)) (omega (arith, h, costs b l k)));
         stays = λ y. ((λ z. omega arith), refl, refl);
@@ -61,15 +63,15 @@ module _ (a free : ℕ) (j : Position) (s : State) (t : List ℕ) (f : Lookup) (
       }
 
       pub deleted : n ≤ free → (b : Bounds) (l : Timeline) → Journal b j s t l → (s′ : State) (t′ : List ℕ)
-          → ((b : Bounds) (l : Timeline) → Journal b j s t l → Making (DeleteVertex a) b j s t l n s′ t′ (j .used + n)) → Deletes a free j s t 0 n s′ t′
+          → ((b : Bounds) (l : Timeline) → Journal b j s t l → Making (DeleteVertex a) (stepStart b j s t l) n (stage s′ t′ (j .used + n))) → Deletes a free j s t (outcome 0 n s′ t′)
       deleted h b₀ l₀ k₀ s′ t′ w = record {
         coded = λ b l k. by-room b l k false (le-ltb free (cost (DeleteVertex a) (presentIn l)) (omega (arith, h, costs b l k)));
-        stays = λ z. absurd (omega (arith, z, costs b₀ l₀ k₀, some-cost (DeleteVertex a) (presentIn l₀)));
+        stays = λ z. absurd (omega (arith, z, costs b₀ l₀ k₀, cost-real (DeleteVertex a) (presentIn l₀)));
         made = λ y. (
           refl,
           record {
             costs = costs;
-            steps = λ b l k. making-end (DeleteVertex a) b j s t l n s′ t′ (j .used + n) (w b l k) (costs b l k) refl (afterStep j (s′ .head) n .position) refl refl refl;
+            steps = λ b l k. making-end (w b l k) (costs b l k) refl (afterStep j (s′ .head) n .position) refl refl refl;
           },
         );
       }

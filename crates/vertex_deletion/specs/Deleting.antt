@@ -13,6 +13,7 @@ use Rattle.graph.specs.Changes.{cost}
 use Rattle.history.specs.Machine.{Timeline, presentIn, extended, stepOf}
 use Rattle.journal.specs.Rows.{signed}
 use Rattle.graph_tables.specs.Tables.{State}
+use Rattle.tried_edits.specs.Tried.{Outcome}
 use Rattle.timeline.specs.Current.{afterStep}
 use Rattle.timeline.specs.declared.Position.{Position}
 use Rattle.timeline.specs.Steps.{Journal}
@@ -22,17 +23,14 @@ abbrev pub deletionCode : ℕ → ℕ → Graph → ℕ
 deletionCode a free g = not (hasVertex g a) ⇒ 4 else ltb free (cost (DeleteVertex a) g) ⇒ 10 else 0
 
 -- whatever timeline there was: the cost is that of the deletion, which is its next step once a bench signs it
-pub record DeletionMade (a : ℕ) (j : Position) (s : State) (t : List ℕ) (n : ℕ) (s′ : State) (t′ : List ℕ) : Type 0
-  where
-    pub costs : (b : Bounds) (l : Timeline) → Journal b j s t l → n ≡ cost (DeleteVertex a) (presentIn l)
-    pub steps : (b : Bounds) (l : Timeline) → Journal b j s t l → (bench : ℕ)
-        → Journal b (afterStep j (s′ .head) n .position) s′ (signed (j .used) bench t′)
-        (extended (stepOf bench (DeleteVertex a) (presentIn l)) l)
+pub record DeletionMade (a : ℕ) (j : Position) (s : State) (t : List ℕ) (o : Outcome) : Type 0 where
+  pub costs : (b : Bounds) (l : Timeline) → Journal b j s t l → o .cost ≡ cost (DeleteVertex a) (presentIn l)
+  pub steps : (b : Bounds) (l : Timeline) → Journal b j s t l → (bench : ℕ)
+      → Journal b (afterStep j (o .state .head) (o .cost) .position) (o .state)
+      (signed (j .used) bench (o .journal)) (extended (stepOf bench (DeleteVertex a) (presentIn l)) l)
 
 -- cost 0 says that it is refused and nothing was written
-pub record Deletes (a free : ℕ) (j : Position) (s : State) (t : List ℕ) (code n : ℕ) (s′ : State) (t′ : List ℕ) : Type 0
-  where
-    pub coded : (b : Bounds) (l : Timeline) → Journal b j s t l
-        → code ≡ deletionCode a free (presentIn l)
-    pub stays : n ≡ 0 → (code ≢ 0) × (s′ ≡ s) × (t′ ≡ t)
-    pub made : n ≢ 0 → (code ≡ 0) × DeletionMade a j s t n s′ t′
+pub record Deletes (a free : ℕ) (j : Position) (s : State) (t : List ℕ) (o : Outcome) : Type 0 where
+  pub coded : (b : Bounds) (l : Timeline) → Journal b j s t l → o .code ≡ deletionCode a free (presentIn l)
+  pub stays : o .cost ≡ 0 → (o .code ≢ 0) × (o .state ≡ s) × (o .journal ≡ t)
+  pub made : o .cost ≢ 0 → (o .code ≡ 0) × DeletionMade a j s t o

@@ -15,7 +15,7 @@ use Rattle.graph.specs.Plans.{editsOf, applyAll, AppliesAll}
 use Rattle.history.specs.Machine.{Timeline, presentIn}
 use Rattle.graph_tables.specs.Tables.{State, vfirst}
 use Rattle.graph_tables.specs.Holds.{Holds}
-use Rattle.queries.specs.Plans.{planRemoveVertex, planRemoveEdge}
+use Rattle.tried_edits.specs.Plans.{planRemoveVertex, planRemoveEdge}
 use Rattle.journal.specs.Rows.{costing}
 use Rattle.timeline.specs.declared.Position.{Position}
 use Rattle.timeline.specs.Steps.{Open}
@@ -32,20 +32,40 @@ pub data Rest (x : Change) (b : Bounds) (g : Graph) (es : List Edit) : Type 0 wh
   none : es ≡ [] → Rest x b g es
 
 -- e is the first edit of the change
-pub record First (x : Change) (b : Bounds) (g : Graph) (e : Edit) : Type 0 where
+pub record FirstEdit (x : Change) (b : Bounds) (g : Graph) (e : Edit) : Type 0 where
   pub edits : List Edit
   pub all : editsOf x g ≡ e ∷ edits
   pub rest : Rest x b (apply e g) edits
 
+-- where a step begins: bounds, position, tables and journal there, and the timeline that they stand for
+pub record StepStart : Type 0 where
+  pub bounds : Bounds
+  pub position : Position
+  pub state : State
+  pub journal : List ℕ
+  pub line : Timeline
+
+abbrev pub stepStart : Bounds → Position → State → List ℕ → Timeline → StepStart
+stepStart b j s t l = record { bounds = b; position = j; state = s; journal = t; line = l }
+
+-- between two rows: the tables, the journal, and how many rows it has
+pub record Stage : Type 0 where
+  pub state : State
+  pub journal : List ℕ
+  pub used : ℕ
+
+abbrev pub stage : State → List ℕ → ℕ → Stage
+stage s t u = record { state = s; journal = t; used = u }
+
 -- between the rows of the change: what is left makes the step's graph of the one that the tables hold, a row an edit
-pub record Making (x : Change) (b : Bounds) (j : Position) (s₀ : State) (t₀ : List ℕ) (l : Timeline) (c : ℕ) (s : State)
-    (t : List ℕ) (u : ℕ) : Type 0 where
+pub record Making (x : Change) (o : StepStart) (c : ℕ) (n : Stage) : Type 0 where
   pub graph : Graph
-  pub holds : Holds s graph
-  pub opened : Open b j s₀ t₀ l (costing c) s t u
+  pub holds : Holds (n .state) graph
+  pub opened : Open (o .bounds) (o .position) (o .state) (o .journal) (o .line) (costing c) (n .state) (n .journal)
+      (n .used)
   pub edits : List Edit
-  pub rest : Rest x b graph edits
+  pub rest : Rest x (o .bounds) graph edits
   pub applies : AppliesAll edits graph
-  pub inside : All (EditIn b) edits
-  pub makes : applyAll edits graph ≡ changed x (presentIn l)
-  pub rows : u + length edits ≡ j .used + cost x (presentIn l)
+  pub inside : All (EditIn (o .bounds)) edits
+  pub makes : applyAll edits graph ≡ changed x (presentIn (o .line))
+  pub rows : n .used + length edits ≡ o .position .used + cost x (presentIn (o .line))

@@ -2,15 +2,16 @@
 use graph::Change;
 use graph_tables::Head;
 use graph_tables::Lookup;
+use graph_tables::fields::VERTEX_FIRST;
+use graph_tables::fields::VERTEX_PREV;
+use graph_tables::fields::VERTEX_TYPE;
+use graph_tables::fields::VERTEX_VALUE;
 use graph_tables::lookups::find_vertex;
-use graph_tables::rows::first_word;
-use graph_tables::rows::vertex_prev;
-use graph_tables::rows::vertex_type;
-use graph_tables::rows::vertex_value;
+use graph_tables::rows::vertex_field;
 use journal::put_row;
-use journal::removal::edge_words;
 use timeline::Current;
 use tried_edits::Made;
+use tried_edits::removal::removed_edge;
 use tried_edits::unchanged;
 ghost use mathlib.Core.Path.{_≡_};
 ghost use Prim.Native.Nat.{_+_, _*_, _≤_};
@@ -25,10 +26,11 @@ ghost use Rattle.graph_tables.specs.Holds.{Holds};
 ghost use Rattle.graph_tables.specs.Capacities.{Sized};
 ghost use Rattle.journal.specs.Rows.{costing};
 ghost use Rattle.journal.specs.Written.{Written};
-ghost use Rattle.queries.specs.Plans.{planRemoveVertex, planRemoveEdge};
+ghost use Rattle.tried_edits.specs.Plans.{planRemoveVertex, planRemoveEdge};
 ghost use Rattle.timeline.specs.Steps.{Journal};
-ghost use Rattle.vertex_deletion.specs.Making.{nextEdit, Making};
+ghost use Rattle.vertex_deletion.specs.Making.{nextEdit, stepStart, stage, Making};
 ghost use Rattle.vertex_deletion.specs.Deleting.{Deletes};
+ghost use Rattle.tried_edits.specs.Tried.{outcome};
 
 // What the deletion of vertex a, which is there, costs: 1, and one more for each distinct edge at it.
 fn cost_of(head: Head, vertices: &[u32], edges: &[u32], a: u32) -> u32
@@ -37,7 +39,7 @@ fn cost_of(head: Head, vertices: &[u32], edges: &[u32], a: u32) -> u32
     ensures { λ r. ⌜ ((b : Bounds) → (g : Graph) → Holds (entryState head vertices edges) g
         → Allowed b g (Change.DeleteVertex a) → r ≡ cost (Change.DeleteVertex a) g) ⌝ }
 {
-    queries::questions::count_edges(vertices, edges, a) + 1
+    walks::counting::count_edges(vertices, edges, a) + 1
 }
 
 // Takes edge n out, as one row of a step of this cost.
@@ -56,7 +58,7 @@ fn remove_edge(
     ensures { λ r. ⌜ Written (planRemoveEdge (now (edges .entry)) n) (costing cost) row (entryState head vertices edges)
         (now (journal .entry)) (exitState r vertices edges) (now (journal .exit)) ⌝ }
 {
-    let w = edge_words(edges, n);
+    let w = removed_edge(edges, n);
     put_row(
         journal,
         row,
@@ -91,9 +93,9 @@ fn remove_vertex(
         (entryState head vertices edges) (now (journal .entry)) (state r (now (vertices .exit)) (now (edges .entry)))
         (now (journal .exit)) ⌝ }
 {
-    let s = vertex_type(vertices, n);
-    let x = vertex_value(vertices, n);
-    let p = vertex_prev(vertices, n);
+    let s = vertex_field(vertices, n, VERTEX_TYPE);
+    let x = vertex_field(vertices, n, VERTEX_VALUE);
+    let p = vertex_field(vertices, n, VERTEX_PREV);
     put_row(journal, row, cost, 2, n, s, x, p, 0, 0, 0, 0, 0);
     graph_tables::vertices::remove_vertex(head, vertices, edges, n)
 }
@@ -114,7 +116,7 @@ fn next_row(
     ensures { λ r. ⌜ Written (nextEdit (entryState head vertices edges) a) (costing cost) row
         (entryState head vertices edges) (now (journal .entry)) (exitState r vertices edges) (now (journal .exit)) ⌝ }
 {
-    let w = first_word(vertices, a);
+    let w = vertex_field(vertices, a, VERTEX_FIRST);
     if w != 0 {
         return remove_edge(head, vertices, edges, journal, row, cost, w / 2);
     }
@@ -136,9 +138,9 @@ fn make_rows(
         × Journal b (current .position) (state (current .head) (now vertices) (now edges)) (now journal) l) ⌝ }
     ensures { λ r. ⌜ ((b : Bounds) → (l : Timeline) → Allowed b (presentIn l) (Change.DeleteVertex a)
         → Journal b (current .position) (entryState (current .head) vertices edges) (now (journal .entry)) l
-        → Making (Change.DeleteVertex a) b (current .position) (entryState (current .head) vertices edges)
-        (now (journal .entry)) l rows (exitState r vertices edges) (now (journal .exit))
-        (current .position .used + rows)) ⌝ }
+        → Making (Change.DeleteVertex a)
+        (stepStart b (current .position) (entryState (current .head) vertices edges) (now (journal .entry)) l) rows
+        (stage (exitState r vertices edges) (now (journal .exit)) (current .position .used + rows))) ⌝ }
 {
     let mut h = current.head;
     let mut u = current.position.used;
@@ -167,7 +169,8 @@ pub fn delete(
         × Journal b (current .position) (state (current .head) (now vertices) (now edges)) (now journal) l
         × (12 * (current .position .used + free) ≤ length (now journal))) ⌝ }
     ensures { λ r. ⌜ Deletes vertex free (current .position) (entryState (current .head) vertices edges)
-        (now (journal .entry)) (r .code) (r .cost) (exitState (r .head) vertices edges) (now (journal .exit)) ⌝ }
+        (now (journal .entry))
+        (outcome (r .code) (r .cost) (exitState (r .head) vertices edges) (now (journal .exit))) ⌝ }
 {
     let found = find_vertex(vertices, vertex);
     let Lookup::Found(_) = found else {

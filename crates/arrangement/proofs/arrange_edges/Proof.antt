@@ -2,7 +2,8 @@
 use mathlib.Core.Path.{sym, ap, _∙_}
 use borrow.Author.Needs.{needs}
 use lib.ListN.{replicate}
-use Rattle.image.specs.Checks.{codeOf, numbersIn}
+use Rattle.image_check.specs.Checks.{codeOf}
+use Rattle.image.specs.Image.{numbersIn}
 use Rattle.arrangement.specs.Scratch.{marked, settled}
 use Rattle.arrangement.proofs.Settles.{refused-is}
 use Rattle.arrangement.proofs.Items.{edges-refused, edges-settled}

@@ -5,8 +5,8 @@ use borrow.Author.Tests.{not-true, not-false}
 use lib.ListN.{length, replicate}
 use Rattle.lists.specs.Lists.{member}
 use Rattle.graph.specs.WellFormed.{wordsAt}
-use Rattle.image.specs.Image.{edgesFrom}
-use Rattle.image.specs.Checks.{codeOf, numbersIn}
+use Rattle.image.specs.Image.{edgesFrom, numbersIn}
+use Rattle.image_check.specs.Checks.{codeOf}
 use Rattle.arrangement.specs.Scratch.{marked, settled}
 use Rattle.arrangement.proofs.Settles.{refused-is}
 use Rattle.arrangement.proofs.Items.{words-refused, words-missing, words-settled}

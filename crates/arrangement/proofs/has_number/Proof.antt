@@ -5,7 +5,7 @@ use native.Mathlib.Omega.{arith}
 use borrow.Author.Needs.{needs}
 use lib.ListN.{drop}
 use Rattle.lists.specs.Lists.{member}
-use Rattle.image.specs.Checks.{numbersIn}
+use Rattle.image.specs.Image.{numbersIn}
 use Rattle.arrangement.proofs.Turns.{has-here, has-turn, none-left}
 use Rattle.arrangement.proofs.has_number.Statement.{statement}
 use Rattle.arrangement.proofs.has_number.Tie as tie

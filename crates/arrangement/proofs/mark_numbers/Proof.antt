@@ -4,7 +4,7 @@ use mathlib.Core.Path.{_≡_, refl, sym, ap, _∙_}
 use native.Mathlib.Omega.{arith}
 use borrow.Author.Needs.{needs}
 use lib.ListN.{length, drop}
-use Rattle.image.specs.Checks.{numbersIn}
+use Rattle.image.specs.Image.{numbersIn}
 use Rattle.arrangement.specs.Scratch.{marked}
 use Rattle.arrangement.proofs.Turns.{marks-turn, none-left}
 use Rattle.arrangement.proofs.mark_numbers.Statement.{statement}

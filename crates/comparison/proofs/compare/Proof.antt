@@ -3,7 +3,7 @@ use Prim.Native.Nat.{_≤_}
 use mathlib.Core.Path.{_≡_, sym, _∙_}
 use native.Mathlib.Omega.{arith}
 use borrow.Author.Needs.{needs}
-use Rattle.image.specs.Checks.{savedBounds, loadCode}
+use Rattle.image_check.specs.Checks.{savedBounds, loadCode}
 use Rattle.comparison.proofs.Outcomes.{first-refused, second-refused, few, under-first, under-second, counted-all}
 use Rattle.comparison.proofs.compare.Statement.{statement}
 use Rattle.comparison.proofs.compare.Tie as tie

@@ -1,6 +1,6 @@
 -- `comparison::saved_code` meets its contract.
 use mathlib.Core.Path.{ap, _∙_}
-use Rattle.image.specs.Checks.{codeOf}
+use Rattle.image_check.specs.Checks.{codeOf}
 use borrow.Author.Needs.{needs}
 use Rattle.comparison.proofs.saved_code.Statement.{statement}
 use Rattle.comparison.proofs.saved_code.Tie as tie

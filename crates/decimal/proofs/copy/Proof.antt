@@ -6,7 +6,8 @@ use lib.ListN.{length, getD, drop, length-set, drop-of-length-le}
 use lib.Seq.{sets}
 use mathlib.Core.List.{[]}
 use Prim.Native.Nat.{_+_, _-_, _≤_}
-use Rattle.decimal.proofs.Stores.{one-drop, stored-byte, stored-left}
+use Rattle.decimal.proofs.Stores.{stored-byte, stored-left}
+use Rattle.lists.proofs.WordLaws.{one-drop}
 use Rattle.decimal.proofs.copy.Statement.{statement}
 use Rattle.decimal.proofs.copy.Tie as tie
 

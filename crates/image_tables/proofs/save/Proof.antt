@@ -30,7 +30,6 @@ edges-requires c κs =
     let n = length (s .args .out .now) in
     let l = lengths (held s) n (asked s) in (
       some-e (held s) n (asked s),
-      omega (arith, asked s .sized .edges, asked s .sized .fewEdges),
       omega (arith, c .edge-offset .ensures, l .edges, l .room, c .before .before .before .before .header .kept),
     )
 

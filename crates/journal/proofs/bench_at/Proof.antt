@@ -8,7 +8,7 @@ use Rattle.journal.proofs.bench_at.Tie as tie
 returns : tie.Need-returns
 returns c =
     let s = c .before .before .before in
-    bench-read (s .args .journal .now) (s .args .row) _ _ refl (c .before .wide .ensures)
+    bench-read (s .args .journal .now) (s .args .row) _ _ refl (c .before .wide .ensures .0)
 
 pub bench-at-spec : {M : Type 1} → statement M
 bench-at-spec =

@@ -8,7 +8,7 @@ use Rattle.journal.proofs.cost_at.Tie as tie
 returns : tie.Need-returns
 returns c =
     let s = c .before .before .before in
-    cost-read (s .args .journal .now) (s .args .row) _ _ refl (c .before .wide .ensures)
+    cost-read (s .args .journal .now) (s .args .row) _ _ refl (c .before .wide .ensures .0)
 
 pub cost-at-spec : {M : Type 1} → statement M
 cost-at-spec =

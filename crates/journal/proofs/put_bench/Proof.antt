@@ -7,7 +7,7 @@ use Rattle.journal.proofs.put_bench.Tie as tie
 returns : tie.Need-returns
 returns c =
     let a = c .before .before .args in
-    bench-written (a .journal .now) (a .row) _ (a .bench) (c .wide .ensures)
+    bench-written (a .journal .now) (a .row) _ (a .bench) (c .wide .ensures .0)
 
 pub put-bench-spec : {M : Type 1} → statement M
 put-bench-spec =

@@ -18,7 +18,7 @@ returns c =
     let w = c .before .before .before .before .before .before .before .before .wide in
     let e = c .before .before .put-five2 .ensures ∙ ap (storeFrom (12 * w .result + 1 + 1 + 1 + 1 + 1) (a .e ∷ a .f ∷ a .g ∷ a .h ∷ a .j ∷ []))
     (c .before .before .before .before .before .before .put-five .ensures) in
-    words-written (a .journal .now) _ (a .row) (w .result) (a .cost) (a .k ∷ a .a ∷ a .b ∷ a .c ∷ a .d ∷ a .e ∷ a .f ∷ a .g ∷ a .h ∷ a .j ∷ []) e (w .ensures)
+    words-written (a .journal .now) _ (a .row) (w .result) (a .cost) (a .k ∷ a .a ∷ a .b ∷ a .c ∷ a .d ∷ a .e ∷ a .f ∷ a .g ∷ a .h ∷ a .j ∷ []) e (w .ensures .0)
 
 pub put-row-spec : {M : Type 1} → statement M
 put-row-spec =

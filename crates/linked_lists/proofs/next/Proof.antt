@@ -10,14 +10,14 @@ returns : tie.Need-returns
 unfolding linkOf
 returns c = simp (eq-eqb _ _ (c .if1 .taken))
 
-place-requires : tie.Need-place-requires
-place-requires c κs = (search needs, (search needs, (search needs, omega arith)))
+address-requires : tie.Need-address-requires
+address-requires c κs = (search needs, (search needs, (search needs, omega arith)))
 
 returns-2 : tie.Need-returns-2
 unfolding linkOf
-returns-2 c = simp (c .before .place .ensures .0, le-ltb _ _ (c .before .place .ensures .2), ne-eqb _ _ (c .before .before .if1 .left))
+returns-2 c = simp (c .before .address .ensures .0, le-ltb _ _ (c .before .address .ensures .2), ne-eqb _ _ (c .before .before .if1 .left))
 
 pub next-spec : {M : Type 1} → statement M
 next-spec =
     tie.close
-    (tie.spec returns place-requires (λ c. search needs) (λ c. search needs) (λ c. search needs) returns-2)
+    (tie.spec returns address-requires (λ c. search needs) (λ c. search needs) (λ c. search needs) returns-2)

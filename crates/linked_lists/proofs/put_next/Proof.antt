@@ -11,13 +11,13 @@ returns : tie.Need-returns
 unfolding putT putE
 returns c = simp (eq-eqb _ _ (c .if1 .taken)) (refl, refl)
 
-place-requires : tie.Need-place-requires
-place-requires c κs = (search needs, (search needs, (search needs, omega arith)))
+address-requires : tie.Need-address-requires
+address-requires c κs = (search needs, (search needs, (search needs, omega arith)))
 
 returns-2 : tie.Need-returns-2
 unfolding putT putE
-returns-2 c = simp (c .place .ensures .0, le-ltb _ _ (c .place .ensures .2), ne-eqb _ _ (c .before .if1 .left)) (refl, refl)
+returns-2 c = simp (c .address .ensures .0, le-ltb _ _ (c .address .ensures .2), ne-eqb _ _ (c .before .if1 .left)) (refl, refl)
 
 pub put-next-spec : {M : Type 1} → statement M
 put-next-spec =
-    tie.close (tie.spec returns place-requires (λ c. search needs) (λ c. search needs) (λ c. search needs) (λ c. search needs) returns-2)
+    tie.close (tie.spec returns address-requires (λ c. search needs) (λ c. search needs) (λ c. search needs) (λ c. search needs) returns-2)

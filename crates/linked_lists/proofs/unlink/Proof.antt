@@ -6,8 +6,8 @@ use borrow.Author.Needs.{needs}
 use Rattle.linked_lists.proofs.unlink.Statement.{statement}
 use Rattle.linked_lists.proofs.unlink.Tie as tie
 
-place-requires : tie.Need-place-requires
-place-requires c κs =
+address-requires : tie.Need-address-requires
+address-requires c κs =
     let s = c .before in
     (s .pre .valid, (s .pre .node, (s .pre .here, omega arith)))
 
@@ -17,8 +17,10 @@ join-requires c κs =
     let s = a .before .before in (
       s .pre .valid,
       (
-        inside-by (s .args .layout) (word-prev (s .args .layout) (s .args .table .now) (s .args .ends) (s .args .x) (s .pre .node) (a .place .ensures .2) (a .place .ensures .0)) refl (s .pre .prev),
-        inside-by (s .args .layout) (word-next (s .args .layout) (s .args .table .now) (s .args .ends) (s .args .x) (s .pre .node) (a .place .ensures .2) (a .place .ensures .0)) refl (s .pre .next),
+        inside-by (s .args .layout) (word-prev (s .args .layout) (s .args .table .now) (s .args .ends) (s .args .x) (s .pre .node) (a .address .ensures .2) (a .address .ensures .0)) refl
+            (s .pre .prev),
+        inside-by (s .args .layout) (word-next (s .args .layout) (s .args .table .now) (s .args .ends) (s .args .x) (s .pre .node) (a .address .ensures .2) (a .address .ensures .0)) refl
+            (s .pre .next),
       ),
     )
 
@@ -27,11 +29,11 @@ returns c =
     let j = c .before .before in
     let a = j .before .before .before .before in
     let s = a .before .before in
-    unlink-steps _ _ _ _ (word-prev (s .args .layout) (s .args .table .now) (s .args .ends) (s .args .x) (s .pre .node) (a .place .ensures .2) (a .place .ensures .0))
-    (word-next (s .args .layout) (s .args .table .now) (s .args .ends) (s .args .x) (s .pre .node) (a .place .ensures .2) (a .place .ensures .0)) (j .join .ensures)
+    unlink-steps _ _ _ _ (word-prev (s .args .layout) (s .args .table .now) (s .args .ends) (s .args .x) (s .pre .node) (a .address .ensures .2) (a .address .ensures .0))
+    (word-next (s .args .layout) (s .args .table .now) (s .args .ends) (s .args .x) (s .pre .node) (a .address .ensures .2) (a .address .ensures .0)) (j .join .ensures)
 
 pub unlink-spec : {M : Type 1} → statement M
 unlink-spec =
     tie.close
-    (tie.spec place-requires (λ c. search needs) (λ c. search needs) (λ c. search needs) (λ c. search needs) (λ c. search needs) join-requires
+    (tie.spec address-requires (λ c. search needs) (λ c. search needs) (λ c. search needs) (λ c. search needs) (λ c. search needs) join-requires
     (λ c. search needs) returns)

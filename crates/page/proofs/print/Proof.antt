@@ -1,6 +1,6 @@
 -- `page::print` meets its contract.
 use mathlib.Core.Path.{_≡_, sym, ap, _∙_}
-use Rattle.image.specs.Checks.{codeOf, offsetOf, loadCode}
+use Rattle.image_check.specs.Checks.{codeOf, offsetOf, loadCode}
 use Rattle.page.specs.Page.{pageBounds}
 use Rattle.page.proofs.PageLaws.{page-refused, page-short, page-done}
 use borrow.Author.Needs.{needs}

@@ -2,11 +2,12 @@
 use Prim.Native.Nat.{ℕ}
 use mathlib.Core.Path.{_≡_, refl, sym, ap, _∙_}
 use mathlib.Core.List.{List}
+use native.Mathlib.Omega.{arith}
 use borrow.Author.Needs.{needs}
 use Rattle.linked_lists.specs.Links.{nodes}
 use Rattle.graph.specs.declared.Reading.{Reading}
 use Rattle.graph_tables.specs.Tables.{incidenceLinks, endsAt, vfirst, wnext}
-use Rattle.queries.proofs.ListWalks.{Along, along-left, along-start, along-row, along-in, along-link, along-less, along-on, first-link}
+use Rattle.walks.proofs.ListWalks.{Along, along-left, along-start, along-row, along-in, along-link, along-less, along-on, first-link}
 use Rattle.graph.specs.declared.Reading.the-variants.{Untested}
 use Rattle.prices.specs.Prices.{later, lastTested}
 use Rattle.price_calls.specs.Ways.{readingTo, wayAt}
@@ -40,13 +41,13 @@ on vertices edges a b w k z way way′ r y p q n h =
     ∙ sym (ap (lastTested (readingTo edges b) way) (ahead-on _ _ incidenceLinks edges (endsAt vertices a) w 0 _ (k .walk) z y (along-link _ vertices edges a w 0 k z y n)))
     ∙ h
 
-first-word-requires : tie.Need-first-word-requires Inv-loop μ-loop
-first-word-requires c κs = c .before .before .pre .row
+vertex-field-requires : tie.Need-vertex-field-requires Inv-loop μ-loop
+vertex-field-requires c κs = (c .before .before .pre .row, omega arith)
 
 loop-holds : tie.Need-loop-holds Inv-loop μ-loop
 loop-holds c =
     let s = c .before .before .before in
-    (along-start _ _ _ _ (s .pre) _ (c .first-word .ensures), start _ _ _ _ _ (c .first-word .ensures))
+    (along-start _ _ _ _ (s .pre) _ (c .vertex-field .ensures), start _ _ _ _ _ (c .vertex-field .ensures))
 
 reading-to-requires : tie.Need-reading-to-requires Inv-loop μ-loop
 reading-to-requires c κs = along-row _ _ _ _ _ _ (c .before .loop .inv .0) (c .loop-test .taken)
@@ -76,4 +77,4 @@ returns c =
 pub one-way-spec : {M : Type 1} → statement M
 one-way-spec =
     tie.close
-    (tie.spec Inv-loop μ-loop first-word-requires loop-holds reading-to-requires (λ c κs. search needs) following-requires loop-less loop-again returns)
+    (tie.spec Inv-loop μ-loop vertex-field-requires loop-holds reading-to-requires (λ c κs. search needs) following-requires loop-less loop-again returns)

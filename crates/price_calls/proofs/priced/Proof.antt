@@ -5,9 +5,9 @@ use mathlib.Core.Bool.{true}
 use Rattle.graph.specs.Graph.{hasVertex}
 use Rattle.graph.proofs.Numbers.{vertex-once}
 use Rattle.graph_tables.specs.Tables.{state}
-use Rattle.queries.specs.Walks.{CanWalk}
-use Rattle.queries.proofs.Answers.{can-walk}
-use Rattle.change_codes.proofs.Found.{vertex-there, vertex-lacking}
+use Rattle.walks.specs.Walks.{CanWalk}
+use Rattle.walks.proofs.Walkable.{can-walk}
+use Rattle.graph_tables.proofs.LookedUp.{vertex-there, vertex-lacking}
 use Rattle.price_calls.proofs.BothWays.{price-is}
 use borrow.Author.Needs.{needs}
 use Rattle.price_calls.proofs.priced.Statement.{statement}

@@ -10,11 +10,11 @@ returns c = sym (pick-no _ _ _ _ (c .if1 .taken))
 
 returns-2 : tie.Need-returns-2
 returns-2 c =
-    sym (pick-no _ _ _ _ (λ e. c .if2 .taken (c .before .this .ensures ∙ e))) ∙ sym (pick-yes _ _ _ _ (c .before .before .if1 .left))
+    sym (pick-no _ _ _ _ (λ e. c .if2 .taken (c .before .half-field .ensures ∙ e))) ∙ sym (pick-yes _ _ _ _ (c .before .before .if1 .left))
 
 returns-3 : tie.Need-returns-3
 returns-3 c =
-    c .reading-at .ensures ∙ sym (pick-yes _ _ _ _ (sym (c .before .before .this .ensures) ∙ c .before .if2 .left))
+    c .reading-at .ensures ∙ sym (pick-yes _ _ _ _ (sym (c .before .before .half-field .ensures) ∙ c .before .if2 .left))
     ∙ sym (pick-yes _ _ _ _ (c .before .before .before .if1 .left))
 
 pub reading-to-spec : {M : Type 1} → statement M

@@ -4,9 +4,9 @@ use borrow.Author.Tests.{le-leb, lt-leb, lt-ltb, le-ltb}
 use Rattle.graph.proofs.Numbers.{vertex-once}
 use Rattle.graph_tables.specs.Tables.{state}
 use Rattle.commands.specs.Answers.{accepts}
-use Rattle.queries.proofs.Answers.{can-walk}
-use Rattle.queries.proofs.Degrees.{degree-is}
-use Rattle.change_codes.proofs.Found.{vertex-there, vertex-lacking}
+use Rattle.walks.proofs.Walkable.{can-walk}
+use Rattle.walks.proofs.Degrees.{degree-is}
+use Rattle.graph_tables.proofs.LookedUp.{vertex-there, vertex-lacking}
 use borrow.Author.Needs.{needs}
 use Rattle.question_calls.proofs.degree_of.Statement.{statement}
 use Rattle.question_calls.proofs.degree_of.Tie as tie

@@ -1,7 +1,7 @@
 -- `question_calls::edge_word` meets its contract.
 use mathlib.Core.Path.{sym, _∙_}
 use native.Mathlib.Omega.{arith}
-use Rattle.change_codes.proofs.Found.{edge-end}
+use Rattle.graph_tables.proofs.LookedUp.{edge-end}
 use borrow.Author.Needs.{needs}
 use Rattle.question_calls.proofs.edge_word.Statement.{statement}
 use Rattle.question_calls.proofs.edge_word.Tie as tie

@@ -4,8 +4,8 @@ use Rattle.lists.specs.Choice.{toBit}
 use Rattle.graph.proofs.Numbers.{edge-once}
 use Rattle.graph_tables.specs.Tables.{state}
 use Rattle.commands.specs.Answers.{accepts}
-use Rattle.queries.proofs.Answers.{edge-at, edge-before}
-use Rattle.change_codes.proofs.Found.{edge-there, edge-lacking}
+use Rattle.graph_tables.proofs.Answers.{edge-at, edge-before}
+use Rattle.graph_tables.proofs.LookedUp.{edge-there, edge-lacking}
 use borrow.Author.Needs.{needs}
 use Rattle.question_calls.proofs.order_of_edges.Statement.{statement}
 use Rattle.question_calls.proofs.order_of_edges.Tie as tie

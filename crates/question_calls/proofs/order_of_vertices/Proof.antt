@@ -4,8 +4,8 @@ use Rattle.lists.specs.Choice.{toBit}
 use Rattle.graph.proofs.Numbers.{vertex-once}
 use Rattle.graph_tables.specs.Tables.{state}
 use Rattle.commands.specs.Answers.{accepts}
-use Rattle.queries.proofs.Answers.{vertex-at, vertex-before}
-use Rattle.change_codes.proofs.Found.{vertex-there, vertex-lacking}
+use Rattle.graph_tables.proofs.Answers.{vertex-at, vertex-before}
+use Rattle.graph_tables.proofs.LookedUp.{vertex-there, vertex-lacking}
 use borrow.Author.Needs.{needs}
 use Rattle.question_calls.proofs.order_of_vertices.Statement.{statement}
 use Rattle.question_calls.proofs.order_of_vertices.Tie as tie

@@ -5,8 +5,9 @@ use Rattle.lists.specs.Choice.{toBit}
 use Rattle.graph.proofs.Numbers.{edge-once}
 use Rattle.graph_tables.specs.Tables.{state}
 use Rattle.commands.specs.Answers.{accepts}
-use Rattle.queries.proofs.Answers.{word-asks, word-before}
-use Rattle.change_codes.proofs.Found.{edge-there, edge-lacking, word-in}
+use Rattle.graph_tables.proofs.Answers.{word-asks, word-before}
+use Rattle.graph_tables.proofs.LookedUp.{edge-there, edge-lacking, word-in}
+use native.Mathlib.Omega.{arith}
 use borrow.Author.Needs.{needs}
 use Rattle.question_calls.proofs.order_of_words.Statement.{statement}
 use Rattle.question_calls.proofs.order_of_words.Tie as tie
@@ -23,12 +24,12 @@ returns-2 c = λ g n rows o h.
 
 returns-3 : tie.Need-returns-3
 returns-3 c = λ g n rows o h.
-    let p = c .before .before .before .this .ensures
+    let p = c .before .before .before .half-field .ensures
     ∙ h .core .this _
     (word-in _ _ (c .before .before .before .before .before .before .before .before .before .find-word .result) _
     (c .before .before .before .before .before .before .before .before .before .find-word .ensures)
     (c .before .before .before .before .before .before .before .enum-told .given .1) .0) in
-    let q = c .before .before .this2 .ensures
+    let q = c .before .before .half-field2 .ensures
     ∙ h .core .this _ (word-in _ _ (c .before .before .before .before .before .before .find-word2 .result) _ (c .before .before .before .before .before .before .find-word2 .ensures)
     (c .before .before .before .before .enum-told3 .given .1) .0) in
     rw (
@@ -51,12 +52,12 @@ word-before-requires c κs =
 returns-4 : tie.Need-returns-4
 returns-4 c = λ g n rows o h.
     let a = c .before .before .before .before .before .before .before .before .before .before .before .before .before .before .args in
-    let p = c .before .before .before .before .before .this .ensures
+    let p = c .before .before .before .before .before .half-field .ensures
     ∙ h .core .this _
     (word-in _ _ (c .before .before .before .before .before .before .before .before .before .before .before .find-word .result) _
     (c .before .before .before .before .before .before .before .before .before .before .before .find-word .ensures)
     (c .before .before .before .before .before .before .before .before .before .enum-told .given .1) .0) in
-    let q = c .before .before .before .before .this2 .ensures
+    let q = c .before .before .before .before .half-field2 .ensures
     ∙ h .core .this _
     (word-in _ _ (c .before .before .before .before .before .before .before .before .find-word2 .result) _
     (c .before .before .before .before .before .before .before .before .find-word2 .ensures) (c .before .before .before .before .before .before .enum-told3 .given .1) .0) in
@@ -79,7 +80,10 @@ order-of-words-spec =
     (λ c. λ g n rows o h. rw (edge-lacking _ g _ (_, (o, h)) (c .before .before .before .find-word .result) (c .before .before .before .find-word .ensures) (c .before .enum-told2 .given .1))
     (c .refused .ensures))
     (λ c κs. search needs) (λ c. search needs) (λ c. search needs) (λ c κs. search needs) returns-2
-    (λ c κs. word-in _ _ (c .before .before .before .before .before .find-word .result) _ (c .before .before .before .before .before .find-word .ensures)
-    (c .before .before .before .enum-told .given .1))
-    (λ c κs. word-in _ _ (c .before .before .before .find-word2 .result) _ (c .before .before .before .find-word2 .ensures) (c .before .enum-told3 .given .1))
+    (λ c κs. (
+      word-in _ _ (c .before .before .before .before .before .find-word .result) _ (c .before .before .before .before .before .find-word .ensures)
+          (c .before .before .before .enum-told .given .1),
+      omega arith,
+    ))
+    (λ c κs. (word-in _ _ (c .before .before .before .find-word2 .result) _ (c .before .before .before .find-word2 .ensures) (c .before .enum-told3 .given .1), omega arith))
     (λ c κs. search needs) returns-3 word-before-requires (λ c κs. search needs) (λ c κs. search needs) returns-4)

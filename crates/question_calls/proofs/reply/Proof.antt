@@ -2,7 +2,7 @@
 use mathlib.Core.Path.{ap, _∙_}
 use Rattle.graph_tables.specs.Tables.{state}
 use Rattle.commands.specs.Answers.{accepts}
-use Rattle.queries.proofs.Answers.{first-vertex, first-edge}
+use Rattle.graph_tables.proofs.Answers.{first-vertex, first-edge}
 use Rattle.question_calls.proofs.AnswerLaws.{v-type, v-value, v-first, v-next, e-alpha, e-type, e-kind, e-omega, e-decimetres, e-next, w-next, w-this, w-that}
 use borrow.Author.Needs.{needs}
 use Rattle.question_calls.proofs.reply.Statement.{statement}

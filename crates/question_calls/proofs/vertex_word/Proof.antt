@@ -1,7 +1,7 @@
 -- `question_calls::vertex_word` meets its contract.
 use mathlib.Core.Path.{sym, _∙_}
 use native.Mathlib.Omega.{arith}
-use Rattle.change_codes.proofs.Found.{vertex-end}
+use Rattle.graph_tables.proofs.LookedUp.{vertex-end}
 use borrow.Author.Needs.{needs}
 use Rattle.question_calls.proofs.vertex_word.Statement.{statement}
 use Rattle.question_calls.proofs.vertex_word.Tie as tie

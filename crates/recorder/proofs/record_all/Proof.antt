@@ -14,7 +14,7 @@ use Rattle.history_calls.specs.Memory.{memory}
 use Rattle.engine.specs.Running.{Running}
 use Rattle.engine.specs.Calls.{AfterCalls}
 use Rattle.engine.proofs.CallLaws.{reads-five, after-calls-none, after-calls-more, after-calls-all}
-use Rattle.copies.specs.Copies.{made, stretch, recorded}
+use Rattle.copies.specs.Copies.{stepGraphs, stretch, recorded}
 use Rattle.copies.specs.Recording.{Covers}
 use Rattle.copies.proofs.MadeLaws.{part-five}
 use Rattle.recorder.proofs.ListLaws.{stretch-left, covers-more, covers-none}
@@ -27,7 +27,7 @@ Inv-loop start vertices₀ edges₀ journal₀ marks₀ closed types calls answe
     × (length copies ≡ length copies₀)
     × ((w : Parameters) → (m : Machine) → Running w y₀ (memory vertices₀ edges₀ journal₀ marks₀) closed types m → Covers w start copies₀ copies₀ numbers₀ used₀ [] 0 m → size ≡ stretch w
     → AfterCalls w (w .changes) m (take k (callsOf calls)) y (memory vertices edges journal marks) closed types answers₀ answers
-    × Covers w start copies₀ copies numbers used (made w m (take k (callsOf calls))) count (last w m (take k (callsOf calls))))
+    × Covers w start copies₀ copies numbers used (stepGraphs w m (take k (callsOf calls))) count (last w m (take k (callsOf calls))))
 
 abbrev μ-loop : tie.MeasureT-loop
 μ-loop start vertices₀ edges₀ journal₀ marks₀ closed types calls answers₀ copies₀ size numbers₀ used₀ n y₀ count₀ k₀ vertices edges journal marks answers copies numbers used y count k = n - k
@@ -116,7 +116,7 @@ loop-again c =
       r .kept .1 .1 .1 .1 .1 .1 .1 .1 .1 .1 .0 ∙ l .inv .6,
       λ w m h f e.
           let g = l .inv .7 w m h f e in
-          let d = r .ensures w (last w m (take (l .k) (callsOf (a .calls .now)))) (a .copies .now) (made w m (take (l .k) (callsOf (a .calls .now)))) (g .0 .after) (g .1) e in (
+          let d = r .ensures w (last w m (take (l .k) (callsOf (a .calls .now)))) (a .copies .now) (stepGraphs w m (take (l .k) (callsOf (a .calls .now)))) (g .0 .after) (g .1) e in (
             after-calls-more w (w .changes) m _ _ _ _ _ _ (reads-five (a .calls .now)) (l .k) (5 * l .k) _ _ _ (g .0) (omega (arith, t)) (omega arith) refl (d .0) (omega (arith, t, s .pre .1 .0)),
             covers-more (a .calls .now) (l .k) fits w m _ _ _ _ _ _ (d .1),
           ),
@@ -133,7 +133,7 @@ returns c =
     let g = l .inv .7 w m h f e in (
       after-calls-all w (w .changes) m _ _ _ _ _ _ (callsOf calls) (l .k) (omega (arith, many)) (g .0),
       g .1 .copied .kept
-          ∙ ap (λ (xs : List Call). recorded (stretch w) (made w m xs) (a .copies .now)) all,
+          ∙ ap (λ (xs : List Call). recorded (stretch w) (stepGraphs w m xs) (a .copies .now)) all,
     )
 
 pub record-all-spec : {M : Type 1} → statement M

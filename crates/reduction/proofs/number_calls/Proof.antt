@@ -4,7 +4,7 @@ use mathlib.Core.Path.{_≡_, refl, ap, _∙_}
 use native.Mathlib.Omega.{arith}
 use lib.ListN.{length, length-set}
 use Rattle.lists.specs.Lists.{range, overwritten}
-use Rattle.reduction.proofs.ListLaws.{range-more}
+use Rattle.lists.proofs.Ranges.{range-more}
 use Rattle.reduction.proofs.number_calls.Statement.{statement}
 use Rattle.reduction.proofs.number_calls.Tie as tie
 

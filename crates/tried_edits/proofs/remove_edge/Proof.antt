@@ -1,7 +1,7 @@
 -- `tried_edits::remove_edge` meets its contract.
 use mathlib.Core.Path.{refl}
-use Rattle.tried_edits.proofs.Tries.{tries-full, tries-made}
-use Rattle.journal.proofs.RowLaws.{rowed-by, removed-words}
+use Rattle.tried_edits.proofs.Tries.{tries-full, tries-made, removed-words}
+use Rattle.journal.proofs.RowLaws.{rowed-by}
 use borrow.Author.Needs.{needs}
 use Rattle.tried_edits.proofs.remove_edge.Statement.{statement}
 use Rattle.tried_edits.proofs.remove_edge.Tie as tie

@@ -5,6 +5,7 @@ use Prim.Native.Nat.{ℕ}
 use Rattle.graph_tables.specs.Tables.{State, state}
 use Rattle.tried_edits.specs.declared.Made.{Made}
 use Rattle.timeline.proofs.Steps.{holds-current}
+use Rattle.tried_edits.specs.Tried.{outcome}
 use Rattle.vertex_deletion.specs.Deleting.{Deletes}
 use Rattle.vertex_deletion.proofs.Deleting.{lacking, allowed, costs, too-dear, deleted}
 use borrow.Author.Needs.{needs}
@@ -17,12 +18,12 @@ tables s = state (s .args .current .head) (s .args .vertices .now) (s .args .edg
 
 -- a refused deletion, as it is returned
 refused : (s : tie.Start) (r : Made) (code : ℕ) → r ≡ record { head = s .args .current .head; code = code; cost = 0 }
-    → Deletes (s .args .vertex) (s .args .free) (s .args .current .position) (tables s) (s .args .journal .now) code 0 (tables s) (s .args .journal .now)
-    → Deletes (s .args .vertex) (s .args .free) (s .args .current .position) (tables s) (s .args .journal .now) (r .code) (r .cost)
-    (state (r .head) (s .args .vertices .now) (s .args .edges .now)) (s .args .journal .now)
+    → Deletes (s .args .vertex) (s .args .free) (s .args .current .position) (tables s) (s .args .journal .now) (outcome code 0 (tables s) (s .args .journal .now))
+    → Deletes (s .args .vertex) (s .args .free) (s .args .current .position) (tables s) (s .args .journal .now)
+    (outcome (r .code) (r .cost) (state (r .head) (s .args .vertices .now) (s .args .edges .now)) (s .args .journal .now))
 refused s r code e d =
-    subst (λ (y : Made). Deletes (s .args .vertex) (s .args .free) (s .args .current .position) (tables s) (s .args .journal .now) (y .code) (y .cost)
-    (state (y .head) (s .args .vertices .now) (s .args .edges .now)) (s .args .journal .now)) (sym e) d
+    subst (λ (y : Made). Deletes (s .args .vertex) (s .args .free) (s .args .current .position) (tables s) (s .args .journal .now)
+    (outcome (y .code) (y .cost) (state (y .head) (s .args .vertices .now) (s .args .edges .now)) (s .args .journal .now))) (sym e) d
 
 returns : tie.Need-returns
 returns c =

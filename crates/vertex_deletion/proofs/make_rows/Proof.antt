@@ -5,13 +5,13 @@ use mathlib.Core.Logic.{_≢_}
 use native.Mathlib.Omega.{arith}
 use Rattle.graph.specs.declared.Change.the-variants.{DeleteVertex}
 use Rattle.graph_tables.specs.Tables.{state}
-use Rattle.vertex_deletion.specs.Making.{nextEdit, Making}
+use Rattle.vertex_deletion.specs.Making.{nextEdit, stepStart, stage, Making}
 use Rattle.vertex_deletion.proofs.Rows.{RemovalLoop, first-next, making-start, allowed-now, row-left, row-room, making-turn, cost-same}
 use Rattle.vertex_deletion.proofs.make_rows.Statement.{statement}
 use Rattle.vertex_deletion.proofs.make_rows.Tie as tie
 
 abbrev Inv-loop : tie.InvT-loop
-Inv-loop vertices₀ edges₀ t₀ a rows h₀ u₀ end vertices edges t h u = RemovalLoop (DeleteVertex a) u₀ rows (state h₀ vertices₀ edges₀) t₀ (state h vertices edges) t u
+Inv-loop vertices₀ edges₀ t₀ a rows h₀ u₀ end vertices edges t h u = RemovalLoop (DeleteVertex a) u₀ rows (state h₀ vertices₀ edges₀) t₀ (stage (state h vertices edges) t u)
 
 abbrev μ-loop : tie.MeasureT-loop
 μ-loop vertices₀ edges₀ t₀ a rows h₀ u₀ end vertices edges t h u = u₀ + rows - u
@@ -38,7 +38,7 @@ add-v c =
     let p = s .pre in
     let l = c .before .loop in
     let k = l .inv .goes (a .current .position) (p .0) (p .1) refl (p .5) (p .2) in
-    omega (arith, row-left (DeleteVertex (a .a)) (p .0) (a .current .position) _ (a .journal .now) (p .1) (a .rows) _ (l .journal) (l .u) k (p .3) (c .loop-test .taken), p .4, p .5 .rows .short)
+    omega (arith, row-left k (p .3) (c .loop-test .taken), p .4, p .5 .rows .short)
 
 next-row-requires : tie.Need-next-row-requires Inv-loop μ-loop
 next-row-requires c κs =
@@ -48,8 +48,8 @@ next-row-requires c κs =
     let l = c .before .before .before .before .loop in
     let k = l .inv .goes (a .current .position) (p .0) (p .1) refl (p .5) (p .2) in
     let n = c .before .before .before .loop-test .taken in (
-      row-room (DeleteVertex (a .a)) (p .0) (a .current .position) _ (a .journal .now) (p .1) (a .rows) _ (l .journal) (l .u) k (p .3) n (p .4),
-      (p .0, k .graph, k .opened .rows .sized, k .holds, allowed-now (DeleteVertex (a .a)) (p .0) (a .current .position) _ (a .journal .now) (p .1) (a .rows) _ (l .journal) (l .u) k (p .3) n),
+      row-room k (p .3) n (p .4),
+      (p .0, k .graph, k .opened .rows .sized, k .holds, allowed-now k (p .3) n),
     )
 
 loop-less : tie.Need-loop-less Inv-loop μ-loop
@@ -61,7 +61,7 @@ loop-less c =
     let k = l .inv .goes (a .current .position) (p .0) (p .1) refl (p .5) (p .2) in
     omega (
       arith,
-      row-left (DeleteVertex (a .a)) (p .0) (a .current .position) _ (a .journal .now) (p .1) (a .rows) _ (l .journal) (l .u) k (p .3)
+      row-left k (p .3)
           (c .before .before .before .before .before .before .before .before .before .before .loop-test .taken),
     )
 
@@ -77,7 +77,7 @@ loop-again c =
     let k = l .inv .goes (a .current .position) (p .0) (p .1) refl (p .5) (p .2) in
     let n = c .before .before .before .before .before .before .before .before .before .before .loop-test .taken in
     let m = c .before .before .before .before .before .before .next-row in
-    let r = row-room x (p .0) (a .current .position) s₀ (a .journal .now) (p .1) (a .rows) s₁ (l .journal) (l .u) k (p .3) n (p .4) in
+    let r = row-room k (p .3) n (p .4) in
     record {
       vlen = m .kept .1 .0 ∙ l .inv .vlen;
       elen = m .kept .1 .1 .0 ∙ l .inv .elen;
@@ -86,8 +86,8 @@ loop-again c =
           let z = l .inv .goes j b y q i v in
           let o = cost-same x (p .0) b (a .current .position) j s₀ (a .journal .now) (p .1) y (p .5) i (a .rows) (p .3) in
           let f : l .u ≢ j .used + a .rows = λ d. n (d ∙ ap (λ (h : ℕ). h + a .rows) q) in
-          let w = allowed-now x b j s₀ (a .journal .now) y (a .rows) s₁ (l .journal) (l .u) z o f in
-          making-turn x b j s₀ (a .journal .now) y (a .rows) s₁ (l .journal) (l .u) z o f (nextEdit s₁ (a .a)) (first-next b s₁ (z .graph) (z .holds) (a .a) w) r
+          let w = allowed-now z o f in
+          making-turn z o f (nextEdit s₁ (a .a)) (first-next b s₁ (z .graph) (z .holds) (a .a) w) r
           (state (m .result) (m .last .1 .0) (m .last .1 .1 .0)) (m .last .1 .1 .1 .0) (l .u + 1) (m .ensures) (omega arith);
     }
 
@@ -105,8 +105,8 @@ returns c =
     λ b y v i.
     let a = c .before .before .before .before .before .before .args in
     let l = c .before .loop in
-    subst (Making (DeleteVertex (a .a)) b (a .current .position) (state (a .current .head) (a .vertices .now) (a .edges .now)) (a .journal .now) y (a .rows)
-    (state (l .h) (l .vertices) (l .edges)) (l .journal)) (c .loop-test .left) (l .inv .goes (a .current .position) b y refl i v)
+    subst (λ (u : ℕ). Making (DeleteVertex (a .a)) (stepStart b (a .current .position) (state (a .current .head) (a .vertices .now) (a .edges .now)) (a .journal .now) y) (a .rows)
+    (stage (state (l .h) (l .vertices) (l .edges)) (l .journal) u)) (c .loop-test .left) (l .inv .goes (a .current .position) b y refl i v)
 
 pub make-rows-spec : {M : Type 1} → statement M
 make-rows-spec =

@@ -10,9 +10,9 @@ use Rattle.vertex_deletion.proofs.remove_vertex.Tie as tie
 returns : tie.Need-returns
 returns c =
     let a = c .before .before .before .before .before .before .before .before .before .before .before .before .before .before .before .before .before .args in
-    let s = c .before .before .before .before .before .before .before .before .before .before .before .before .vertex-type .ensures in
-    let x = c .before .before .before .before .before .before .before .before .before .before .vertex-value .ensures in
-    let p = c .before .before .before .before .before .before .before .before .vertex-prev .ensures in
+    let s = c .before .before .before .before .before .before .before .before .before .before .before .before .vertex-field .ensures in
+    let x = c .before .before .before .before .before .before .before .before .before .before .vertex-field2 .ensures in
+    let p = c .before .before .before .before .before .before .before .before .vertex-field3 .ensures in
     record {
       state = c .before .before .remove-vertex .ensures;
       row = rowed-by _ _ _ _ _ _ refl (c .before .before .before .before .before .before .put-row .ensures)

@@ -8,8 +8,8 @@ use lib.ListN.{length}
 use Rattle.type_rows.specs.Rows.{goodRows}
 use Rattle.type_rows.proofs.RowLaws.{verdict-good, verdict-bad, good-facts}
 use Rattle.graph.specs.WellFormed.{Bounds}
-use Rattle.image.specs.Checks.{bounds, verdict}
-use Rattle.image.proofs.Headers.{checked-same}
+use Rattle.image_check.specs.Checks.{bounds, verdict}
+use Rattle.image_check.proofs.Capacity.{checked-same}
 use Rattle.engine.specs.Refusals.{lengthsCode}
 use Rattle.engine.proofs.RefusalLaws.{capacities, lengths-refused, rows-refused, start-refused, image-refused, none-refused}
 use Rattle.engine.proofs.refusals.refusal.Statement.{statement}

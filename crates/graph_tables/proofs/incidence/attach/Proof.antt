@@ -1,5 +1,6 @@
 -- `graph_tables::incidence::attach` meets its contract.
-use Rattle.graph_tables.proofs.Steps.{attached, insert-by}
+use Rattle.linked_lists.proofs.Steps.{insert-by}
+use Rattle.graph_tables.proofs.Steps.{attached}
 use Rattle.graph_tables.specs.Tables.{incidenceLinks}
 use mathlib.Core.Path.{refl}
 use borrow.Author.Needs.{needs}

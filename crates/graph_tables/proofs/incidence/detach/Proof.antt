@@ -1,5 +1,6 @@
 -- `graph_tables::incidence::detach` meets its contract.
-use Rattle.graph_tables.proofs.Steps.{detached, unlink-by}
+use Rattle.linked_lists.proofs.Steps.{unlink-by}
+use Rattle.graph_tables.proofs.Steps.{detached}
 use Rattle.graph_tables.specs.Tables.{incidenceLinks}
 use borrow.Author.Needs.{needs}
 use Rattle.graph_tables.proofs.incidence.detach.Statement.{statement}

@@ -7,7 +7,7 @@ use Rattle.graph_tables.proofs.rows.reading_at.Tie as tie
 
 returns : tie.Need-returns
 returns c =
-    c .reading-of .ensures ∙ (λ i. readingOf (c .before .before .reading-kind .ensures i) (c .before .reading-decimetres .ensures i))
+    c .reading-of .ensures ∙ (λ i. readingOf (c .before .before .edge-field .ensures i) (c .before .edge-field2 .ensures i))
 
 pub reading-at-spec : {M : Type 1} → statement M
 reading-at-spec =

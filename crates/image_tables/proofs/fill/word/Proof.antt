@@ -10,7 +10,7 @@ append-requires c κs =
     let o = c .before in
     let t = o .before .before in
     let s = t .before .before .before .before in
-    word-can (s .args .w) (state (s .args .head) (s .args .vertices .now) (s .args .edges .now)) (t .this .ensures) (o .ends-of .ensures) (s .pre)
+    word-can (s .args .w) (state (s .args .head) (s .args .vertices .now) (s .args .edges .now)) (t .half-field .ensures) (o .ends-of .ensures) (s .pre)
 
 returns : tie.Need-returns
 returns c =
@@ -19,7 +19,7 @@ returns c =
     let o = a .before .before in
     let t = o .before .before in
     let s = t .before .before .before .before in
-    word-did (s .args .w) (state (s .args .head) (s .args .vertices .now) (s .args .edges .now)) (t .this .ensures) (o .ends-of .ensures) (a .append .ensures) (p .put-ends .ensures)
+    word-did (s .args .w) (state (s .args .head) (s .args .vertices .now) (s .args .edges .now)) (t .half-field .ensures) (o .ends-of .ensures) (a .append .ensures) (p .put-ends .ensures)
 
 pub word-spec : {M : Type 1} → statement M
 word-spec =

@@ -43,7 +43,7 @@ edge-requires c κs =
     let t = turn (c .before) in
     let s = c .before .before .before .before .before .before in
     let i = t .inside (c .before .loop-test .taken) in
-    ((omega arith, omega arith), omega (arith, s .pre .1), omega (arith, t .room, s .pre .2))
+    ((omega arith, omega arith), omega (arith, t .room, s .pre .1))
 
 add-at : tie.Need-add-at Inv-loop μ-loop
 unfolding edgePartOf

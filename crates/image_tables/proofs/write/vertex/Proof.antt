@@ -18,8 +18,8 @@ returns : tie.Need-returns
 returns c =
     let a = c .before .before .before .before .before .before .before .before .before .before .before .before .before .args in
     let l = c .before .before .before .before .before .before .before .before .list in
-    let t = c .before .before .before .before .before .vertex-type in
-    let x = c .before .before .before .before .vertex-value in
+    let t = c .before .before .before .before .before .vertex-field in
+    let x = c .before .before .before .before .vertex-field2 in
     let d : l .result - a .to ≡ length (listWords (a .vertices .now) (a .edges .now) (a .v)) = omega (arith, l .ensures .1) in (
       four-by (l .last .1 .1 .1 .0) (a .at) (a .v) (t .result) (x .result) (l .result - a .to) (c .before .before .three .ensures)
           ∙ (λ i. sets (l .ensures .0 i) (a .at) (a .v ∷ t .ensures i ∷ x .ensures i ∷ d i ∷ [])),

@@ -1,17 +1,18 @@
 -- `single_changes::kinds::set_value` meets its contract.
 use Prim.Native.Nat.{ℕ}
-use Rattle.graph.specs.declared.Change.the-variants.{SetValue}
+use Rattle.graph.specs.declared.SingleChange.the-variants.{SetValue}
 use Rattle.single_changes.proofs.OneLaws.{Accepted, one-refused, accept, one-tried, tries-by, set-vertex-by}
 use mathlib.Core.Path.{refl}
 use native.Mathlib.Omega.{arith}
 use Rattle.graph_tables.specs.Tables.{state}
+use Rattle.tried_edits.specs.Tried.{attempt}
 use borrow.Author.Needs.{needs}
 use Rattle.single_changes.proofs.kinds.set_value.Statement.{statement}
 use Rattle.single_changes.proofs.kinds.set_value.Tie as tie
 
 accepted : (types : ℕ) (c : tie.Else1) → let a = c .before .before .before .before .before .before .args in
-    Accepted (SetValue (a .a) (a .value2)) types (a .row) (a .free) (state (a .head) (a .vertices .now) (a .edges .now)) (a .journal .now)
-accepted types c = accept (omega (arith, c .before .before .before .before .before .before .fits .value2)) (λ g y. c .before .vertex-code .ensures .1 g (_, y)) (c .if1 .left) tt
+    Accepted (SetValue (a .a) (a .value2)) types (attempt (a .row) (a .free) (state (a .head) (a .vertices .now) (a .edges .now)) (a .journal .now))
+accepted types c = accept (omega (arith, c .before .before .before .before .before .before .fits .value2)) (λ g y. c .before .vertex-code .ensures .1 g (_, y)) (c .if1 .left)
     (c .before .before .before .before .before .before .pre)
 
 set-vertex-requires : tie.Need-set-vertex-requires
@@ -24,8 +25,8 @@ returns-2 c =
     let a = c .before .before .before .before .before .before .before .before .before .before .before .before .before .before .before .before .before .args in
     λ types. one-tried (accepted types (c .before .before .before .before .before .before .before .before .before .before .before))
     (tries-by
-    (set-vertex-by (a .a) (c .before .before .before .before .before .before .before .before .before .vertex-type .ensures)
-    (c .before .before .before .before .before .before .before .vertex-value .ensures) (c .before .before .before .before .before .before .before .before .before .vertex-type .ensures)
+    (set-vertex-by (a .a) (c .before .before .before .before .before .before .before .before .before .vertex-field .ensures)
+    (c .before .before .before .before .before .before .before .vertex-field2 .ensures) (c .before .before .before .before .before .before .before .before .before .vertex-field .ensures)
     refl) (c .before .before .before .before .set-vertex .ensures))
 
 pub set-value-spec : {M : Type 1} → statement M
@@ -34,6 +35,6 @@ set-value-spec =
     (tie.spec (λ c κs. search needs) (λ c κs. search needs) (λ c. search needs)
     (λ c types. one-refused (omega (arith, c .before .before .before .before .before .before .before .fits .value2)) (λ g y. c .before .before .vertex-code .ensures .1 g (_, y))
     (c .before .if1 .taken) (c .unchanged .ensures))
-    (λ c κs. accepted 0 (c .before) .rows)
-    (λ c κs. accepted 0 (c .before .before .before) .rows)
+    (λ c κs. (accepted 0 (c .before) .rows, omega arith))
+    (λ c κs. (accepted 0 (c .before .before .before) .rows, omega arith))
     set-vertex-requires (λ c. search needs) (λ c. search needs) returns-2)

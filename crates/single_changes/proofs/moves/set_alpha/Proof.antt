@@ -1,16 +1,17 @@
 -- `single_changes::moves::set_alpha` meets its contract.
 use Prim.Native.Nat.{ℕ}
 use native.Mathlib.Omega.{arith}
-use Rattle.graph.specs.declared.Change.the-variants.{SetAlpha}
+use Rattle.graph.specs.declared.SingleChange.the-variants.{SetAlpha}
 use Rattle.single_changes.proofs.OneLaws.{Accepted, one-refused, accept, one-tried}
 use Rattle.graph_tables.specs.Tables.{state}
+use Rattle.tried_edits.specs.Tried.{attempt}
 use borrow.Author.Needs.{needs}
 use Rattle.single_changes.proofs.moves.set_alpha.Statement.{statement}
 use Rattle.single_changes.proofs.moves.set_alpha.Tie as tie
 
 accepted : (types : ℕ) (c : tie.Else1) → let a = c .before .before .before .before .before .before .before .args in
-    Accepted (SetAlpha (a .a) (a .u)) types (a .row) (a .free) (state (a .head) (a .vertices .now) (a .edges .now)) (a .journal .now)
-accepted types c = accept tt (λ g y. c .before .set-end .ensures .1 g y) (c .if1 .left) tt (c .before .before .before .before .before .before .before .pre)
+    Accepted (SetAlpha (a .a) (a .u)) types (attempt (a .row) (a .free) (state (a .head) (a .vertices .now) (a .edges .now)) (a .journal .now))
+accepted types c = accept tt (λ g y. c .before .set-end .ensures .1 g y) (c .if1 .left) (c .before .before .before .before .before .before .before .pre)
 
 pub set-alpha-spec : {M : Type 1} → statement M
 set-alpha-spec =

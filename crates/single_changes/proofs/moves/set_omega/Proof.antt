@@ -1,16 +1,17 @@
 -- `single_changes::moves::set_omega` meets its contract.
 use Prim.Native.Nat.{ℕ}
 use native.Mathlib.Omega.{arith}
-use Rattle.graph.specs.declared.Change.the-variants.{SetOmega}
+use Rattle.graph.specs.declared.SingleChange.the-variants.{SetOmega}
 use Rattle.single_changes.proofs.OneLaws.{Accepted, one-refused, accept, one-tried}
 use Rattle.graph_tables.specs.Tables.{state}
+use Rattle.tried_edits.specs.Tried.{attempt}
 use borrow.Author.Needs.{needs}
 use Rattle.single_changes.proofs.moves.set_omega.Statement.{statement}
 use Rattle.single_changes.proofs.moves.set_omega.Tie as tie
 
 accepted : (types : ℕ) (c : tie.Else1) → let a = c .before .before .before .before .before .before .before .args in
-    Accepted (SetOmega (a .a) (a .u)) types (a .row) (a .free) (state (a .head) (a .vertices .now) (a .edges .now)) (a .journal .now)
-accepted types c = accept tt (λ g y. c .before .set-end .ensures .1 g y) (c .if1 .left) tt (c .before .before .before .before .before .before .before .pre)
+    Accepted (SetOmega (a .a) (a .u)) types (attempt (a .row) (a .free) (state (a .head) (a .vertices .now) (a .edges .now)) (a .journal .now))
+accepted types c = accept tt (λ g y. c .before .set-end .ensures .1 g y) (c .if1 .left) (c .before .before .before .before .before .before .before .pre)
 
 pub set-omega-spec : {M : Type 1} → statement M
 set-omega-spec =

@@ -2,7 +2,7 @@
 use mathlib.Core.Path.{refl, sym}
 use Rattle.graph_tables.specs.Tables.{state}
 use Rattle.graph_tables.proofs.Steps.{can-by}
-use Rattle.queries.proofs.Steps.{chosen}
+use Rattle.tried_edits.proofs.PlanLaws.{chosen}
 use Rattle.single_changes.proofs.OneLaws.{tries-by, move-word-by}
 use borrow.Author.Needs.{needs}
 use Rattle.single_changes.proofs.moves.word_last.Statement.{statement}
@@ -13,8 +13,8 @@ move-word-requires c κs =
     let s = c .before .before .before .before .before .before .before .before .before .before .before .before .before in
     let a = s .args in (
       can-by (state (a .head) (a .vertices .now) (a .edges .now))
-          (sym (move-word-by (a .w) (c .before .before .before .before .before .before .before .before .this .ensures) (c .before .before .before .before .before .before .word-prev .ensures)
-          refl (chosen (a .w) (c .before .before .before .before .before .before .word-prev .ensures) (c .before .before .before .before .last-word .ensures)
+          (sym (move-word-by (a .w) (c .before .before .before .before .before .before .before .before .half-field .ensures) (c .before .before .before .before .before .before .half-field2 .ensures)
+          refl (chosen (a .w) (c .before .before .before .before .before .before .half-field2 .ensures) (c .before .before .before .before .vertex-field .ensures)
           (c .before .before .before .choose .ensures)))) (s .pre .2),
       s .pre .3,
     )
@@ -22,10 +22,10 @@ move-word-requires c κs =
 returns : tie.Need-returns
 returns c =
     let a = c .before .before .before .before .before .before .before .before .before .before .before .before .before .before .before .before .before .before .before .before .args in
-    tries-by (move-word-by (a .w) (c .before .before .before .before .before .before .before .before .before .before .before .before .before .before .before .this .ensures)
-    (c .before .before .before .before .before .before .before .before .before .before .before .before .before .word-prev .ensures) refl
-    (chosen (a .w) (c .before .before .before .before .before .before .before .before .before .before .before .before .before .word-prev .ensures)
-    (c .before .before .before .before .before .before .before .before .before .before .before .last-word .ensures)
+    tries-by (move-word-by (a .w) (c .before .before .before .before .before .before .before .before .before .before .before .before .before .before .before .half-field .ensures)
+    (c .before .before .before .before .before .before .before .before .before .before .before .before .before .half-field2 .ensures) refl
+    (chosen (a .w) (c .before .before .before .before .before .before .before .before .before .before .before .before .before .half-field2 .ensures)
+    (c .before .before .before .before .before .before .before .before .before .before .before .vertex-field .ensures)
     (c .before .before .before .before .before .before .before .before .before .before .choose .ensures))) (c .before .before .before .before .before .before .move-word .ensures)
 
 pub word-last-spec : {M : Type 1} → statement M

@@ -5,8 +5,8 @@ use native.Mathlib.Omega.{arith}
 use lib.ListN.{length, take, drop, length-drop}
 use borrow.Author.Needs.{needs}
 use Rattle.graph.specs.WellFormed.{Bounds}
-use Rattle.image.specs.Checks.{bounds, verdict, codeOf, offsetOf}
-use Rattle.image.proofs.Headers.{checked-same}
+use Rattle.image_check.specs.Checks.{bounds, verdict, codeOf, offsetOf}
+use Rattle.image_check.proofs.Capacity.{checked-same}
 use Rattle.machine.specs.Run.{numberBeside}
 use Rattle.machine.specs.StoreRun.{statedLength, startsCode, startsOffset}
 use Rattle.stores.proofs.StartLaws.{first-is, code-on, offset-on, code-here, offset-here, code-end, code-over, offset-end, beside-none, number-is}

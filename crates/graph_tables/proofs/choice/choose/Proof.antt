@@ -1,8 +1,0 @@
--- `graph_tables::choice::choose` meets its contract.
-use Rattle.lists.proofs.Picks.{pick-yes, pick-no}
-use mathlib.Core.Path.{sym}
-use Rattle.graph_tables.proofs.choice.choose.Statement.{statement}
-use Rattle.graph_tables.proofs.choice.choose.Tie as tie
-
-pub choose-spec : {M : Type 1} → statement M
-choose-spec = tie.close (tie.spec (λ c. sym (pick-yes _ _ _ _ (c .if1 .taken))) (λ c. sym (pick-no _ _ _ _ (c .if1 .left))))
