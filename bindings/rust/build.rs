@@ -1,5 +1,5 @@
-//! Where the archive is: FUTTOCKFIG_LIB_DIR, or lib of the prefix where tools/install put the crate, or target/staticlib
-//! of the repository.
+//! Where the archive is: FUTTOCKFIG_LIB_DIR, or lib of the prefix where tools/install put the crate, or
+//! crates/futtockfig/out of the repository, where `rt lib` writes it.
 
 use std::env;
 use std::path::PathBuf;
@@ -13,7 +13,7 @@ fn main() {
             if installed.join("libfuttockfig.a").exists() {
                 installed
             } else {
-                here.join("../../target/staticlib")
+                here.join("../../crates/futtockfig/out")
             }
         }
     };

@@ -10,7 +10,7 @@
 //! image, a page, a comparison, an order, a recorded list, a reduced one and a list of several stores.
 //!
 //! The crate links `libfuttockfig.a`, from the folder that the environment variable `FUTTOCKFIG_LIB_DIR` names when it
-//! is built, else from `target/staticlib` of the repository. It allocates nothing and needs no standard library.
+//! is built, else from `crates/futtockfig/out` of the repository. It allocates nothing and needs no standard library.
 //!
 //! ```
 //! use futtockfig::{answers, image_words, kind, run, Call, Lent, EMPTY};

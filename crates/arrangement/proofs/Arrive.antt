@@ -1,5 +1,6 @@
 -- What the functions give, run on the plain machine: with code 0 the calls in front of the lent list bring the loaded
 -- graph, on any machine that holds it with as many free changes, into the order wanted.
+use Rattle.std.specs.Prelude.{◌==◌}
 use Prim.Native.Nat.{ℕ, ◌-◌, ◌*◌, ◌≤◌}
 use mathlib.Core.Path.{◌≡◌, refl, sym, ap, ◌∙◌, subst}
 use mathlib.Core.Bool.{Bool, true, false, not}
@@ -9,7 +10,7 @@ use lib.ListN.{length, take, drop}
 use lib.Dec.{ltb}
 use lib.Seq.{take_at}
 use borrow.Author.Tests.{eqb-true, eqb-false}
-use Rattle.lists.specs.Choice.{◌⇒◌else◌, ◌==◌}
+use Rattle.lists.specs.Choice.{◌⇒◌else◌}
 use Rattle.lists.specs.Keyed.{update_by}
 use Rattle.lists.specs.Arranged.{in_order}
 use Rattle.graph.specs.Graph.{Graph, vertex_number, edge_number, no_vertex, no_edge, has_vertex, vertex_numbers, edge_numbers, list_of}

@@ -1,7 +1,7 @@
 -- Any order of an image's vertices, of its edges or of one vertex's list: the calls that make it, and the three
 -- results for all words.
-use Rattle.std.specs.Prelude.{ℕ, ◌*◌, ◌-◌, not, List, [], ◌∷◌, length, ltb}
-use Rattle.lists.specs.Choice.{◌⇒◌else◌, ◌==◌}
+use Rattle.std.specs.Prelude.{ℕ, ◌*◌, ◌-◌, not, List, [], ◌∷◌, length, ltb, ◌==◌}
+use Rattle.lists.specs.Choice.{◌⇒◌else◌}
 use Rattle.lists.specs.Lists.{overwritten}
 use Rattle.graph.specs.Graph.{has_vertex, vertex_numbers, edge_numbers, list_of}
 use Rattle.graph.specs.WellFormed.{same_words}

@@ -1,4 +1,6 @@
 // Any order wanted of an image's vertices, of its edges or of one vertex's list, as a list of calls.
+#![tactic(auto)]
+
 ghost use Rattle.std.specs.Prelude.{◌≡◌, [], ◌∷◌, ◌+◌, ◌*◌, ◌-◌, ◌≤◌, ◌<◌, ◌^◌, length, get_or, set};
 ghost use Rattle.std.proofs.lemmas.List.Edits.{sets};
 ghost use Rattle.lists.specs.Lists.{member};
@@ -16,7 +18,7 @@ use lists::numbers::wide;
 
 // A code, and how many calls were written: with a code none.
 #[repr(C)]
-#[derive(Drop)]
+#[derive(Clone, Copy)]
 pub struct Arrangement {
     pub code: u32,
     pub calls: usize,

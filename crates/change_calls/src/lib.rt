@@ -1,9 +1,11 @@
 // A change as a call: its codes, the step that it is, its bench, and the marks that it cuts.
 // A caller has a store and lent words that stand for a machine with so many types; any change may be asked for.
+#![tactic(auto)]
+
 ghost use Rattle.std.specs.Prelude.{◌≡◌, ℕ, ◌≤◌, length};
 ghost use Rattle.history.specs.Machine.{MarkPlace, at, cut_marks};
 ghost use Rattle.marks.specs.Marked.{Marked, mark_words};
-ghost use Rattle.history_calls.specs.Memory.{memory, entry};
+ghost use Rattle.history_calls.specs.Memory.{memory};
 ghost use Rattle.history_calls.specs.Represents.{Stands, Spare};
 ghost use Rattle.change_calls.specs.Altering.{StandsTyped, DoesChange};
 
@@ -38,7 +40,7 @@ fn single(
 ) -> Called
     requires { StandsTyped types free store
         (memory vertices.old edges.old journal.old marks.now) }
-    ensures { DoesChange (Change.Single change) types free store (entry vertices edges journal marks) result
+    ensures { DoesChange (Change.Single change) types free store (memory vertices.old edges.old journal.old marks.now) result
         (memory vertices.new edges.new journal.new marks.now) }
 {
     let old = store.current;
@@ -79,7 +81,7 @@ fn delete_vertex(
     requires { Stands store (memory vertices.old edges.old journal.old marks.now)
         × Spare free store (memory vertices.old edges.old journal.old marks.now) }
     ensures { (types : ℕ) → DoesChange (Change.DeleteVertex vertex) types free store
-        (entry vertices edges journal marks) result
+        (memory vertices.old edges.old journal.old marks.now) result
         (memory vertices.new edges.new journal.new marks.now) }
 {
     let old = store.current;
@@ -117,7 +119,7 @@ pub fn alter(
     change: Change,
 ) -> Called
     requires { StandsTyped types free store (memory vertices.old edges.old journal.old marks.now) }
-    ensures { DoesChange change types free store (entry vertices edges journal marks) result
+    ensures { DoesChange change types free store (memory vertices.old edges.old journal.old marks.now) result
         (memory vertices.new edges.new journal.new marks.now) }
 {
     match change {

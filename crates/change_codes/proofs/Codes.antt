@@ -1,11 +1,12 @@
 -- Codes from tests.
+use Rattle.std.specs.Prelude.{◌==◌}
 use Prim.Native.Nat.{ℕ, ◌≤◌, ◌<◌}
 use mathlib.Core.Path.{◌≡◌, refl}
 use mathlib.Core.Bool.{Bool, true, false, ◌||◌}
 use native.Mathlib.Omega.{arith}
 use lib.Dec.{leb}
 use borrow.Author.Tests.{le-leb, lt-leb, eq-eqb, ne_eqb}
-use Rattle.lists.specs.Choice.{◌==◌, within}
+use Rattle.lists.specs.Choice.{within}
 use Rattle.graph.specs.Graph.{is_reading}
 use Rattle.lists.proofs.Bools.{and_false}
 

@@ -1,6 +1,6 @@
 -- Codes read off the tables, whatever words these have.
-use Rattle.std.specs.Prelude.{ℕ, not, List, leb}
-use Rattle.lists.specs.Choice.{◌⇒◌else◌, ◌==◌, within}
+use Rattle.std.specs.Prelude.{ℕ, not, List, leb, ◌==◌}
+use Rattle.lists.specs.Choice.{◌⇒◌else◌, within}
 use Rattle.graph.specs.Graph.{edge_of, is_reading}
 use Rattle.graph_tables.specs.declared.Lookup.{Lookup}
 use Rattle.graph_tables.specs.declared.Lookup.TheVariants.{Found, Missing}

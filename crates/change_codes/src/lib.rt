@@ -1,7 +1,9 @@
 // Codes 2 to 9 of a change, read off the tables: the lowest that applies, 0 where none does. Kind 2 has its code 4 in
 // vertex_deletion. Each contract says the code of any words, and then that it is the code of the graph that they hold.
-ghost use Rattle.std.specs.Prelude.{◌≡◌, not, ◌||◌, ◌/◌, leb, length};
-ghost use Rattle.lists.specs.Choice.{◌⇒◌else◌, ◌==◌, within};
+#![tactic(auto)]
+
+ghost use Rattle.std.specs.Prelude.{◌≡◌, not, ◌||◌, ◌/◌, leb, length, ◌==◌};
+ghost use Rattle.lists.specs.Choice.{◌⇒◌else◌, within};
 ghost use Rattle.graph.specs.Graph.{Graph, has_vertex, has_edge, edge_of, is_reading};
 ghost use Rattle.graph.specs.Graph as chart;
 ghost use Rattle.graph_tables.specs.Tables.{lookup_vertex, lookup_edge, vertex_code, edge_code};

@@ -1,6 +1,8 @@
 // Reads the line of an image from standard input and writes its page.
-use libc::{STDIN_FILENO, STDOUT_FILENO};
+#![tactic(auto)]
+
 use printout::print_image;
+use whole_input::read_whole;
 
 // The first bytes, or none where there are fewer.
 fn front(s: &[u8], n: usize) -> &[u8] {
@@ -10,20 +12,21 @@ fn front(s: &[u8], n: usize) -> &[u8] {
     &s[0..0]
 }
 
-// Writes the first bytes of a page, whose room the type says: so a call that changed it may stand before.
-fn put(out: &[u8; 100000], count: usize) {
-    io::write_all(STDOUT_FILENO, front(out, count));
+// Writes the first bytes of a page, whose room the type says: so a call that changed it may stand before. A write that
+// fails is not told.
+fn put(rt: &impl Print, out: &[u8; 100000], count: usize) {
+    let _ = rt.write_all(front(out, count));
 }
 
-fn respond(input: &[u8]) {
+fn respond(rt: &impl Print, input: &[u8]) {
     let mut out = [0u8; 100000];
     let count = print_image(input, &mut out);
-    put(&out, count);
+    put(rt, &out, count);
 }
 
 // One byte more than is read, so a longer input is seen to be too long.
-fn main() {
+fn main(rt: HostRuntime) {
     let mut input = [0u8; 400001];
-    let count = io::read_full(STDIN_FILENO, &mut input);
-    respond(front(&input, count));
+    let count = read_whole(&mut rt.stdin(), &mut input);
+    respond(&rt, front(&input, count));
 }

@@ -1,7 +1,9 @@
 // Reads the line of an image and calls from standard input, runs the calls from the image's graph, and writes the
 // answers and the end image.
-use libc::{STDIN_FILENO, STDOUT_FILENO};
+#![tactic(auto)]
+
 use transcript::resume;
+use whole_input::read_whole;
 
 // The first bytes, or none where there are fewer.
 fn front(s: &[u8], n: usize) -> &[u8] {
@@ -11,20 +13,21 @@ fn front(s: &[u8], n: usize) -> &[u8] {
     &s[0..0]
 }
 
-// Writes the first bytes of the output, whose room the type says: so a call that changed it may stand before.
-fn put(out: &[u8; 100000], count: usize) {
-    io::write_all(STDOUT_FILENO, front(out, count));
+// Writes the first bytes of the output, whose room the type says: so a call that changed it may stand before. A write
+// that fails is not told.
+fn put(rt: &impl Print, out: &[u8; 100000], count: usize) {
+    let _ = rt.write_all(front(out, count));
 }
 
-fn respond(input: &[u8]) {
+fn respond(rt: &impl Print, input: &[u8]) {
     let mut out = [0u8; 100000];
     let count = resume(input, &mut out);
-    put(&out, count);
+    put(rt, &out, count);
 }
 
 // 400,000 bytes for the image's line, 60,000 for the calls and one more, so a longer input is seen to be too long.
-fn main() {
+fn main(rt: HostRuntime) {
     let mut input = [0u8; 460001];
-    let count = io::read_full(STDIN_FILENO, &mut input);
-    respond(front(&input, count));
+    let count = read_whole(&mut rt.stdin(), &mut input);
+    respond(&rt, front(&input, count));
 }

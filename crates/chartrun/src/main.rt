@@ -1,35 +1,37 @@
 // Reads calls from standard input, runs them on an empty graph, and writes the answers and the end image.
-use libc::{STDIN_FILENO, STDOUT_FILENO};
-use transcript::transcribe;
+#![tactic(auto)]
 
-// Writes the first bytes of out.
-fn put(out: &[u8], count: usize) {
+use transcript::transcribe;
+use whole_input::read_whole;
+
+// Writes the first bytes of out. A write that fails is not told.
+fn put(rt: &impl Print, out: &[u8], count: usize) {
     if count <= out.len() {
-        io::write_all(STDOUT_FILENO, &out[..count]);
+        let _ = rt.write_all(&out[..count]);
     }
 }
 
 // The same, of bytes whose number the type says: so a call that changed them may stand before.
-fn put_lent(out: &[u8; 100000], count: usize) {
-    put(out, count);
+fn put_lent(rt: &impl Print, out: &[u8; 100000], count: usize) {
+    put(rt, out, count);
 }
 
 // The whole output for the input, in one write.
-fn respond(bytes: &[u8]) {
+fn respond(rt: &impl Print, bytes: &[u8]) {
     let mut out = [0u8; 100000];
     let count = transcribe(bytes, &mut out);
-    put_lent(&out, count);
+    put_lent(rt, &out, count);
 }
 
-fn respond_to(bytes: &[u8], count: usize) {
+fn respond_to(rt: &impl Print, bytes: &[u8], count: usize) {
     if count <= bytes.len() {
-        respond(&bytes[..count]);
+        respond(rt, &bytes[..count]);
     }
 }
 
 // The buffer has room for more than 60,000 bytes, so a longer input is seen to be too long.
-fn main() {
-    let mut bytes = io::large_buffer();
-    let count = io::read_full(STDIN_FILENO, &mut bytes);
-    respond_to(&bytes, count);
+fn main(rt: HostRuntime) {
+    let mut bytes = [0u8; 65536];
+    let count = read_whole(&mut rt.stdin(), &mut bytes);
+    respond_to(&rt, &bytes, count);
 }

@@ -1,4 +1,5 @@
 -- A call by its kind: one that is named, or none; and that a call of no kind is no command.
+use Rattle.std.specs.Prelude.{◌==◌}
 use Prim.Native.Nat.{ℕ, suc, ◌≤◌, ◌<◌}
 use mathlib.Core.Path.{◌≡◌, refl, sym, ap, ◌∙◌, subst}
 use mathlib.Core.Logic.{◌⊎◌, inl, inr}
@@ -6,7 +7,7 @@ use mathlib.Core.Bool.{Bool, true, false, ◌&&◌, ◌||◌}
 use native.Mathlib.Omega.{arith}
 use lib.Dec.{leb}
 use borrow.Author.Tests.{eqb-true, eqb-false, leb-false, lt-leb, le-leb, ne_eqb}
-use Rattle.lists.specs.Choice.{◌⇒◌else◌, ◌==◌, within}
+use Rattle.lists.specs.Choice.{◌⇒◌else◌, within}
 use Rattle.lists.proofs.Bools.{or_true, within_range, or_none}
 use Rattle.commands.specs.declared.Command.TheVariants.{History, Unknown}
 use Rattle.commands.specs.Calls.{Call, five}

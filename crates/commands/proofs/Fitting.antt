@@ -1,7 +1,8 @@
 -- The command of a call whose words have 32 bits fits.
+use Rattle.std.specs.Prelude.{◌==◌}
 use mathlib.Core.Bool.{Bool, true, false}
 use lib.Dec.{leb}
-use Rattle.lists.specs.Choice.{◌⇒◌else◌, ◌==◌}
+use Rattle.lists.specs.Choice.{◌⇒◌else◌}
 use Rattle.commands.specs.Calls.{Call}
 use Rattle.commands.specs.Commands.{change_of, command_of}
 use Rattle.commands.specs.Fits.{WordsFit, ChangeFits, CommandFits}

@@ -1,11 +1,12 @@
 -- A kind that is not named is no command.
+use Rattle.std.specs.Prelude.{◌==◌}
 use Prim.Native.Nat.{ℕ, suc, ◌+◌, ◌≤◌}
 use native.Mathlib.Omega.{arith}
 use mathlib.Core.Path.{◌≡◌, refl}
 use mathlib.Core.Bool.{Bool, true, false}
 use lib.Dec.{leb}
 use borrow.Author.Tests.{ne_eqb, eqb-false, lt-leb, leb-false}
-use Rattle.lists.specs.Choice.{◌⇒◌else◌, ◌==◌}
+use Rattle.lists.specs.Choice.{◌⇒◌else◌}
 use Rattle.commands.specs.Calls.{Call}
 use Rattle.commands.specs.declared.Command.TheVariants.{History, Unknown}
 use Rattle.commands.specs.Commands.{history_of, command_of}

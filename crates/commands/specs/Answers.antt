@@ -1,6 +1,6 @@
 -- What a call is answered by.
-use Rattle.std.specs.Prelude.{ℕ}
-use Rattle.lists.specs.Choice.{◌⇒◌else◌, ◌==◌}
+use Rattle.std.specs.Prelude.{ℕ, ◌==◌}
+use Rattle.lists.specs.Choice.{◌⇒◌else◌}
 use Rattle.commands.specs.declared.Answer.{Answer}
 
 -- REFERENCE 2.2: an accepted call has code 0 and its number, a refused one its code and 0

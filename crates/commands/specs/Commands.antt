@@ -1,6 +1,6 @@
 -- The command of a call, by its kind, and the call that a command is.
-use Rattle.std.specs.Prelude.{ℕ, leb}
-use Rattle.lists.specs.Choice.{◌⇒◌else◌, ◌==◌}
+use Rattle.std.specs.Prelude.{ℕ, leb, ◌==◌}
+use Rattle.lists.specs.Choice.{◌⇒◌else◌}
 use Rattle.graph.specs.declared.Change.{Change}
 use Rattle.graph.specs.declared.SingleChange.{SingleChange}
 use Rattle.graph.specs.declared.SingleChange.TheVariants.{

@@ -1,4 +1,6 @@
 // The command that one call's five words are, in families.
+#![tactic(auto)]
+
 ghost use Rattle.std.specs.Prelude.{◌≡◌};
 ghost use Rattle.commands.specs.Calls.{call_at, five};
 ghost use Rattle.commands.specs.Answers.{accepts, refuses};
@@ -8,7 +10,7 @@ use graph::{Change, SingleChange};
 use lists::get;
 
 // Kinds 17 to 22, 49 to 51 and 56 to 59; a name is two words.
-#[derive(Drop)]
+#[derive(Clone, Copy)]
 pub enum HistoryCall {
     SetMark(u32),
     DropMark(u32),
@@ -26,7 +28,7 @@ pub enum HistoryCall {
 }
 
 // Kinds 30 to 48 and 52.
-#[derive(Drop)]
+#[derive(Clone, Copy)]
 pub enum Question {
     FirstVertex,
     NextVertex(u32),
@@ -51,7 +53,7 @@ pub enum Question {
 }
 
 // Kinds 53 and 54; the third word of a grade is its price list.
-#[derive(Drop)]
+#[derive(Clone, Copy)]
 pub enum PriceCall {
     Range(u32, u32),
     Grade(u32, u32, u32),
@@ -59,7 +61,7 @@ pub enum PriceCall {
 
 // A call by what answers it: a change, a history call, a question, a call of the price list, or a kind that is not
 // named.
-#[derive(Drop)]
+#[derive(Clone, Copy)]
 pub enum Command {
     Alter(Change),
     History(HistoryCall),
@@ -69,7 +71,7 @@ pub enum Command {
 }
 
 // What a call is answered by: code 0 and a number, or the code of a refusal and 0.
-#[derive(Drop)]
+#[derive(Clone, Copy)]
 pub struct Answer {
     pub code: u32,
     pub number: u32,

@@ -1,11 +1,12 @@
 -- The bits that the code counts: of two records that match, and of two whose readings agree besides.
+use Rattle.std.specs.Prelude.{◌==◌}
 use Prim.Native.Nat.{ℕ}
 use mathlib.Core.Path.{◌≡◌, refl, sym, ◌∙◌}
 use mathlib.Core.Bool.{Bool, true, false, ◌&&◌}
 use native.Mathlib.Omega.{arith}
 use lib.Dec.{leb}
 use borrow.Author.Tests.{eq-eqb, ne_eqb}
-use Rattle.lists.specs.Choice.{◌==◌, to_bit}
+use Rattle.lists.specs.Choice.{to_bit}
 use Rattle.graph.specs.Graph.{Edge}
 use Rattle.graph.specs.declared.Reading.{Reading}
 use Rattle.graph.specs.declared.Reading.TheVariants.{Heard}

@@ -1,5 +1,6 @@
 -- The three answers: the first's code, 110, or the counts; and what holds of every comparison, with code 0 and with
 -- another (REFERENCE 17.2, 17.5, 17.6).
+use Rattle.std.specs.Prelude.{◌==◌}
 use Prim.Native.Nat.{ℕ, ◌+◌, ◌*◌, ◌-◌, ◌≤◌}
 use mathlib.Core.Path.{◌≡◌, refl, sym, ap, ◌∙◌}
 use mathlib.Core.Bool.{Bool, true, false}
@@ -7,7 +8,6 @@ use mathlib.Core.List.{List}
 use native.Mathlib.Omega.{arith}
 use lib.ListN.{length}
 use borrow.Author.Tests.{ne_eqb, eqb-true, eqb-false}
-use Rattle.lists.specs.Choice.{◌==◌}
 use Rattle.lists.specs.Lists.{All}
 use Rattle.lists.proofs.Bools.{within_range}
 use Rattle.lists.proofs.Counts.{count_by_key_lem}

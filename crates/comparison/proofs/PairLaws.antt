@@ -1,4 +1,5 @@
 -- Pairs of edges of two graphs: the counts add up, and are the same either way round where each number stands once.
+use Rattle.std.specs.Prelude.{◌==◌}
 use Prim.Native.Nat.{ℕ, suc, ◌+◌, ◌≤◌}
 use mathlib.Core.Path.{◌≡◌, refl, sym, ap, ap₂, ◌∙◌}
 use mathlib.Core.Logic.{◌≢◌}
@@ -8,7 +9,7 @@ use native.Mathlib.Omega.{arith}
 use lib.ListN.{length}
 use lib.Dec.{leb}
 use borrow.Author.Tests.{eq-eqb, ne_eqb}
-use Rattle.lists.specs.Choice.{◌==◌, to_bit}
+use Rattle.lists.specs.Choice.{to_bit}
 use Rattle.lists.specs.Lists.{any, sum_of, All, done, more}
 use Rattle.lists.specs.Keyed.{count_by_key}
 use Rattle.lists.proofs.Bools.{or_false}

@@ -1,7 +1,7 @@
 -- Two images of one path, compared (REFERENCE 17): how many edges they share, of how many of those the readings agree,
 -- and how many only one of them has. For all words, also such as do not load.
-use Rattle.std.specs.Prelude.{ℕ, ◌+◌, ◌-◌, Bool, true, false, not, ◌&&◌, List, leb}
-use Rattle.lists.specs.Choice.{◌⇒◌else◌, ◌==◌, to_bit}
+use Rattle.std.specs.Prelude.{ℕ, ◌+◌, ◌-◌, Bool, true, false, not, ◌&&◌, List, leb, ◌==◌}
+use Rattle.lists.specs.Choice.{◌⇒◌else◌, to_bit}
 use Rattle.lists.specs.Lists.{any, sum_of}
 use Rattle.graph.specs.Graph.{Edge}
 use Rattle.graph.specs.declared.Reading.{Reading}

@@ -1,5 +1,7 @@
 // Two images of one path, compared: the edges that they share, those of them whose readings agree, and those that only
 // one has.
+#![tactic(auto)]
+
 ghost use Rattle.std.specs.Prelude.{◌≡◌, ◌≤◌, ◌^◌};
 ghost use Rattle.lists.specs.Choice.{to_bit};
 ghost use Rattle.graph.specs.Limits.{most_edges};
@@ -17,7 +19,7 @@ use lists::words::{put, word};
 
 // A code and four counts; with a code all four are 0.
 #[repr(C)]
-#[derive(Drop)]
+#[derive(Clone, Copy)]
 pub struct Compared {
     pub code: u32,
     pub matched: u32,
@@ -115,7 +117,7 @@ fn note(part: &[u32], count: u32, places: &mut [u32])
     }
 }
 
-#[derive(Drop)]
+#[derive(Clone, Copy)]
 struct Tally {
     matched: u32,
     agreeing: u32,

@@ -1,4 +1,5 @@
 -- The graphs that the steps of a list make: at most one a call of kinds 1 to 16, each well formed; and such calls counted.
+use Rattle.std.specs.Prelude.{◌==◌}
 use Prim.Native.Nat.{ℕ, suc, ◌+◌, ◌-◌, ◌*◌, ◌/◌, ◌≤◌, ◌<◌}
 use mathlib.Core.Path.{◌≡◌, refl, sym, ap, subst, ◌∙◌}
 use mathlib.Core.Logic.{◌≢◌}
@@ -10,7 +11,7 @@ use borrow.Author.Tests.{le-leb, eqb-false}
 use lib.Dec.{leb}
 use lib.ListN.{length, get_or, take, drop, length-append, length-drop}
 use lib.Seq.{take-suc, length-take-le, split_at, get_or-take, get_or-drop}
-use Rattle.lists.specs.Choice.{◌⇒◌else◌, ◌==◌, within, to_bit}
+use Rattle.lists.specs.Choice.{◌⇒◌else◌, within, to_bit}
 use Rattle.lists.specs.Lists.{filter, All, done, more}
 use Rattle.lists.proofs.Bools.{ft, and_both}
 use Rattle.graph.specs.declared.Change.{Change}

@@ -1,20 +1,18 @@
 -- Roles of calls, where moves lead, and what the roles leave.
+use Rattle.std.specs.Prelude.{◌==◌}
 use Prim.Native.Nat.{ℕ, ◌+◌, ◌-◌}
 use mathlib.Core.Path.{◌≡◌, refl, sym, ap, subst, ◌∙◌}
 use mathlib.Core.Logic.{◌≢◌}
 use mathlib.Core.Bool.{Bool, true, false}
-use mathlib.Core.List.{List, [], ◌∷◌}
+use mathlib.Core.List.{List}
 use native.Mathlib.Omega.{arith}
-use types.Run.{OneOf, miss}
-use denote.Enum.Declared.{tag_of}
 use borrow.Author.Tests.{ne_eqb, eqb-false, le-leb, leb-true, ltb-true, ltb-false}
 use lib.Dec.{leb, ltb}
-use Rattle.lists.specs.Choice.{◌⇒◌else◌, ◌==◌, within}
+use Rattle.lists.specs.Choice.{◌⇒◌else◌, within}
 use Rattle.lists.proofs.Bools.{ft, and_true, and_both}
 use Rattle.lists.proofs.Picks.{same, differ, same?}
 use Rattle.graph.specs.Graph.{Graph}
 use Rattle.history.specs.Machine.{distance, name}
-use Rattle.commands.specs.contracts.HistoryCall as history
 use Rattle.commands.specs.Calls.{Call, five}
 use Rattle.commands.specs.Commands.{command_of, history_of}
 use Rattle.commands.specs.declared.HistoryCall.{HistoryCall}
@@ -27,8 +25,6 @@ use Rattle.marks.specs.Codes.{standing_code}
 use Rattle.timeline.specs.JournalRows.{shifted}
 use Rattle.history_calls.specs.declared.Store.{Store}
 use Rattle.history_calls.specs.Outcomes.{Leads}
-use Rattle.history_calls.proofs.Ways.{others}
-use Rattle.copies.specs.contracts.Role as role
 use Rattle.copies.specs.declared.Role.{Role}
 use Rattle.copies.specs.declared.Role.TheVariants.{Move, Change, Commit, Other}
 use Rattle.copies.specs.declared.Target.{Target}
@@ -129,20 +125,21 @@ module _ (x : Store) (marks : List ℕ) (t : Target) where
       → Led x marks (GoToName b c) t
   led_name b c h = record { coded = h.0; ended = λ z. h.1 ∙ shifts p (place_in marks (holder_in x.set marks 0 (name b c))) }
 
-  pub no_leads : (h : HistoryCall) → OneOf others (tag_of history.the_type h) → Leads h → Led x marks h t
-  no_leads (SetMark a) i l = absurd l
-  no_leads (DropMark a) i l = absurd l
-  no_leads Undo i l = absurd (miss others 2 tt i)
-  no_leads Redo i l = absurd (miss others 3 tt i)
-  no_leads (GoTo a) i l = absurd (miss others 4 tt i)
-  no_leads CommitCall i l = absurd l
-  no_leads (Between a b) i l = absurd l
-  no_leads Standing i l = absurd l
-  no_leads Free i l = absurd l
-  no_leads (NameMark a b c) i l = absurd l
-  no_leads (GoToName a b) i l = absurd (miss others 10 tt i)
-  no_leads (SetBench a) i l = absurd l
-  no_leads (MadeBy a b c) i l = absurd l
+  pub no_leads : (h : HistoryCall) → (h ≡ Undo → ⊥) → (h ≡ Redo → ⊥) → ((a : ℕ) → h ≡ GoTo a → ⊥) → ((a b : ℕ) → h ≡ GoToName a b → ⊥)
+      → Leads h → Led x marks h t
+  no_leads (SetMark a) n1 n2 n3 n4 l = absurd l
+  no_leads (DropMark a) n1 n2 n3 n4 l = absurd l
+  no_leads Undo n1 n2 n3 n4 l = absurd (n1 refl)
+  no_leads Redo n1 n2 n3 n4 l = absurd (n2 refl)
+  no_leads (GoTo a) n1 n2 n3 n4 l = absurd (n3 a refl)
+  no_leads CommitCall n1 n2 n3 n4 l = absurd l
+  no_leads (Between a b) n1 n2 n3 n4 l = absurd l
+  no_leads Standing n1 n2 n3 n4 l = absurd l
+  no_leads Free n1 n2 n3 n4 l = absurd l
+  no_leads (NameMark a b c) n1 n2 n3 n4 l = absurd l
+  no_leads (GoToName a b) n1 n2 n3 n4 l = absurd (n4 a b refl)
+  no_leads (SetBench a) n1 n2 n3 n4 l = absurd l
+  no_leads (MadeBy a b c) n1 n2 n3 n4 l = absurd l
 
 -- ---- moves
 
@@ -170,15 +167,12 @@ moves Unknown h e = absurd (let z : ◌≡◌ {A = ℕ} 0 1 = cc in omega arith)
 
 -- ---- roles that leave the copies
 
-abbrev pub idles : List ℕ
-idles = 0 ∷ 3 ∷ []
-
 abbrev pub Left : Role → Type 0
 Left s = (k p q n u size : ℕ) (g : Graph) (numbers used copies : List ℕ) → (n ≡ count_after s k n) × (numbers ≡ numbers_after s k p q n numbers) × (used ≡ used_after s k q u used)
     × (copies ≡ copies_after s k size n g copies)
 
-pub left_alone : (s : Role) → OneOf idles (tag_of role.the_type s) → Left s
-left_alone (Move h) i k p q n u size g numbers used copies = (refl, refl, refl, refl)
-left_alone Change i k p q n u size g numbers used copies = absurd (miss idles 1 tt i)
-left_alone Commit i k p q n u size g numbers used copies = absurd (miss idles 2 tt i)
-left_alone Other i k p q n u size g numbers used copies = (refl, refl, refl, refl)
+pub left_alone : (s : Role) → (s ≡ Change → ⊥) → (s ≡ Commit → ⊥) → Left s
+left_alone (Move h) n1 n2 k p q n u size g numbers used copies = (refl, refl, refl, refl)
+left_alone Change n1 n2 k p q n u size g numbers used copies = absurd (n1 refl)
+left_alone Commit n1 n2 k p q n u size g numbers used copies = absurd (n2 refl)
+left_alone Other n1 n2 k p q n u size g numbers used copies = (refl, refl, refl, refl)

@@ -1,9 +1,11 @@
 // Copies of the graph, one after every step: what is kept of a step, and what is loaded at a place.
-ghost use Rattle.std.specs.Prelude.{◌≡◌, ◌≢◌, true, ◌+◌, ◌-◌, ◌*◌, ◌≤◌, ◌<◌, length};
+#![tactic(auto)]
+
+ghost use Rattle.std.specs.Prelude.{◌≡◌, ◌≢◌, true, ◌+◌, ◌-◌, ◌*◌, ◌≤◌, ◌<◌, length, ◌==◌};
 ghost use Rattle.std.proofs.lemmas.List.Edits.{sets};
-ghost use Rattle.lists.specs.Choice.{to_bit, within, ◌⇒◌else◌, ◌==◌};
+ghost use Rattle.lists.specs.Choice.{to_bit, within, ◌⇒◌else◌};
 ghost use Rattle.graph.specs.Graph.{Graph};
-ghost use Rattle.graph_tables.specs.Tables.{state, exit_state};
+ghost use Rattle.graph_tables.specs.Tables.{state};
 ghost use Rattle.graph_tables.specs.Holds.{Holds};
 ghost use Rattle.image.specs.Image.{save as save_of, load as load_of};
 ghost use Rattle.image_tables.specs.Words.{CanSave};
@@ -41,7 +43,7 @@ use timeline::Current;
 pub const PLACES: usize = 20001;
 
 // Where a move leads: a code, or a place.
-#[derive(Drop)]
+#[derive(Clone, Copy)]
 pub struct Target {
     pub code: u32,
     pub place: u32,
@@ -68,7 +70,7 @@ pub fn reload(
     edges: &mut [u32],
 ) -> Head
     requires { CanReload start.now copies.now size k vertices.old edges.old }
-    ensures { Holds (exit_state result vertices edges)
+    ensures { Holds (state result vertices.new edges.new)
         (load_of (copy_words start.now copies.now size k)) }
 {
     if k == 0 {
@@ -80,7 +82,7 @@ pub fn reload(
 }
 
 // What a call does to the copies: a move loads one, a change may make one, a commit gives that of the place to place 0.
-#[derive(Drop)]
+#[derive(Clone, Copy)]
 pub enum Role {
     Move(HistoryCall),
     Change,

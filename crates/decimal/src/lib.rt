@@ -1,4 +1,6 @@
 // Texts in slices of bytes, for chartrun's text and for the page. The digits of a number are in specs/.
+#![tactic(auto)]
+
 ghost use Rattle.std.specs.Prelude.{◌+◌, ◌-◌, ◌≤◌, length};
 ghost use Rattle.decimal.specs.Stored.{Stored, fitting};
 

@@ -1,4 +1,5 @@
 -- Calls, one after another: the words that they write over the slice of answers, and what stands after each.
+use Rattle.std.specs.Prelude.{◌==◌}
 use Prim.Native.Nat.{ℕ, zero, suc, ◌+◌, ◌-◌, ◌*◌, ◌/◌, ◌≤◌, ◌<◌}
 use mathlib.Core.Path.{◌≡◌, refl, sym, ap, ◌∙◌, subst}
 use mathlib.Core.List.{List, [], ◌∷◌, ◌++◌}
@@ -8,7 +9,7 @@ use lib.ListN.{length, get_or, set, take, drop, length-append, length-drop}
 use lib.Seq.{drop-drop, take-suc, take_all, length-take-le}
 use Rattle.lists.specs.Lists.{overwritten}
 use mathlib.Core.Bool.{Bool, true, false}
-use Rattle.lists.specs.Choice.{◌⇒◌else◌, ◌==◌}
+use Rattle.lists.specs.Choice.{◌⇒◌else◌}
 use Rattle.history.specs.Machine.{Step, Machine, costs, spent, onward, name, holder_of}
 use borrow.Author.Tests.{ltb-false}
 use Rattle.machine.specs.Posed.{posed, roomed}

@@ -23,20 +23,10 @@ lent start rows calls vertices edges journal answers image = record {
 abbrev pub run_result : RunResult → List ℕ → List ℕ → AfterRun
 run_result r answers image = record { code = r.code; done = r.done; words = r.words; answers = answers; end = image }
 
--- ---- for contracts: the lent slices by their names
-
--- what is lent as the run begins
-abbrev pub given : Slice → Slice → Slice → Slice → Slice → Slice → Slice → Slice → Lent
-given start rows calls vertices edges journal answers image =
-    lent start.entry.now rows.entry.now calls.entry.now vertices.entry.now edges.entry.now
-    journal.entry.now answers.entry.now image.entry.now
-
--- the result with the two slices as the run leaves them
-abbrev pub left : RunResult → Slice → Slice → AfterRun
-left r answers image = run_result r answers.exit.now image.exit.now
+-- ---- for contracts
 
 abbrev pub Same : Slice → Type 0
-Same s = s.exit.now ≡ s.entry.now
+Same s = s.new ≡ s.old
 
 -- REFERENCE 9.8, for the tables
 abbrev pub Untouched : Lent → Slice → Slice → Slice → Type 0

@@ -1,13 +1,11 @@
 -- What the state of a run, the lent words and the closed type rows have to do with the plain machine.
 use Rattle.std.specs.Prelude.{ℕ, ◌*◌, ◌/◌, ◌≤◌, ◌≡◌, true, false, List, length}
-use Rattle.std.specs.Borrow.{Bor}
-use Rattle.lists.specs.Slices.{Slice}
 use Rattle.type_rows.specs.Rows.{good_rows}
 use Rattle.type_rows.specs.Closure.{closure_words}
 use Rattle.history.specs.Machine.{Machine}
 use Rattle.history_calls.specs.declared.Called.{Called}
 use Rattle.history_calls.specs.declared.Store.{Store}
-use Rattle.history_calls.specs.Memory.{Memory, memory, entry, exit}
+use Rattle.history_calls.specs.Memory.{Memory, memory}
 use Rattle.history_calls.specs.Represents.{Represents}
 use Rattle.machine.specs.Calls.{Parameters, bounds_in}
 use Rattle.machine.specs.Run.{Limits}
@@ -42,30 +40,30 @@ pub record Answered (w : Parameters) (capacity : ℕ) (m : Machine) (c : Command
   pub answered : d.answer ≡ answer_to (allowing capacity w) m c
   pub after : Running w d.store mem closed types (step_to (allowing capacity w) m c)
 
--- ---- for contracts: the lent slices by their names
+-- ---- for contracts
 
 -- some run stands at the lent words
-abbrev pub Runs : Store → Bor (List ℕ) → Bor (List ℕ) → Bor (List ℕ) → Bor (List ℕ) → Bor (List ℕ) → ℕ → Type 0
+abbrev pub Runs : Store → List ℕ → List ℕ → List ℕ → List ℕ → List ℕ → ℕ → Type 0
 Runs x vertices edges journal marks closed types =
     (w : Parameters) × (m : Machine)
-    × Running w x (memory vertices.now edges.now journal.now marks.now) closed.now types m
+    × Running w x (memory vertices edges journal marks) closed types m
 
 -- so many changes may be remembered up to the place: no fewer than are, and no more than the journal has rows
-abbrev pub Granted : ℕ → Store → Bor (List ℕ) → Type 0
-Granted capacity x journal = (x.current.position.used ≤ capacity) × (12 * capacity ≤ length journal.now)
+abbrev pub Granted : ℕ → Store → List ℕ → Type 0
+Granted capacity x journal = (x.current.position.used ≤ capacity) × (12 * capacity ≤ length journal)
 
 -- whatever run stood there that the command leads no farther than the capacity of changes allows: the answer is its
 -- machine's at this capacity, and so is what stands afterwards
-abbrev pub AnswersNear : Command → ℕ → Store → Called → Slice → Slice → Slice → Slice → Slice → ℕ → Type 0
-AnswersNear c capacity x d vertices edges journal marks closed types =
+abbrev pub AnswersNear : Command → ℕ → Store → Called → Memory → Memory → List ℕ → ℕ → Type 0
+AnswersNear c capacity x d mem mem' closed types =
     (w : Parameters) → (m : Machine)
-    → Running w x (entry vertices edges journal marks) closed.entry.now types m
+    → Running w x mem closed types m
     → out_of_reach capacity m (call_of c) ≡ false
-    → Answered w capacity m c d (exit vertices edges journal marks) closed.entry.now types
+    → Answered w capacity m c d mem' closed types
 
 -- the same of any command
-abbrev pub Answers : Command → ℕ → Store → Called → Slice → Slice → Slice → Slice → Slice → ℕ → Type 0
-Answers c capacity x d vertices edges journal marks closed types =
+abbrev pub Answers : Command → ℕ → Store → Called → Memory → Memory → List ℕ → ℕ → Type 0
+Answers c capacity x d mem mem' closed types =
     (w : Parameters) → (m : Machine)
-    → Running w x (entry vertices edges journal marks) closed.entry.now types m
-    → Answered w capacity m c d (exit vertices edges journal marks) closed.entry.now types
+    → Running w x mem closed types m
+    → Answered w capacity m c d mem' closed types

@@ -4,7 +4,7 @@ ghost use Rattle.history.specs.Machine.{Machine};
 ghost use Rattle.machine.specs.Calls.{Parameters};
 ghost use Rattle.commands.specs.Calls.{Call, call_at, calls_of};
 ghost use Rattle.commands.specs.Commands.{command_of};
-ghost use Rattle.history_calls.specs.Memory.{memory, entry, exit};
+ghost use Rattle.history_calls.specs.Memory.{memory};
 ghost use Rattle.engine.specs.Running.{Running, Runs, Granted, allowing, Answers};
 ghost use Rattle.engine.specs.Calls.{Reads, AllNear, AfterCalls};
 
@@ -32,12 +32,12 @@ pub fn carry_out(
     requires running { (w : Parameters) × (m : Machine) × (xs : List Call)
         × Running w store (memory vertices.old edges.old journal.old marks.old) closed.now types m
         × Reads width count calls.now xs × AllNear (allowing capacity w) m xs }
-    requires granted { Granted capacity store journal }
+    requires granted { Granted capacity store journal.old }
     requires count_in_bounds { (2 * count ≤ length answers.old) × (width ≤ 6) }
     ensures { (w : Parameters) → (m : Machine) → (xs : List Call)
-        → Running w store (entry vertices edges journal marks) closed.now types m
+        → Running w store (memory vertices.old edges.old journal.old marks.old) closed.now types m
         → Reads width count calls.now xs → AllNear (allowing capacity w) m xs
-        → AfterCalls w capacity m xs result (exit vertices edges journal marks) closed.now types
+        → AfterCalls w capacity m xs result (memory vertices.new edges.new journal.new marks.new) closed.now types
         answers.old answers.new }
 {
     let mut y = history_calls::same(store);
@@ -69,11 +69,11 @@ pub fn each(
     calls: &[u32],
     answers: &mut [u32],
 ) -> Store
-    requires runs { Runs store vertices edges journal marks closed types }
+    requires runs { Runs store vertices.old edges.old journal.old marks.old closed.now types }
     requires calls_in_bounds { 2 * (length calls.now / 5) ≤ length answers.old }
     ensures { (w : Parameters) → (m : Machine)
-        → Running w store (entry vertices edges journal marks) closed.now types m
-        → AfterCalls w w.changes m (calls_of calls.now) result (exit vertices edges journal marks)
+        → Running w store (memory vertices.old edges.old journal.old marks.old) closed.now types m
+        → AfterCalls w w.changes m (calls_of calls.now) result (memory vertices.new edges.new journal.new marks.new)
         closed.now types answers.old answers.new }
 {
     let capacity = (journal.len() / 12) as u32;
@@ -105,10 +105,9 @@ pub fn one(
     types: u32,
     call: &[u32],
 ) -> Called
-    requires runs { Runs store vertices edges journal marks closed types }
+    requires runs { Runs store vertices.old edges.old journal.old marks.old closed.now types }
     requires call_len { length call.now ≡ 5 }
-    ensures { Answers (command_of (call_at call.now)) (length journal.old / 12) store result
-        vertices edges journal marks closed types }
+    ensures { Answers (command_of (call_at call.now)) (length journal.old / 12) store result (memory vertices.old edges.old journal.old marks.old) (memory vertices.new edges.new journal.new marks.new) closed.now types }
 {
     let mut answer = [0u32; 2];
     let y = each(

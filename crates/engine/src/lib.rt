@@ -1,4 +1,6 @@
 // The engine: a list of calls on lent words, from the refusals of the list to the end image.
+#![tactic(auto)]
+
 pub mod refusals; // refusals.rt: the codes of a list
 pub mod begin; // begin.rt: the state before the first call
 pub mod step; // step.rt: one call

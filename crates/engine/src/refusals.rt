@@ -10,7 +10,7 @@ use image_check::{check, code_of, offset_of};
 use type_rows::{RowsVerdict, check_rows};
 
 // The code of a list and the number beside it: with 108 and 109 the offset of the first bad word of the start, else 0.
-#[derive(Drop)]
+#[derive(Clone, Copy)]
 pub struct Refused {
     pub code: u32,
     pub number: u32,

@@ -2,7 +2,8 @@
 ghost use Rattle.std.specs.Prelude.{◌≡◌};
 ghost use Rattle.machine.specs.Demands.{Demand2};
 ghost use Rattle.machine.specs.Run.{list_refusal, accepted as accepted_of, run as run_of};
-ghost use Rattle.engine.specs.Outcomes.{lent, run_result, given, left, Untouched, MeetsDemand1, MeetsDemand3};
+ghost use Rattle.engine.specs.Outcomes.{lent, run_result, Untouched, MeetsDemand1, MeetsDemand3};
+ghost use Rattle.lists.specs.Slices.{slice};
 
 use crate::begin::begin;
 use crate::calls::each;
@@ -13,7 +14,7 @@ use type_rows::closure;
 // The code of the list, the calls done, the words of the end image. Of a refused list `done` is the number beside its
 // code. The layout is that of include/futtockfig.h.
 #[repr(C)]
-#[derive(Drop)]
+#[derive(Clone, Copy)]
 pub struct RunResult {
     pub code: u32,
     pub done: usize,
@@ -34,7 +35,7 @@ fn accepted(
     requires { list_refusal (lent start.now rows.now calls.now
         vertices.old edges.old journal.old answers.old image.old) ≡ 0 }
     ensures { run_result result answers.new image.new
-        ≡ accepted_of (given start rows calls vertices edges journal answers image) }
+        ≡ accepted_of (lent start.now rows.now calls.now vertices.old edges.old journal.old answers.old image.old) }
 {
     let closed = closure(rows);
     let types = rows.len() as u32;
@@ -65,13 +66,12 @@ pub fn run(
     answers: &mut [u32],
     image: &mut [u32],
 ) -> RunResult
-    ensures image_value { left result answers image ≡ run_of (given start rows calls vertices edges journal answers image) }
-    ensures untouched { Untouched (given start rows calls vertices edges journal answers image) vertices edges journal }
-    ensures meets_demand1 { MeetsDemand1 (given start rows calls vertices edges journal answers image)
-        (left result answers image) vertices edges journal }
-    ensures demand2 { Demand2 (given start rows calls vertices edges journal answers image) (left result answers image) }
-    ensures meets_demand3 { MeetsDemand3 (given start rows calls vertices edges journal answers image)
-        (left result answers image) }
+    ensures image_value { run_result result answers.new image.new ≡ run_of (lent start.now rows.now calls.now vertices.old edges.old journal.old answers.old image.old) }
+    ensures untouched { Untouched (lent start.now rows.now calls.now vertices.old edges.old journal.old answers.old image.old) (slice vertices.old vertices.new) (slice edges.old edges.new) (slice journal.old journal.new) }
+    ensures meets_demand1 { MeetsDemand1 (lent start.now rows.now calls.now vertices.old edges.old journal.old answers.old image.old) (run_result result answers.new image.new) (slice vertices.old vertices.new) (slice edges.old edges.new) (slice journal.old journal.new) }
+    ensures demand2 { Demand2 (lent start.now rows.now calls.now vertices.old edges.old journal.old answers.old image.old) (run_result result answers.new image.new) }
+    ensures meets_demand3 { MeetsDemand3 (lent start.now rows.now calls.now vertices.old edges.old journal.old answers.old image.old)
+        (run_result result answers.new image.new) }
 {
     let refused = refusal(
         start,

@@ -1,5 +1,5 @@
 // One call on the tables, the journal and the marks.
-ghost use Rattle.history_calls.specs.Memory.{entry, exit};
+ghost use Rattle.history_calls.specs.Memory.{memory};
 ghost use Rattle.history_calls.specs.Outcomes.{Leaves};
 ghost use Rattle.engine.specs.Running.{Runs, Granted, AnswersNear};
 
@@ -22,9 +22,9 @@ pub fn step(
     capacity: u32,
     command: Command,
 ) -> Called
-    requires { Runs store vertices edges journal marks closed types × Granted capacity store journal }
-    ensures answers_near { AnswersNear command capacity store result vertices edges journal marks closed types }
-    ensures leaves { Leaves store (entry vertices edges journal marks) result (exit vertices edges journal marks) }
+    requires { Runs store vertices.old edges.old journal.old marks.old closed.now types × Granted capacity store journal.old }
+    ensures answers_near { AnswersNear command capacity store result (memory vertices.old edges.old journal.old marks.old) (memory vertices.new edges.new journal.new marks.new) closed.now types }
+    ensures leaves { Leaves store (memory vertices.old edges.old journal.old marks.old) result (memory vertices.new edges.new journal.new marks.new) }
 {
     match command {
         Command::Alter(change) => {

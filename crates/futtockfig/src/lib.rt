@@ -1,11 +1,13 @@
 // The run of one store and of several, the parts of an image, the page, the comparison of two images, calls for an
 // order, the recorded run and the reduction of a list, for programs in C and Rust: include/futtockfig.h says it in C.
+#![tactic(auto)]
+
 ghost use Rattle.std.specs.Prelude.{◌≡◌, length};
 ghost use Rattle.machine.specs.Demands.{Demand2};
 ghost use Rattle.machine.specs.Run.{run as run_of};
 ghost use Rattle.image.specs.Image.{part as part_of};
 ghost use Rattle.image.specs.Parts.{part_start};
-ghost use Rattle.engine.specs.Outcomes.{given, left, Untouched, MeetsDemand1, MeetsDemand3};
+ghost use Rattle.engine.specs.Outcomes.{Untouched, MeetsDemand1, MeetsDemand3, lent, run_result};
 ghost use Rattle.machine.specs.StoreRun.{run_in};
 ghost use Rattle.machine.specs.StoreDemands.{Demand2In};
 ghost use Rattle.stores.specs.Outcomes.{several, UntouchedIn, BehindStays, MeetsDemand1In, MeetsDemand3In};
@@ -16,6 +18,7 @@ ghost use Rattle.recorder.specs.Outcomes.{after_recording, recording, Untouched 
 ghost use Rattle.recorder.specs.Outcomes.{MeetsDemand1 as Records1, MeetsDemand2 as Records2};
 ghost use Rattle.reduction.specs.Outcomes.{after_reduction, reduction as reduction_of, IsLeast};
 ghost use Rattle.reduction.specs.Outcomes.{Untouched as LeavesAll};
+ghost use Rattle.lists.specs.Slices.{slice};
 
 use arrangement::{Arrangement, arrange_edges, arrange_vertices, arrange_words};
 use comparison::{Compared, compare};
@@ -45,13 +48,12 @@ pub extern "C" fn futtockfig_run(
     answers: &mut [u32],
     image: &mut [u32],
 ) -> RunResult
-    ensures image_value { left result answers image ≡ run_of (given start rows calls vertices edges journal answers image) }
-    ensures untouched { Untouched (given start rows calls vertices edges journal answers image) vertices edges journal }
-    ensures meets_demand1 { MeetsDemand1 (given start rows calls vertices edges journal answers image)
-        (left result answers image) vertices edges journal }
-    ensures demand2 { Demand2 (given start rows calls vertices edges journal answers image) (left result answers image) }
-    ensures meets_demand3 { MeetsDemand3 (given start rows calls vertices edges journal answers image)
-        (left result answers image) }
+    ensures image_value { run_result result answers.new image.new ≡ run_of (lent start.now rows.now calls.now vertices.old edges.old journal.old answers.old image.old) }
+    ensures untouched { Untouched (lent start.now rows.now calls.now vertices.old edges.old journal.old answers.old image.old) (slice vertices.old vertices.new) (slice edges.old edges.new) (slice journal.old journal.new) }
+    ensures meets_demand1 { MeetsDemand1 (lent start.now rows.now calls.now vertices.old edges.old journal.old answers.old image.old) (run_result result answers.new image.new) (slice vertices.old vertices.new) (slice edges.old edges.new) (slice journal.old journal.new) }
+    ensures demand2 { Demand2 (lent start.now rows.now calls.now vertices.old edges.old journal.old answers.old image.old) (run_result result answers.new image.new) }
+    ensures meets_demand3 { MeetsDemand3 (lent start.now rows.now calls.now vertices.old edges.old journal.old answers.old image.old)
+        (run_result result answers.new image.new) }
 {
     run(start, rows, calls, vertices, edges, journal, answers, image)
 }
@@ -71,17 +73,15 @@ pub extern "C" fn futtockfig_run_stores(
     stores: u32,
     limit: u32,
 ) -> RunResult
-    ensures image_value { left result answers image
-        ≡ run_in (several (given start rows calls vertices edges journal answers image) stores limit) }
-    ensures untouched_in { UntouchedIn (several (given start rows calls vertices edges journal answers image) stores limit)
-        vertices edges journal }
-    ensures behind_stays { BehindStays stores vertices edges journal }
-    ensures meets_demand1in { MeetsDemand1In (several (given start rows calls vertices edges journal answers image) stores limit)
-        (left result answers image) vertices edges journal }
-    ensures demand2in { Demand2In (several (given start rows calls vertices edges journal answers image) stores limit)
-        (left result answers image) }
-    ensures meets_demand3in { MeetsDemand3In (several (given start rows calls vertices edges journal answers image) stores limit)
-        (left result answers image) }
+    ensures image_value { run_result result answers.new image.new
+        ≡ run_in (several (lent start.now rows.now calls.now vertices.old edges.old journal.old answers.old image.old) stores limit) }
+    ensures untouched_in { UntouchedIn (several (lent start.now rows.now calls.now vertices.old edges.old journal.old answers.old image.old) stores limit) (slice vertices.old vertices.new) (slice edges.old edges.new) (slice journal.old journal.new) }
+    ensures behind_stays { BehindStays stores (slice vertices.old vertices.new) (slice edges.old edges.new) (slice journal.old journal.new) }
+    ensures meets_demand1in { MeetsDemand1In (several (lent start.now rows.now calls.now vertices.old edges.old journal.old answers.old image.old) stores limit) (run_result result answers.new image.new) (slice vertices.old vertices.new) (slice edges.old edges.new) (slice journal.old journal.new) }
+    ensures demand2in { Demand2In (several (lent start.now rows.now calls.now vertices.old edges.old journal.old answers.old image.old) stores limit)
+        (run_result result answers.new image.new) }
+    ensures meets_demand3in { MeetsDemand3In (several (lent start.now rows.now calls.now vertices.old edges.old journal.old answers.old image.old) stores limit)
+        (run_result result answers.new image.new) }
 {
     run_stores(
         start, rows, calls, vertices, edges, journal, answers, image, stores, limit,
@@ -90,7 +90,7 @@ pub extern "C" fn futtockfig_run_stores(
 
 // Where a part of an image lies, in words. No function that C calls can return a part itself.
 #[repr(C)]
-#[derive(Drop)]
+#[derive(Clone, Copy)]
 pub struct Span {
     pub offset: usize,
     pub len: usize,
@@ -175,15 +175,13 @@ pub extern "C" fn futtockfig_record(
     image: &mut [u32],
     copies: &mut [u32],
 ) -> RunResult
-    ensures copies_after { after_recording (left result answers image) copies.new
-        ≡ recording (given start rows calls vertices edges journal answers image) copies.old }
-    ensures leaves_tables { LeavesTables (given start rows calls vertices edges journal answers image)
-        (length copies.old) vertices edges journal }
-    ensures records1 { Records1 (given start rows calls vertices edges journal answers image) (left result answers image)
-        vertices edges journal }
-    ensures records2 { Records2 (given start rows calls vertices edges journal answers image) (left result answers image) }
-    ensures meets_demand3 { MeetsDemand3 (given start rows calls vertices edges journal answers image)
-        (left result answers image) }
+    ensures copies_after { after_recording (run_result result answers.new image.new) copies.new
+        ≡ recording (lent start.now rows.now calls.now vertices.old edges.old journal.old answers.old image.old) copies.old }
+    ensures leaves_tables { LeavesTables (lent start.now rows.now calls.now vertices.old edges.old journal.old answers.old image.old) (length copies.old) (slice vertices.old vertices.new) (slice edges.old edges.new) (slice journal.old journal.new) }
+    ensures records1 { Records1 (lent start.now rows.now calls.now vertices.old edges.old journal.old answers.old image.old) (run_result result answers.new image.new) (slice vertices.old vertices.new) (slice edges.old edges.new) (slice journal.old journal.new) }
+    ensures records2 { Records2 (lent start.now rows.now calls.now vertices.old edges.old journal.old answers.old image.old) (run_result result answers.new image.new) }
+    ensures meets_demand3 { MeetsDemand3 (lent start.now rows.now calls.now vertices.old edges.old journal.old answers.old image.old)
+        (run_result result answers.new image.new) }
 {
     record_run(
         start, rows, calls, vertices, edges, journal, answers, image, copies,
@@ -204,9 +202,9 @@ pub extern "C" fn futtockfig_reduce(
     list: &mut [u32],
 ) -> Reduction
     ensures list_after { after_reduction result list.new
-        ≡ reduction_of (given start rows calls vertices edges journal answers image) list.old }
-    ensures leaves_all { LeavesAll result vertices edges journal answers }
-    ensures least { IsLeast (given start rows calls vertices edges journal answers image) result list.new }
+        ≡ reduction_of (lent start.now rows.now calls.now vertices.old edges.old journal.old answers.old image.now) list.old }
+    ensures leaves_all { LeavesAll result (slice vertices.old vertices.new) (slice edges.old edges.new) (slice journal.old journal.new) (slice answers.old answers.new) }
+    ensures least { IsLeast (lent start.now rows.now calls.now vertices.old edges.old journal.old answers.old image.now) result list.new }
 {
     reduce(
         start, rows, calls, vertices, edges, journal, answers, image, list,

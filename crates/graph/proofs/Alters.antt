@@ -1,11 +1,12 @@
 -- An edit that applies keeps the graph exactly where its old and its new agree.
+use Rattle.std.specs.Prelude.{◌==◌}
 use Prim.Native.Nat.{ℕ, ◌%◌}
 use mathlib.Core.Path.{◌≡◌, refl, sym, ap, ap₂, ◌∙◌, subst}
 use mathlib.Core.Bool.{Bool, true, false, not, ◌||◌}
 use mathlib.Core.List.{List, [], ◌∷◌}
 use native.Mathlib.Omega.{arith}
 use borrow.Author.Tests.{eqb-true, eq-eqb}
-use Rattle.lists.specs.Choice.{◌==◌, if_equal}
+use Rattle.lists.specs.Choice.{if_equal}
 use Rattle.lists.specs.Keyed.{count_by_key}
 use Rattle.lists.proofs.Bools.{and_true, and_both, ft}
 use Rattle.lists.proofs.Picks.{pick_yes, pick_no, same as alike, differ, same?, is_yes}

@@ -1,4 +1,5 @@
 -- The edges at a vertex, taken out one after another.
+use Rattle.std.specs.Prelude.{◌==◌}
 use Prim.Native.Nat.{ℕ, suc, min, ◌+◌, ◌≤◌}
 use mathlib.Core.Path.{◌≡◌, refl, sym, ap, ap₂, subst, ◌∙◌}
 use mathlib.Core.Logic.{◌≢◌}
@@ -7,7 +8,7 @@ use mathlib.Core.List.{List, [], ◌∷◌, map}
 use native.Mathlib.Omega.{arith}
 use lib.ListN.{length, drop}
 use borrow.Author.Tests.{eq-eqb, ne_eqb}
-use Rattle.lists.specs.Choice.{◌==◌, indicator, to_bit}
+use Rattle.lists.specs.Choice.{indicator, to_bit}
 use Rattle.lists.specs.Lists.{filter, first, dedup, count}
 use Rattle.lists.specs.Keyed.{count_by_key, remove_by}
 use Rattle.lists.proofs.Picks.{pick_yes, pick_no, same, differ, same?, is_yes, is_no}

@@ -1,4 +1,5 @@
 -- The words of edges at a vertex, counted.
+use Rattle.std.specs.Prelude.{◌==◌}
 use Prim.Native.Nat.{ℕ, ◌+◌, ◌/◌, ◌%◌, ◌≤◌}
 use mathlib.Core.Path.{◌≡◌, refl, sym, ap, ◌∙◌}
 use mathlib.Core.Logic.{◌≢◌}
@@ -7,7 +8,7 @@ use mathlib.Core.List.{List, [], ◌∷◌, ◌++◌}
 use native.Mathlib.Omega.{arith}
 use native.Mathlib.Nat.{zero-add}
 use borrow.Author.Tests.{eq-eqb, ne_eqb}
-use Rattle.lists.specs.Choice.{◌⇒◌else◌, ◌==◌, if_equal, indicator, to_bit}
+use Rattle.lists.specs.Choice.{◌⇒◌else◌, if_equal, indicator, to_bit}
 use Rattle.lists.specs.Lists.{count}
 use Rattle.lists.specs.Keyed.{count_by_key}
 use Rattle.lists.proofs.Picks.{pick_yes, pick_no, pick_both, same, differ, same?, is_yes, is_no}

@@ -1,6 +1,6 @@
 -- The graph (the papers' chart): vertices and edges, each in an order. REFERENCE 1.2 to 1.8.
-use Rattle.std.specs.Prelude.{ℕ, ◌+◌, ◌*◌, ◌/◌, ◌%◌, ◌≡◌, Bool, ◌&&◌, ◌||◌, List, [], map, leb}
-use Rattle.lists.specs.Choice.{◌⇒◌else◌, ◌==◌, if_equal}
+use Rattle.std.specs.Prelude.{ℕ, ◌+◌, ◌*◌, ◌/◌, ◌%◌, ◌≡◌, Bool, ◌&&◌, ◌||◌, List, [], map, leb, ◌==◌}
+use Rattle.lists.specs.Choice.{◌⇒◌else◌, if_equal}
 use Rattle.lists.specs.Lists.{any}
 use Rattle.lists.specs.Keyed.{find_by}
 use Rattle.graph.specs.declared.Reading.{Reading}

@@ -1,6 +1,5 @@
 -- The question that counts: degree in a class. The others read Graph and the list operations first, after and before.
-use Rattle.std.specs.Prelude.{ℕ, Bool, not, ◌&&◌, ◌||◌, length}
-use Rattle.lists.specs.Choice.{◌==◌}
+use Rattle.std.specs.Prelude.{ℕ, Bool, not, ◌&&◌, ◌||◌, length, ◌==◌}
 use Rattle.lists.specs.Lists.{filter}
 use Rattle.graph.specs.Graph.{Graph, edge, edge_of, is_out, list_of}
 

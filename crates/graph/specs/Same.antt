@@ -1,6 +1,5 @@
 -- Whether two graphs are the same, and whether a change alters the graph (REFERENCE 3.11).
-use Rattle.std.specs.Prelude.{Bool, true, false, not, ◌&&◌, ◌||◌, List, [], ◌∷◌}
-use Rattle.lists.specs.Choice.{◌==◌}
+use Rattle.std.specs.Prelude.{Bool, true, false, not, ◌&&◌, ◌||◌, List, [], ◌∷◌, ◌==◌}
 use Rattle.lists.specs.Lists.{equal_lists}
 use Rattle.graph.specs.declared.Reading.{Reading}
 use Rattle.graph.specs.declared.Change.{Change}

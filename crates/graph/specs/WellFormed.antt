@@ -1,6 +1,6 @@
 -- What makes a graph one, within capacities and types.
-use Rattle.std.specs.Prelude.{ℕ, ◌+◌, ◌^◌, ◌≤◌, ◌<◌, ◌≡◌, Bool, true, ◌&&◌, List, [], ◌∷◌, ◌++◌, ltb}
-use Rattle.lists.specs.Choice.{◌⇒◌else◌, ◌==◌, if_equal, indicator, within}
+use Rattle.std.specs.Prelude.{ℕ, ◌+◌, ◌^◌, ◌≤◌, ◌<◌, ◌≡◌, Bool, true, ◌&&◌, List, [], ◌∷◌, ◌++◌, ltb, ◌==◌}
+use Rattle.lists.specs.Choice.{◌⇒◌else◌, if_equal, indicator, within}
 use Rattle.lists.specs.Lists.{all, All, distinct, count}
 use Rattle.lists.specs.Keyed.{count_by_key}
 use Rattle.graph.specs.declared.Reading.{Reading}

@@ -1,5 +1,8 @@
+#![tactic(auto)]
+
 // The most that a run is lent for, types among it, and how many marks and benches there are; benches have the numbers
 // from 0 on.
+
 pub const MOST_VERTICES: u32 = 1000;
 
 pub const MOST_EDGES: u32 = 4000;
@@ -13,7 +16,7 @@ pub const MOST_MARKS: u32 = 64;
 pub const MOST_BENCHES: u32 = 100;
 
 // The reading of an edge: untested, silent, or heard at some decimetres.
-#[derive(Drop)]
+#[derive(Clone, Copy)]
 pub enum Reading {
     Untested,
     Silent,
@@ -21,7 +24,7 @@ pub enum Reading {
 }
 
 // A change of one edit, kinds 1 and 3 to 16 in their order; the words of a reading as the call has them.
-#[derive(Drop)]
+#[derive(Clone, Copy)]
 pub enum SingleChange {
     // number, type, value
     CreateVertex(u32, u32, u32),
@@ -48,14 +51,14 @@ pub enum SingleChange {
 }
 
 // A change of the graph, kinds 1 to 16: one edit, or, kind 2, a vertex deleted together with the edges at it.
-#[derive(Drop)]
+#[derive(Clone, Copy)]
 pub enum Change {
     Single(SingleChange),
     DeleteVertex(u32),
 }
 
 // A reversible edit. A place is the number, or the oriented word, that stands directly before; 0 is the front.
-#[derive(Drop)]
+#[derive(Clone, Copy)]
 pub enum Edit {
     // number, type, value; after which vertex
     InsertVertex(u32, u32, u32, u32),

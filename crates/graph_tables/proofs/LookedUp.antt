@@ -1,7 +1,8 @@
 -- What a look-up says: of the table, and of the graph that the table holds.
+use Rattle.std.specs.Prelude.{◌==◌}
 use Rattle.std.proofs.Common.{◌≡◌, ℕ, ◌+◌, ◌-◌, ◌*◌, ◌/◌, ◌≤◌, Bool, true, false, ltb, List, length, get_or, sym, refl, ◌∙◌, arith, ltb-false}
 use borrow.Author.Tests.{eqb-false}
-use Rattle.lists.specs.Choice.{◌⇒◌else◌, ◌==◌}
+use Rattle.lists.specs.Choice.{◌⇒◌else◌}
 use Rattle.graph.specs.Graph.{Graph, has_vertex, has_edge}
 use Rattle.graph_tables.specs.declared.Lookup.{Lookup}
 use Rattle.graph_tables.specs.declared.Lookup.TheVariants.{Found, Missing}

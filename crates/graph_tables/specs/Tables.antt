@@ -1,12 +1,11 @@
 -- The tables (REFERENCE 13.1, 13.2): where each word stands, and what each step does to the words.
-use Rattle.std.specs.Prelude.{◌≡◌, ℕ, ◌+◌, ◌-◌, ◌*◌, ◌^◌, ◌<◌, ◌≤◌, List, length, set, replicate, nat_lt, slice_index, slice_index_or, slice_set}
-use Rattle.lists.specs.Slices.{Slice}
+use Rattle.std.specs.Prelude.{◌≡◌, ℕ, ◌+◌, ◌-◌, ◌*◌, ◌^◌, ◌<◌, ◌≤◌, List, length, set, replicate, nat_lt, slice_index, slice_index_or, slice_set, ◌==◌}
 use Rattle.linked_lists.specs.declared.LinkLayout.{LinkLayout}
 use Rattle.linked_lists.specs.declared.Ends.{Ends}
 use Rattle.linked_lists.specs.Links.{table_unlink, ends_unlink, table_insert, ends_insert, table_move, ends_move, CanUnlink, CanInsert}
 use Rattle.graph.specs.declared.Reading.{Reading}
 use Rattle.graph.specs.declared.Reading.TheVariants.{Untested}
-use Rattle.lists.specs.Choice.{◌⇒◌else◌, ◌==◌}
+use Rattle.lists.specs.Choice.{◌⇒◌else◌}
 use Rattle.graph.specs.Graph.{reading_kind, decimetres, reading_of}
 use Rattle.graph_tables.specs.declared.Head.{Head}
 use Rattle.graph_tables.specs.declared.EdgeFields.{EdgeFields}
@@ -116,13 +115,6 @@ pub record State : Type 0 where
 
 abbrev pub state : Head → List ℕ → List ℕ → State
 state h vertices edges = record { head = h; vertices = vertices; edges = edges }
-
--- the lent tables with a head, as a function begins and as it ends
-abbrev pub entry_state : Head → Slice → Slice → State
-entry_state head vertices edges = state head vertices.entry.now edges.entry.now
-
-abbrev pub exit_state : Head → Slice → Slice → State
-exit_state head vertices edges = state head vertices.exit.now edges.exit.now
 
 abbrev pub vertex_list_ends : Head → Ends
 vertex_list_ends h = record { first = h.vfirst; last = h.vlast }

@@ -1,6 +1,6 @@
 // Tables with no vertices and no edges.
 ghost use Rattle.std.specs.Prelude.{◌≡◌, length, replicate};
-ghost use Rattle.graph_tables.specs.Tables.{cleared, exit_state};
+ghost use Rattle.graph_tables.specs.Tables.{cleared, state};
 
 use crate::Head;
 
@@ -16,7 +16,7 @@ fn zero(table: &mut [u32])
 
 // Makes the empty graph, whatever words the tables come with.
 pub fn clear(vertices: &mut [u32], edges: &mut [u32]) -> Head
-    ensures { exit_state result vertices edges ≡ cleared vertices.old edges.old }
+    ensures { state result vertices.new edges.new ≡ cleared vertices.old edges.old }
 {
     zero(vertices);
     zero(edges);

@@ -3,15 +3,7 @@
 ghost use Rattle.std.specs.Prelude.{◌≡◌, ◌^◌, ◌<◌};
 ghost use Rattle.linked_lists.specs.Links.{CanMove};
 ghost use Rattle.graph.specs.Graph.{reading_of, IsWords};
-ghost use Rattle.graph_tables.specs.Tables.{
-  state,
-  edge_list_ends,
-  edge_links,
-  EdgeRowIn,
-  state_set_edge,
-  entry_state,
-  exit_state,
-};
+ghost use Rattle.graph_tables.specs.Tables.{state, edge_list_ends, edge_links, EdgeRowIn, state_set_edge};
 ghost use Rattle.graph_tables.specs.Tables.{state_move_edge, state_place_edge};
 ghost use Rattle.graph_tables.specs.Tables.{CanPlaceEdge, state_drop_edge, CanDropEdge, state_insert_edge, CanInsertEdge};
 ghost use Rattle.graph_tables.specs.Tables.{state_remove_edge, CanRemoveEdge};
@@ -34,7 +26,7 @@ pub fn set_edge(
 )
     requires { EdgeRowIn edges.old e }
     ensures { state head vertices.now edges.new ≡ state_set_edge e sort reading
-        (entry_state head vertices edges) }
+        (state head vertices.now edges.old) }
 {
     put_edge(edges, e, 1, sort, reading);
 }
@@ -51,7 +43,7 @@ pub fn set_edge_words(
 )
     requires { EdgeRowIn edges.old e × IsWords kind heard }
     ensures { state head vertices.now edges.new
-        ≡ state_set_edge e sort (reading_of kind heard) (entry_state head vertices edges) }
+        ≡ state_set_edge e sort (reading_of kind heard) (state head vertices.now edges.old) }
 {
     put_fields(edges, e, sort, kind, heard);
 }
@@ -60,7 +52,7 @@ pub fn set_edge_words(
 pub fn move_edge(head: Head, vertices: &[u32], edges: &mut [u32], n: u32, p: u32) -> Head
     requires { CanMove edge_links n p edges.old (edge_list_ends head) }
     ensures { state result vertices.now edges.new ≡ state_move_edge n p
-        (entry_state head vertices edges) }
+        (state head vertices.now edges.old) }
 {
     let e = linked_lists::relink(
         edges,
@@ -87,7 +79,7 @@ pub fn place_edge(head: Head, vertices: &[u32], edges: &mut [u32], edge: EdgeRec
     requires { CanPlaceEdge edge.number p (state head vertices.now edges.old) }
     ensures { state result vertices.now edges.new
         ≡ state_place_edge edge.number edge.alpha edge.omega edge.sort
-        edge.reading p (entry_state head vertices edges) }
+        edge.reading p (state head vertices.now edges.old) }
 {
     let r = edge.reading;
     let e = linked_lists::insert_after(
@@ -115,7 +107,7 @@ pub fn place_edge(head: Head, vertices: &[u32], edges: &mut [u32], edge: EdgeRec
 fn drop_edge(head: Head, vertices: &[u32], edges: &mut [u32], n: u32) -> Head
     requires { CanDropEdge n (state head vertices.now edges.old) }
     ensures { state result vertices.now edges.new ≡ state_drop_edge n
-        (entry_state head vertices edges) }
+        (state head vertices.now edges.old) }
 {
     let e = linked_lists::unlink(
         edges,
@@ -149,8 +141,8 @@ pub fn insert_edge(
     requires { (edge.number < 2 ^ 31)
         × CanInsertEdge edge.number edge.alpha edge.omega edge.sort edge.reading at.order at.out
         at.into (state head vertices.old edges.old) }
-    ensures { exit_state result vertices edges ≡ state_insert_edge edge.number edge.alpha edge.omega edge.sort
-        edge.reading at.order at.out at.into (entry_state head vertices edges) }
+    ensures { state result vertices.new edges.new ≡ state_insert_edge edge.number edge.alpha edge.omega edge.sort
+        edge.reading at.order at.out at.into (state head vertices.old edges.old) }
 {
     let h = place_edge(head, vertices, edges, edge, at.order);
     attach(h, vertices, edges, edge.alpha, at.out, 2 * edge.number);
@@ -168,7 +160,7 @@ pub fn remove_edge(
     z: u32,
 ) -> Head
     requires { (n < 2 ^ 31) × CanRemoveEdge n a z (state head vertices.old edges.old) }
-    ensures { exit_state result vertices edges ≡ state_remove_edge n a z (entry_state head vertices edges) }
+    ensures { state result vertices.new edges.new ≡ state_remove_edge n a z (state head vertices.old edges.old) }
 {
     detach(head, vertices, edges, z, 2 * n + 1);
     detach(head, vertices, edges, a, 2 * n);

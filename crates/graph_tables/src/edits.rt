@@ -1,7 +1,7 @@
 // The nine edits.
 // A caller has tables that hold a graph to which the edit applies, or lists that are held: `Can` of the edit.
 ghost use Rattle.std.specs.Prelude.{◌≡◌};
-ghost use Rattle.graph_tables.specs.Tables.{state, entry_state, exit_state};
+ghost use Rattle.graph_tables.specs.Tables.{state};
 ghost use Rattle.graph_tables.specs.Edits.{state_apply, Can};
 
 use crate::edges::{insert_edge, move_edge, remove_edge, set_edge};
@@ -13,7 +13,7 @@ use graph::Edit;
 // Carries an edit out.
 pub fn apply_edit(head: Head, vertices: &mut [u32], edges: &mut [u32], edit: Edit) -> Head
     requires { Can edit (state head vertices.old edges.old) }
-    ensures { exit_state result vertices edges ≡ state_apply edit (entry_state head vertices edges) }
+    ensures { state result vertices.new edges.new ≡ state_apply edit (state head vertices.old edges.old) }
 {
     match edit {
         Edit::InsertVertex(n, t, x, p) => insert_vertex(head, vertices, edges, n, t, x, p),
@@ -54,7 +54,7 @@ pub fn apply_edit(head: Head, vertices: &mut [u32], edges: &mut [u32], edit: Edi
 // The same, for what undoes an edit: a second function, so that each of the two loops that replay has its own.
 pub fn apply_undoing(head: Head, vertices: &mut [u32], edges: &mut [u32], edit: Edit) -> Head
     requires { Can edit (state head vertices.old edges.old) }
-    ensures { exit_state result vertices edges ≡ state_apply edit (entry_state head vertices edges) }
+    ensures { state result vertices.new edges.new ≡ state_apply edit (state head vertices.old edges.old) }
 {
     match edit {
         Edit::InsertVertex(n, t, x, p) => insert_vertex(head, vertices, edges, n, t, x, p),

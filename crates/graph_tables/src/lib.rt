@@ -1,4 +1,6 @@
 // A graph in lent tables of words: 8 words a vertex, 12 an edge. Number 0 is none, and so are the words 0 and 1.
+#![tactic(auto)]
+
 ghost use Rattle.std.specs.Prelude.{◌≡◌};
 
 use graph::Reading;
@@ -13,7 +15,7 @@ pub mod edits; // the nine edits
 pub mod lookups; // is a number in the graph
 
 // Ends of the two orders (0 is none), and how many vertices and edges there are.
-#[derive(Drop)]
+#[derive(Clone, Copy)]
 pub struct Head {
     pub vfirst: u32,
     pub vlast: u32,
@@ -24,7 +26,7 @@ pub struct Head {
 }
 
 // An edge: its number, its ends, its type and its reading.
-#[derive(Drop)]
+#[derive(Clone, Copy)]
 pub struct EdgeRecord {
     pub number: u32,
     pub alpha: u32,
@@ -34,7 +36,7 @@ pub struct EdgeRecord {
 }
 
 // What the row of an edge says of it, as words: its ends, its type, and kind and decimetres of its reading.
-#[derive(Drop)]
+#[derive(Clone, Copy)]
 pub struct EdgeFields {
     pub alpha: u32,
     pub omega: u32,
@@ -44,7 +46,7 @@ pub struct EdgeFields {
 }
 
 // Where an edge is put in: after which edge of Eseq, and after which words of the two incidence lists.
-#[derive(Drop)]
+#[derive(Clone, Copy)]
 pub struct Places {
     pub order: u32,
     pub out: u32,
@@ -52,7 +54,7 @@ pub struct Places {
 }
 
 // What a look-up of a number returns: where its row starts, or that the graph does not have it.
-#[derive(Drop)]
+#[derive(Clone, Copy)]
 pub enum Lookup {
     Found(usize),
     Missing,

@@ -2,13 +2,7 @@
 // A caller has tables that hold a graph to which the edit applies, or lists that are held: `Can` of the edit.
 ghost use Rattle.std.specs.Prelude.{◌≡◌};
 ghost use Rattle.linked_lists.specs.Links.{CanMove};
-ghost use Rattle.graph_tables.specs.Tables.{
-  state,
-  vertex_list_ends,
-  vertex_links,
-  VertexRowIn,
-  entry_state,
-};
+ghost use Rattle.graph_tables.specs.Tables.{state, vertex_list_ends, vertex_links, VertexRowIn};
 ghost use Rattle.graph_tables.specs.Tables.{state_set_vertex, state_move_vertex};
 ghost use Rattle.graph_tables.specs.Tables.{state_insert_vertex, CanInsertVertex, state_remove_vertex, CanRemoveVertex};
 
@@ -21,7 +15,7 @@ use linked_lists::Ends;
 pub fn set_vertex(head: Head, vertices: &mut [u32], edges: &[u32], v: u32, sort: u32, value: u32)
     requires { VertexRowIn vertices.old v }
     ensures { state head vertices.new edges.now ≡ state_set_vertex v sort value
-        (entry_state head vertices edges) }
+        (state head vertices.old edges.now) }
 {
     put_vertex(vertices, v, 1, sort, value);
 }
@@ -30,7 +24,7 @@ pub fn set_vertex(head: Head, vertices: &mut [u32], edges: &[u32], v: u32, sort:
 pub fn move_vertex(head: Head, vertices: &mut [u32], edges: &[u32], n: u32, p: u32) -> Head
     requires { CanMove vertex_links n p vertices.old (vertex_list_ends head) }
     ensures { state result vertices.new edges.now ≡ state_move_vertex n p
-        (entry_state head vertices edges) }
+        (state head vertices.old edges.now) }
 {
     let e = linked_lists::relink(
         vertices,
@@ -64,7 +58,7 @@ pub fn insert_vertex(
 ) -> Head
     requires { CanInsertVertex n p (state head vertices.old edges.now) }
     ensures { state result vertices.new edges.now ≡ state_insert_vertex n sort value p
-        (entry_state head vertices edges) }
+        (state head vertices.old edges.now) }
 {
     let e = linked_lists::insert_after(
         vertices,
@@ -91,7 +85,7 @@ pub fn insert_vertex(
 pub fn remove_vertex(head: Head, vertices: &mut [u32], edges: &[u32], n: u32) -> Head
     requires { CanRemoveVertex n (state head vertices.old edges.now) }
     ensures { state result vertices.new edges.now ≡ state_remove_vertex n
-        (entry_state head vertices edges) }
+        (state head vertices.old edges.now) }
 {
     let e = linked_lists::unlink(
         vertices,

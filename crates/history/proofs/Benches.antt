@@ -1,4 +1,5 @@
 -- The steps between two places, and how many of them each bench made.
+use Rattle.std.specs.Prelude.{◌==◌}
 use Prim.Native.Nat.{ℕ, zero, suc, ◌+◌, ◌-◌, ◌≤◌, ◌<◌}
 use mathlib.Core.Path.{◌≡◌, refl, sym, ap, ◌∙◌}
 use mathlib.Core.List.{List, [], ◌∷◌, ◌++◌}
@@ -6,7 +7,7 @@ use native.Mathlib.Omega.{arith}
 use lib.ListN.{length, take, drop, length-append, length-drop}
 use lib.Seq.{length-take-le}
 use borrow.Author.Tests.{eq-eqb, ne_eqb}
-use Rattle.lists.specs.Choice.{◌==◌, to_bit}
+use Rattle.lists.specs.Choice.{to_bit}
 use Rattle.lists.specs.Lists.{sum_of, range, All, done, more}
 use Rattle.lists.proofs.Sums.{sum_append, all_append, bit_le}
 use Rattle.lists.proofs.Picks.{same, differ, same?}

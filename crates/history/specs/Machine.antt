@@ -1,6 +1,6 @@
 -- The state of the plain machine, and what each sort of history call makes of it.
-use Rattle.std.specs.Prelude.{ℕ, zero, suc, ◌+◌, ◌-◌, Bool, true, false, not, ◌&&◌, List, [], ◌∷◌, ◌++◌, length, take, drop, ltb}
-use Rattle.lists.specs.Choice.{◌⇒◌else◌, ◌==◌, within, to_bit}
+use Rattle.std.specs.Prelude.{ℕ, zero, suc, ◌+◌, ◌-◌, Bool, true, false, not, ◌&&◌, List, [], ◌∷◌, ◌++◌, length, take, drop, ltb, ◌==◌}
+use Rattle.lists.specs.Choice.{◌⇒◌else◌, within, to_bit}
 use Rattle.lists.specs.Lists.{filter, sum_of, range}
 use Rattle.graph.specs.declared.Change.{Change}
 use Rattle.graph.specs.Graph.{Graph}

@@ -1,1 +1,2 @@
 // The history layer. Its state and operations are in specs/.
+#![tactic(auto)]

@@ -1,18 +1,16 @@
 -- The calls that lead to another place: the way read off the position and the marks is the machine's.
+use Rattle.std.specs.Prelude.{◌==◌}
 use Prim.Native.Nat.{ℕ, suc, ◌+◌, ◌≤◌}
 use mathlib.Core.Path.{◌≡◌, refl, sym, ap, subst, ◌∙◌}
 use mathlib.Core.Logic.{◌≢◌}
 use mathlib.Core.Bool.{Bool, true, false}
-use mathlib.Core.List.{List, [], ◌∷◌}
+use mathlib.Core.List.{List}
 use native.Mathlib.Omega.{arith}
-use types.Run.{OneOf, miss}
-use denote.Enum.Declared.{tag_of}
 use borrow.Author.Tests.{eqb-false, ltb-true, ltb-false}
 use lib.Dec.{ltb}
-use Rattle.lists.specs.Choice.{◌==◌, ◌⇒◌else◌}
+use Rattle.lists.specs.Choice.{◌⇒◌else◌}
 use Rattle.graph.specs.WellFormed.{Bounds}
 use Rattle.history.specs.Machine.{Machine, placed, place_or, distance, name}
-use Rattle.commands.specs.contracts.HistoryCall.{the_type}
 use Rattle.commands.specs.declared.HistoryCall.{HistoryCall}
 use Rattle.commands.specs.declared.HistoryCall.TheVariants.{SetMark, DropMark, Undo, Redo, GoTo, Commit, Between, Standing, Free, NameMark, GoToName, SetBench, MadeBy}
 use Rattle.machine.specs.Rules.{goes, effected, Deed, deed, going_to, history_deed, history_rule}
@@ -34,38 +32,39 @@ use Rattle.history_calls.proofs.Following.{refused, accepted}
 
 -- ---- which calls they are
 
-pub leads_by : (c : HistoryCall) → OneOf (2 ∷ 3 ∷ 4 ∷ 10 ∷ []) (tag_of the_type c) → Leads c
-leads_by (SetMark a) i = miss (2 ∷ 3 ∷ 4 ∷ 10 ∷ []) 0 tt i
-leads_by (DropMark a) i = miss (2 ∷ 3 ∷ 4 ∷ 10 ∷ []) 1 tt i
-leads_by Undo i = tt
-leads_by Redo i = tt
-leads_by (GoTo a) i = tt
-leads_by Commit i = miss (2 ∷ 3 ∷ 4 ∷ 10 ∷ []) 5 tt i
-leads_by (Between a d) i = miss (2 ∷ 3 ∷ 4 ∷ 10 ∷ []) 6 tt i
-leads_by Standing i = miss (2 ∷ 3 ∷ 4 ∷ 10 ∷ []) 7 tt i
-leads_by Free i = miss (2 ∷ 3 ∷ 4 ∷ 10 ∷ []) 8 tt i
-leads_by (NameMark a d e) i = miss (2 ∷ 3 ∷ 4 ∷ 10 ∷ []) 9 tt i
-leads_by (GoToName a d) i = tt
-leads_by (SetBench a) i = miss (2 ∷ 3 ∷ 4 ∷ 10 ∷ []) 11 tt i
-leads_by (MadeBy a d e) i = miss (2 ∷ 3 ∷ 4 ∷ 10 ∷ []) 12 tt i
+pub leads_by : (c : HistoryCall) → ((a : ℕ) → c ≡ SetMark a → ⊥) → ((a : ℕ) → c ≡ DropMark a → ⊥) → (c ≡ Commit → ⊥)
+    → ((a d : ℕ) → c ≡ Between a d → ⊥) → (c ≡ Standing → ⊥) → (c ≡ Free → ⊥)
+    → ((a d e : ℕ) → c ≡ NameMark a d e → ⊥) → ((a : ℕ) → c ≡ SetBench a → ⊥)
+    → ((a d e : ℕ) → c ≡ MadeBy a d e → ⊥) → Leads c
+leads_by (SetMark a) n1 n2 n3 n4 n5 n6 n7 n8 n9 = n1 a refl
+leads_by (DropMark a) n1 n2 n3 n4 n5 n6 n7 n8 n9 = n2 a refl
+leads_by Undo n1 n2 n3 n4 n5 n6 n7 n8 n9 = tt
+leads_by Redo n1 n2 n3 n4 n5 n6 n7 n8 n9 = tt
+leads_by (GoTo a) n1 n2 n3 n4 n5 n6 n7 n8 n9 = tt
+leads_by Commit n1 n2 n3 n4 n5 n6 n7 n8 n9 = n3 refl
+leads_by (Between a d) n1 n2 n3 n4 n5 n6 n7 n8 n9 = n4 a d refl
+leads_by Standing n1 n2 n3 n4 n5 n6 n7 n8 n9 = n5 refl
+leads_by Free n1 n2 n3 n4 n5 n6 n7 n8 n9 = n6 refl
+leads_by (NameMark a d e) n1 n2 n3 n4 n5 n6 n7 n8 n9 = n7 a d e refl
+leads_by (GoToName a d) n1 n2 n3 n4 n5 n6 n7 n8 n9 = tt
+leads_by (SetBench a) n1 n2 n3 n4 n5 n6 n7 n8 n9 = n8 a refl
+leads_by (MadeBy a d e) n1 n2 n3 n4 n5 n6 n7 n8 n9 = n9 a d e refl
 
-abbrev pub others : List ℕ
-others = 0 ∷ 1 ∷ 5 ∷ 6 ∷ 7 ∷ 8 ∷ 9 ∷ 11 ∷ 12 ∷ []
-
-pub no_way : (x : Store) (places : List ℕ) (c : HistoryCall) → OneOf others (tag_of the_type c) → nowhere ≡ way_of x places c
-no_way x places (SetMark a) i = refl
-no_way x places (DropMark a) i = refl
-no_way x places Undo i = absurd (miss others 2 tt i)
-no_way x places Redo i = absurd (miss others 3 tt i)
-no_way x places (GoTo a) i = absurd (miss others 4 tt i)
-no_way x places Commit i = refl
-no_way x places (Between a d) i = refl
-no_way x places Standing i = refl
-no_way x places Free i = refl
-no_way x places (NameMark a d e) i = refl
-no_way x places (GoToName a d) i = absurd (miss others 10 tt i)
-no_way x places (SetBench a) i = refl
-no_way x places (MadeBy a d e) i = refl
+pub no_way : (x : Store) (places : List ℕ) (c : HistoryCall) → (c ≡ Undo → ⊥) → (c ≡ Redo → ⊥)
+    → ((a : ℕ) → c ≡ GoTo a → ⊥) → ((a d : ℕ) → c ≡ GoToName a d → ⊥) → nowhere ≡ way_of x places c
+no_way x places (SetMark a) n1 n2 n3 n4 = refl
+no_way x places (DropMark a) n1 n2 n3 n4 = refl
+no_way x places Undo n1 n2 n3 n4 = absurd (n1 refl)
+no_way x places Redo n1 n2 n3 n4 = absurd (n2 refl)
+no_way x places (GoTo a) n1 n2 n3 n4 = absurd (n3 a refl)
+no_way x places Commit n1 n2 n3 n4 = refl
+no_way x places (Between a d) n1 n2 n3 n4 = refl
+no_way x places Standing n1 n2 n3 n4 = refl
+no_way x places Free n1 n2 n3 n4 = refl
+no_way x places (NameMark a d e) n1 n2 n3 n4 = refl
+no_way x places (GoToName a d) n1 n2 n3 n4 = absurd (n4 a d refl)
+no_way x places (SetBench a) n1 n2 n3 n4 = refl
+no_way x places (MadeBy a d e) n1 n2 n3 n4 = refl
 
 -- ---- numbers
 

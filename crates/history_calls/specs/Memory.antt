@@ -1,6 +1,5 @@
 -- The words that are lent to the calls of a list.
 use Rattle.std.specs.Prelude.{ℕ, List}
-use Rattle.lists.specs.Slices.{Slice}
 use Rattle.graph_tables.specs.Tables.{State, state}
 use Rattle.history_calls.specs.declared.Store.{Store}
 
@@ -13,15 +12,6 @@ pub record Memory : Type 0 where
 
 abbrev pub memory : List ℕ → List ℕ → List ℕ → List ℕ → Memory
 memory vertices edges journal marks = record { vertices = vertices; edges = edges; journal = journal; marks = marks }
-
--- the lent slices as a function begins, and as it ends
-abbrev pub entry : Slice → Slice → Slice → Slice → Memory
-entry vertices edges journal marks =
-    memory vertices.entry.now edges.entry.now journal.entry.now marks.entry.now
-
-abbrev pub exit : Slice → Slice → Slice → Slice → Memory
-exit vertices edges journal marks =
-    memory vertices.exit.now edges.exit.now journal.exit.now marks.exit.now
 
 -- the tables with the ends and counts of the store
 abbrev pub tables_of : Store → Memory → State

@@ -1,15 +1,17 @@
 // The graph with its history: each history call on the tables, the journal and the marks.
 // A caller has a store and lent words that stand for a machine; any call may be asked for.
-ghost use Rattle.std.specs.Prelude.{◌≡◌, ℕ, ◌^◌, ◌<◌, length};
+#![tactic(auto)]
+
+ghost use Rattle.std.specs.Prelude.{◌≡◌, ℕ, ◌^◌, ◌<◌, length, ◌==◌};
 ghost use Rattle.graph.specs.Graph.{Graph};
 ghost use Rattle.graph.specs.WellFormed.{Bounds, Within};
 ghost use Rattle.history.specs.Machine.{fresh};
 ghost use Rattle.marks.specs.Marked.{mark_words};
 ghost use Rattle.graph_tables.specs.Holds.{Holds};
 ghost use Rattle.graph_tables.specs.Capacities.{Sized};
-ghost use Rattle.history_calls.specs.Memory.{Memory, memory, entry, tables_of};
+ghost use Rattle.history_calls.specs.Memory.{Memory, memory, tables_of};
 ghost use Rattle.history_calls.specs.Represents.{Represents, Stands, Performs};
-ghost use Rattle.lists.specs.Choice.{◌⇒◌else◌, ◌==◌};
+ghost use Rattle.lists.specs.Choice.{◌⇒◌else◌};
 ghost use Rattle.history_calls.specs.Outcomes.{
   done,
   begun_at,
@@ -29,7 +31,7 @@ pub mod benches; // kinds 58 and 59
 pub mod mark_calls; // kinds 17, 18, 22, 49, 50 and 56
 
 // The record that every change updates, the set of standing marks, and the bench of later steps.
-#[derive(Drop)]
+#[derive(Clone, Copy)]
 pub struct Store {
     pub current: Current,
     pub set: u64,
@@ -37,7 +39,7 @@ pub struct Store {
 }
 
 // The store after a call, and the answer to it.
-#[derive(Drop)]
+#[derive(Clone, Copy)]
 pub struct Called {
     pub answer: Answer,
     pub store: Store,
@@ -90,7 +92,7 @@ pub fn start(head: Head) -> Store
 }
 
 // Where kinds 19, 20, 21 and 57 lead: a code, or so many steps back or on.
-#[derive(Drop)]
+#[derive(Clone, Copy)]
 pub struct Way {
     pub code: u32,
     pub back: bool,
@@ -184,9 +186,9 @@ fn go(
     call: HistoryCall,
 ) -> Called
     requires { Leads call × Stands store (memory vertices.old edges.old journal.now marks.now) }
-    ensures leaves { Leaves store (entry vertices edges journal marks) result
+    ensures leaves { Leaves store (memory vertices.old edges.old journal.now marks.now) result
         (memory vertices.new edges.new journal.now marks.now) }
-    ensures by_index { (free : ℕ) → Performs call free store (entry vertices edges journal marks) result
+    ensures by_index { (free : ℕ) → Performs call free store (memory vertices.old edges.old journal.now marks.now) result
         (memory vertices.new edges.new journal.now marks.now) }
 {
     let w = way_of(store, marks, call);
@@ -240,9 +242,9 @@ pub fn perform(
     call: HistoryCall,
 ) -> Called
     requires { Stands store (memory vertices.old edges.old journal.now marks.old) }
-    ensures leaves { Leaves store (entry vertices edges journal marks) result
+    ensures leaves { Leaves store (memory vertices.old edges.old journal.now marks.old) result
         (memory vertices.new edges.new journal.now marks.new) }
-    ensures performs { Performs call free store (entry vertices edges journal marks) result
+    ensures performs { Performs call free store (memory vertices.old edges.old journal.now marks.old) result
         (memory vertices.new edges.new journal.now marks.new) }
 {
     match call {

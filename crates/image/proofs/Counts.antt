@@ -1,4 +1,5 @@
 -- Counting: a list without one of its words, and how many distinct numbers there are from 1 to n.
+use Rattle.std.specs.Prelude.{◌==◌}
 use Prim.Native.Nat.{ℕ, zero, suc, ◌+◌, ◌-◌, ◌≤◌}
 use mathlib.Core.Path.{◌≡◌, refl, ap}
 use mathlib.Core.Bool.{Bool, true, false}
@@ -6,7 +7,7 @@ use mathlib.Core.List.{List, [], ◌∷◌}
 use native.Mathlib.Omega.{arith}
 use lib.ListN.{length}
 use borrow.Author.Tests.{eq-eqb}
-use Rattle.lists.specs.Choice.{◌⇒◌else◌, ◌==◌, if_equal, indicator, to_bit}
+use Rattle.lists.specs.Choice.{◌⇒◌else◌, if_equal, indicator, to_bit}
 use Rattle.lists.specs.Lists.{count}
 use Rattle.lists.specs.Keyed.{count_by_key, remove_by}
 use Rattle.lists.proofs.Picks.{pick_yes, pick_no, same?, same, differ, is_yes, is_no}

@@ -1,11 +1,12 @@
 -- The incidences of a well-formed graph are two words for each edge.
+use Rattle.std.specs.Prelude.{◌==◌}
 use Prim.Native.Nat.{ℕ, ◌+◌, ◌*◌}
 use mathlib.Core.Path.{◌≡◌, refl, sym, ap, ◌∙◌}
 use mathlib.Core.Bool.{Bool, true, false, ◌||◌}
 use mathlib.Core.List.{List, [], ◌∷◌, ◌++◌, map}
 use native.Mathlib.Omega.{arith}
 use lib.ListN.{length, length-append}
-use Rattle.lists.specs.Choice.{◌⇒◌else◌, ◌==◌, to_bit}
+use Rattle.lists.specs.Choice.{◌⇒◌else◌, to_bit}
 use Rattle.lists.specs.Lists.{any, all, member, distinct, count, concat_map}
 use Rattle.lists.proofs.Bools.{and_true}
 use Rattle.lists.proofs.Sums.{has_count, distinct_count, alike_length}

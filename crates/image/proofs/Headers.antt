@@ -1,4 +1,5 @@
 -- The header's tests one by one, and what its words are where it is sound.
+use Rattle.std.specs.Prelude.{◌==◌}
 use Prim.Native.Nat.{ℕ, zero, suc, ◌*◌, ◌<◌}
 use mathlib.Core.Path.{◌≡◌, refl, sym, ap, ◌∙◌}
 use mathlib.Core.Logic.{◌↔◌, ◌⊎◌, inl, inr}
@@ -9,7 +10,6 @@ use native.Mathlib.Nat.{mul-zero}
 use lib.Dec.{eqb}
 use lib.ListN.{length, get_or, take, length-take}
 use borrow.Author.Tests.{eq-eqb, ne_eqb, eqb-true}
-use Rattle.lists.specs.Choice.{◌==◌}
 use Rattle.lists.specs.Lists.{equal_lists}
 use Rattle.lists.proofs.Bools.{and_true, and_false}
 use Rattle.image.specs.Image.{vertex_size, old_vertex_size, vertex_offset, edge_offset, incidence_offset, length_as, header_of, header_as, sound_header, vertex_count, edge_count, record_size}

@@ -1,4 +1,5 @@
 -- Loading takes exactly the words that some well-formed graph saves as, new or old, and gives that graph.
+use Rattle.std.specs.Prelude.{◌==◌}
 use Prim.Native.Nat.{ℕ, zero, suc, ◌*◌}
 use mathlib.Core.Path.{◌≡◌, refl, sym, ap, ap₂, ◌∙◌, subst}
 use mathlib.Core.Logic.{◌↔◌, inl, inr}
@@ -9,7 +10,6 @@ use native.Mathlib.Nat.{mul-zero}
 use lib.ListN.{length, get_or, take, drop, length-append}
 use lib.Seq.{take_at, drop_at, drop-drop}
 use borrow.Author.Tests.{eq-eqb}
-use Rattle.lists.specs.Choice.{◌==◌}
 use Rattle.lists.specs.Lists.{concat_map, equal_lists}
 use Rattle.lists.proofs.Bools.{ft, and_true, and_both, or_right}
 use Rattle.graph.specs.Graph.{Vertex, Edge, Graph}

@@ -1,4 +1,5 @@
 -- The parts as the header's offsets cut them.
+use Rattle.std.specs.Prelude.{◌==◌}
 use Prim.Native.Nat.{ℕ, zero, suc, ◌+◌, ◌*◌, ◌-◌, ◌≤◌}
 use mathlib.Core.Path.{◌≡◌, refl, sym, ap, subst, ◌∙◌}
 use mathlib.Core.Bool.{Bool, true, false, not, ◌&&◌}
@@ -7,7 +8,7 @@ use native.Mathlib.Omega.{arith}
 use lib.ListN.{length, get_or, take, drop, length-drop, take-append-drop}
 use lib.Seq.{take_all, drop-drop, length-take-le}
 use borrow.Author.Tests.{ne_eqb}
-use Rattle.lists.specs.Choice.{◌⇒◌else◌, ◌==◌, within}
+use Rattle.lists.specs.Choice.{◌⇒◌else◌, within}
 use Rattle.lists.proofs.Bools.{tf, within_range}
 use Rattle.image.specs.Image.{edge_size, vertex_offset, edge_offset, incidence_offset, record_size, sound_header, vertex_count, edge_count, vertex_part, edge_part, incidence_part, part}
 use Rattle.image.specs.Parts.{has_part, part_bound, part_start, part_end}

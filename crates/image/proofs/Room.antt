@@ -1,4 +1,5 @@
 -- Code 106: what a graph within the capacities saves as has room in 6 + 4 × vertices + 8 × edges words.
+use Rattle.std.specs.Prelude.{◌==◌}
 use Prim.Native.Nat.{ℕ, suc, ◌+◌, ◌≤◌}
 use mathlib.Core.Path.{◌≡◌, refl, ap}
 use mathlib.Core.Bool.{Bool, true, false}
@@ -6,7 +7,7 @@ use mathlib.Core.List.{List, [], ◌∷◌, map}
 use native.Mathlib.Omega.{arith}
 use lib.ListN.{length}
 use borrow.Author.Tests.{eqb-true}
-use Rattle.lists.specs.Choice.{◌==◌, to_bit, within}
+use Rattle.lists.specs.Choice.{to_bit, within}
 use Rattle.lists.specs.Lists.{distinct, count, All, done, more}
 use Rattle.lists.proofs.Sums.{distinct_count, all_bool}
 use Rattle.graph.specs.Graph.{Graph, vertex_number, edge_number}

@@ -1,7 +1,7 @@
 -- The image of a graph, the papers' saved chart (REFERENCE 10.1 to 10.7): the words that it saves as, and the graph
 -- that words say.
-use Rattle.std.specs.Prelude.{ℕ, zero, suc, ◌+◌, ◌*◌, ◌-◌, ◌≡◌, ◌⊎◌, Bool, not, ◌&&◌, ◌||◌, List, [], ◌∷◌, ◌++◌, length, get_or, take, drop}
-use Rattle.lists.specs.Choice.{◌⇒◌else◌, ◌==◌}
+use Rattle.std.specs.Prelude.{ℕ, zero, suc, ◌+◌, ◌*◌, ◌-◌, ◌≡◌, ◌⊎◌, Bool, not, ◌&&◌, ◌||◌, List, [], ◌∷◌, ◌++◌, length, get_or, take, drop, ◌==◌}
+use Rattle.lists.specs.Choice.{◌⇒◌else◌}
 use Rattle.lists.specs.Lists.{concat_map, equal_lists}
 use Rattle.graph.specs.Graph.{Vertex, Edge, Graph, reading_kind, decimetres, reading_of}
 use Rattle.graph.specs.WellFormed.{Bounds, words_at, well_formed}

@@ -1,4 +1,6 @@
 // The image of a graph: its header and its parts in the caller's words. REFERENCE 10.1 to 10.5, 10.7.
+#![tactic(auto)]
+
 pub mod layout; // layout.rt: the words of header and records, where the parts begin, and which records words have
 pub mod by_size; // by_size.rt: the same places by the words of a vertex record
 pub mod header; // header.rt: whether the header is sound, and which parts there are

@@ -1,4 +1,5 @@
 -- The edge part: the run over scratch is the walk over lists, and what it leaves in the tables.
+use Rattle.std.specs.Prelude.{◌==◌}
 use Prim.Native.Nat.{ℕ, zero, suc, ◌+◌, ◌*◌, ◌≤◌, ◌<◌}
 use mathlib.Core.Path.{◌≡◌, refl, sym, ap, ◌∙◌, subst}
 use mathlib.Core.Bool.{Bool, true, false, not, ◌||◌, true≢false}
@@ -8,7 +9,7 @@ use lib.Dec.{ltb, eqb}
 use lib.ListN.{length, get_or, drop, set, length-set, length-append}
 use lib.Seq.{get_or-set_same, get_or-set_other}
 use borrow.Author.Tests.{eq-eqb, ne_eqb, eqb-true, eqb-false, lt-ltb, ltb-true}
-use Rattle.lists.specs.Choice.{◌==◌, ◌⇒◌else◌, to_bit}
+use Rattle.lists.specs.Choice.{◌⇒◌else◌, to_bit}
 use Rattle.lists.specs.Lists.{member, count}
 use Rattle.lists.proofs.Sums.{sum_append}
 use Rattle.graph.specs.Graph.{Edge, out_word, in_word, reading_of}

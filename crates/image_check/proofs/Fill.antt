@@ -1,4 +1,5 @@
 -- Words before a bad one go on: unused numbers, some vertex as both ends, untested readings; of lists the words still wanted.
+use Rattle.std.specs.Prelude.{◌==◌}
 use Prim.Native.Nat.{ℕ, zero, suc, ◌+◌, ◌*◌, ◌-◌, ◌^◌, ◌≤◌, ◌<◌}
 use mathlib.Core.Path.{◌≡◌, refl, sym, ap, ◌∙◌, subst}
 use mathlib.Core.Logic.{inl, inr}
@@ -9,7 +10,7 @@ use lib.Dec.{leb, ltb}
 use lib.ListN.{length, get_or, take, drop, length-drop, length-append, take-append-drop}
 use lib.Seq.{drop_at, take-append-le, take-append-add, length-take-le}
 use borrow.Author.Tests.{ne_eqb, lt-ltb, le-ltb, le-leb, leb-true}
-use Rattle.lists.specs.Choice.{◌==◌, to_bit, within}
+use Rattle.lists.specs.Choice.{to_bit, within}
 use Rattle.lists.specs.Lists.{member}
 use Rattle.lists.specs.Keyed.{remove_by}
 use Rattle.lists.proofs.Bools.{and_true, and_both}

@@ -1,4 +1,5 @@
 -- The incidence part: the run over scratch is the walk over lists.
+use Rattle.std.specs.Prelude.{◌==◌}
 use Prim.Native.Nat.{ℕ, zero, suc, ◌+◌, ◌-◌, ◌≤◌}
 use mathlib.Core.Path.{◌≡◌, refl, sym, ap, ◌∙◌, subst}
 use mathlib.Core.Bool.{Bool, true, false, not}
@@ -8,7 +9,7 @@ use lib.Dec.{ltb}
 use lib.ListN.{length, get_or, drop, set}
 use lib.Seq.{set_out, get_or-set_same, get_or-set_other}
 use borrow.Author.Tests.{ne_eqb, eqb-true, eqb-false, ltb-true, ltb-false, not-true}
-use Rattle.lists.specs.Choice.{◌==◌, ◌⇒◌else◌, to_bit}
+use Rattle.lists.specs.Choice.{◌⇒◌else◌, to_bit}
 use Rattle.lists.specs.Lists.{member, count, distinct}
 use Rattle.lists.specs.Keyed.{remove_by}
 use Rattle.lists.proofs.Bools.{and_true, or_none}

@@ -1,11 +1,11 @@
 -- The numbers of records that a walk finds sound are distinct, where each passes only if no record before has its number.
+use Rattle.std.specs.Prelude.{◌==◌}
 use Prim.Native.Nat.{ℕ, zero, suc, ◌+◌, ◌≤◌}
 use mathlib.Core.Path.{◌≡◌, refl, sym, ap, ◌∙◌, subst}
 use mathlib.Core.Bool.{Bool, true, false, not, ◌||◌}
 use mathlib.Core.List.{List, ◌∷◌}
 use lib.ListN.{get_or, drop}
 use borrow.Author.Tests.{eqb-true}
-use Rattle.lists.specs.Choice.{◌==◌}
 use Rattle.lists.specs.Lists.{member, distinct}
 use Rattle.lists.proofs.Bools.{tf, and_both}
 use Rattle.lists.proofs.Members.{has_self}

@@ -1,4 +1,5 @@
 -- The saved words of a well-formed graph have a sound verdict; so a verdict is sound exactly where the words load.
+use Rattle.std.specs.Prelude.{◌==◌}
 use Prim.Native.Nat.{ℕ, zero, suc, ◌+◌, ◌≤◌}
 use mathlib.Core.Path.{◌≡◌, refl, sym, ap, ◌∙◌, subst}
 use mathlib.Core.Logic.{◌↔◌}
@@ -9,7 +10,7 @@ use lib.Dec.{leb}
 use lib.ListN.{length, drop}
 use lib.Seq.{drop_at}
 use borrow.Author.Tests.{eq-eqb, eqb-true, le-ltb, le-leb, not-true}
-use Rattle.lists.specs.Choice.{◌==◌, ◌⇒◌else◌}
+use Rattle.lists.specs.Choice.{◌⇒◌else◌}
 use Rattle.lists.specs.Lists.{any, all, member, count, distinct, concat_map}
 use Rattle.lists.specs.Keyed.{remove_by}
 use Rattle.lists.proofs.Bools.{tf, ft, and_true}

@@ -1,4 +1,5 @@
 -- The four passes over scratch of zeros are the verdict.
+use Rattle.std.specs.Prelude.{◌==◌}
 use Prim.Native.Nat.{ℕ, zero, suc, ◌+◌, ◌*◌, ◌-◌, ◌≤◌, ◌<◌}
 use mathlib.Core.Path.{◌≡◌, refl, sym, ap, ap₂, ◌∙◌, subst}
 use mathlib.Core.Bool.{true, false}
@@ -9,7 +10,7 @@ use denote.Enum.Declared.{tag_of}
 use lib.ListN.{length, get_or, drop, replicate, length-drop, length-replicate}
 use lib.Seq.{length-take-le}
 use borrow.Author.Tests.{eq-eqb, ne_eqb}
-use Rattle.lists.specs.Choice.{◌==◌, to_bit}
+use Rattle.lists.specs.Choice.{to_bit}
 use Rattle.lists.specs.Lists.{member}
 use Rattle.graph.specs.WellFormed.{Bounds, words_at}
 use Rattle.image.specs.Image.{vertex_offset, edge_offset, incidence_offset, record_size, sound_header, vertex_count, edge_count, vertex_part, part, edges_from, numbers_in}

@@ -1,4 +1,5 @@
 -- Words with a sound verdict are loadable.
+use Rattle.std.specs.Prelude.{◌==◌}
 use Prim.Native.Nat.{ℕ, zero, suc, ◌+◌, ◌*◌, ◌-◌, ◌^◌, ◌≤◌}
 use mathlib.Core.Path.{◌≡◌, refl, sym, ap, ap₂, ◌∙◌}
 use mathlib.Core.Bool.{Bool, true, false, not, ◌&&◌, ◌||◌}
@@ -7,7 +8,7 @@ use native.Mathlib.Omega.{arith}
 use lib.Dec.{leb, ltb, eqb}
 use lib.ListN.{length, get_or, take, drop, length-drop, take-append-drop}
 use borrow.Author.Tests.{ne_eqb, eqb-true, eqb-false, leb-true, not-true}
-use Rattle.lists.specs.Choice.{◌==◌, ◌⇒◌else◌, to_bit, within}
+use Rattle.lists.specs.Choice.{◌⇒◌else◌, to_bit, within}
 use Rattle.lists.specs.Lists.{all, member, count, distinct, concat_map}
 use Rattle.lists.specs.Keyed.{remove_by}
 use Rattle.lists.proofs.Bools.{ft, and_both}

@@ -1,4 +1,5 @@
 -- One turn of each loop: what a run says of the words from `at` on, by what stands there.
+use Rattle.std.specs.Prelude.{◌==◌}
 use Prim.Native.Nat.{ℕ, zero, suc, ◌+◌, ◌*◌, ◌-◌, ◌≤◌, ◌<◌}
 use mathlib.Core.Path.{◌≡◌, sym, ap, ap₂, ◌∙◌, subst}
 use mathlib.Core.Bool.{Bool, true, false}
@@ -8,7 +9,7 @@ use lib.Dec.{eqb, ltb}
 use lib.ListN.{length, get_or, drop, set, replicate, drop_of_length-le}
 use lib.Seq.{drop-cons, drop-drop}
 use borrow.Author.Tests.{eq-eqb, ne_eqb, lt-ltb, le-ltb, ltb-true}
-use Rattle.lists.specs.Choice.{◌==◌, ◌⇒◌else◌, within}
+use Rattle.lists.specs.Choice.{◌⇒◌else◌, within}
 use Rattle.lists.proofs.Bools.{within_range}
 use Rattle.lists.proofs.Picks.{same?, same, differ}
 use Rattle.lists.proofs.WordLaws.{word_at, first_at, one_drop, inside}
@@ -81,7 +82,9 @@ module _ (count i : ℕ) (ws : List ℕ) (from at : ℕ) (turn : i < count) wher
 
     pub degree_go : x ≡ d → degree_run size deg (count - (i + 1)) (drop (at + size) ws) (from + (at + size)) ≡ degree_run size deg (count - i) (drop at ws) (from + at)
     unfolding degree_run
-    degree_go h = rw (left, first_at ws at, word_at ws at 3, ← degree, ← word, eq-eqb x d h, four, drop-drop 4 at ws, along 4)
+    degree_go h =
+        rw (left, first_at ws at, word_at ws at 3, ← degree, ← word, eq-eqb x d h, four, drop-drop 4 at ws, along 4)
+        (ap (λ (s : ℕ). degree_run s deg (count - (i + 1)) (drop (at + 4) ws) (from + (at + 4))) (sym four))
 
 -- ---- the end of a loop over records
 

@@ -1,6 +1,6 @@
 -- What a check says of words: sound, or the offset at which it stops, going through records and lists in turn.
-use Rattle.std.specs.Prelude.{ℕ, zero, suc, ◌+◌, ◌^◌, min, Bool, true, not, ◌&&◌, List, [], ◌∷◌, length, get_or, drop, leb, ltb}
-use Rattle.lists.specs.Choice.{◌⇒◌else◌, ◌==◌, within}
+use Rattle.std.specs.Prelude.{ℕ, zero, suc, ◌+◌, ◌^◌, min, Bool, true, not, ◌&&◌, List, [], ◌∷◌, length, get_or, drop, leb, ltb, ◌==◌}
+use Rattle.lists.specs.Choice.{◌⇒◌else◌, within}
 use Rattle.lists.specs.Lists.{member}
 use Rattle.lists.specs.Keyed.{remove_by}
 use Rattle.graph.specs.Graph.{Edge, itself, is_reading}

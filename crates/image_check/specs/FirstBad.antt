@@ -1,7 +1,7 @@
 -- The first bad word of words that do not load. A check reads header and records first, but for the degrees of vertex
 -- records, then the degrees, then the lists (Checks: parts_verdict).
-use Rattle.std.specs.Prelude.{ℕ, ◌+◌, ◌-◌, ◌*◌, ◌%◌, ◌<◌, ◌≡◌, ◌⊎◌, Bool, true, false, ◌&&◌, List, leb, ltb, length, get_or}
-use Rattle.lists.specs.Choice.{◌⇒◌else◌, ◌==◌}
+use Rattle.std.specs.Prelude.{ℕ, ◌+◌, ◌-◌, ◌*◌, ◌%◌, ◌<◌, ◌≡◌, ◌⊎◌, Bool, true, false, ◌&&◌, List, leb, ltb, length, get_or, ◌==◌}
+use Rattle.lists.specs.Choice.{◌⇒◌else◌}
 use Rattle.graph.specs.WellFormed.{Bounds, words_at}
 use Rattle.image.specs.Image.{vertex_size, vertex_offset, edge_offset, incidence_offset, vertex_count, edge_count}
 use Rattle.image.specs.Image.{record_size, degree_of, loadable}

@@ -1,8 +1,8 @@
 -- The same walks over scratch tables in place of lists: one lookup a word, so that a check is linear.
 -- deg has, for a vertex's number, 1 + its ends so far;
 -- own has, for an oriented word, its vertex until the word is used.
-use Rattle.std.specs.Prelude.{ℕ, zero, suc, ◌+◌, ◌*◌, ◌-◌, ◌≤◌, ◌<◌, ◌≡◌, List, [], ◌∷◌, get_or, drop, set, replicate, ltb}
-use Rattle.lists.specs.Choice.{◌⇒◌else◌, ◌==◌}
+use Rattle.std.specs.Prelude.{ℕ, zero, suc, ◌+◌, ◌*◌, ◌-◌, ◌≤◌, ◌<◌, ◌≡◌, List, [], ◌∷◌, get_or, drop, set, replicate, ltb, ◌==◌}
+use Rattle.lists.specs.Choice.{◌⇒◌else◌}
 use Rattle.graph.specs.Graph.{out_word, in_word}
 use Rattle.graph.specs.WellFormed.{Bounds}
 use Rattle.image.specs.Image.{old_vertex_size, edge_size, vertex_offset, edge_offset, incidence_offset}

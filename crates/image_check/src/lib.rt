@@ -1,5 +1,7 @@
 // Whether words can be loaded, and if not, what is bad: a check on the caller's words. REFERENCE 10.6,
 // 10.12 to 10.14, 8.5, 8.8, 8.9.
+#![tactic(auto)]
+
 mod words; // words.rt: words of slices, at places that are known to be there
 mod capacities; // capacities.rt: the counts of the header
 mod records; // records.rt: one vertex record, one edge record
@@ -16,7 +18,7 @@ use lists::numbers::smaller;
 
 // What words are: those that some graph saves as, or the offset of the first word that cannot follow those read before.
 // Where the header or a count is bad there is no offset.
-#[derive(Drop)]
+#[derive(Clone, Copy)]
 pub enum Verdict {
     Sound,
     BadHeader,

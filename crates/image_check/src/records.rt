@@ -1,6 +1,6 @@
 // One record: how many of its words are sound.
-ghost use Rattle.std.specs.Prelude.{◌≡◌, true, [], ◌∷◌};
-ghost use Rattle.lists.specs.Choice.{◌⇒◌else◌, ◌==◌, within};
+ghost use Rattle.std.specs.Prelude.{◌≡◌, true, [], ◌∷◌, ◌==◌};
+ghost use Rattle.lists.specs.Choice.{◌⇒◌else◌, within};
 ghost use Rattle.graph.specs.Graph.{is_reading};
 ghost use Rattle.image_check.specs.Checks.{passed, part_limits, vertex_tests, field_tests};
 

@@ -1,4 +1,5 @@
 -- The words of the lists, each put last in the list of the vertex that it is seen from: what the tables then hold.
+use Rattle.std.specs.Prelude.{◌==◌}
 use Prim.Native.Nat.{ℕ, ◌+◌, ◌/◌, ◌≤◌}
 use mathlib.Core.Path.{◌≡◌, refl, sym, ap, ap₂, ◌∙◌, subst}
 use mathlib.Core.Bool.{Bool}
@@ -6,7 +7,7 @@ use mathlib.Core.List.{List, [], ◌∷◌, ◌++◌, map, append-nil}
 use native.Mathlib.Omega.{arith}
 use borrow.Author.Tests.{eq-eqb, ne_eqb}
 use lib.ListN.{get_or}
-use Rattle.lists.specs.Choice.{◌==◌, if_equal, indicator}
+use Rattle.lists.specs.Choice.{if_equal, indicator}
 use Rattle.lists.specs.Lists.{All, done, more, filter, concat_map}
 use Rattle.lists.specs.Keyed.{count_by_key, last_by}
 use Rattle.lists.proofs.Picks.{pick_yes, pick_no, pick_both, same, differ, same?, is_yes}

@@ -1,7 +1,6 @@
 -- A graph on its way into the tables: its vertices without lists, then its edges, then each word at the end of the list
 -- of its vertex.
-use Rattle.std.specs.Prelude.{ℕ, ◌+◌, ◌<◌, ◌^◌, ◌≡◌, true, List, [], get_or}
-use Rattle.lists.specs.Choice.{◌==◌}
+use Rattle.std.specs.Prelude.{ℕ, ◌+◌, ◌<◌, ◌^◌, ◌≡◌, true, List, [], get_or, ◌==◌}
 use Rattle.lists.specs.Lists.{filter}
 use Rattle.graph.specs.Graph.{Vertex, Edge, this_in, reading_of, IsWords}
 use Rattle.graph.specs.WellFormed.{Bounds}

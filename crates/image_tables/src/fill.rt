@@ -1,7 +1,7 @@
 // The tables filled from the parts of an image: vertices, edges, then the words of the lists.
 ghost use Rattle.std.specs.Prelude.{◌≡◌, [], map, ◌+◌, ◌≤◌, length, get_or};
 ghost use Rattle.image.specs.Image.{load as load_of};
-ghost use Rattle.graph_tables.specs.Tables.{state, CanInsertVertex, entry_state, exit_state};
+ghost use Rattle.graph_tables.specs.Tables.{state, CanInsertVertex};
 ghost use Rattle.graph_tables.specs.Holds.{Core};
 ghost use Rattle.image_tables.specs.Filling.{without_list, state_add_vertex, state_add_edge, state_add_word, CanEdge, CanWord};
 ghost use Rattle.image_tables.specs.Filling.{CanLoad};
@@ -18,7 +18,7 @@ fn vertex(head: Head, part: &[u32], at: usize, vertices: &mut [u32], edges: &[u3
     requires { (at + 3 ≤ length part.now)
         × CanInsertVertex (get_or part.now at 0) head.vlast (state head vertices.old edges.now) }
     ensures { state result vertices.new edges.now ≡ state_add_vertex part.now at
-        (entry_state head vertices edges) }
+        (state head vertices.old edges.now) }
 {
     insert_vertex(
         head,
@@ -35,7 +35,7 @@ fn vertex(head: Head, part: &[u32], at: usize, vertices: &mut [u32], edges: &[u3
 fn edge(head: Head, part: &[u32], at: usize, vertices: &[u32], edges: &mut [u32]) -> Head
     requires { (at + 6 ≤ length part.now) × CanEdge part.now at (state head vertices.now edges.old) }
     ensures { state result vertices.now edges.new ≡ state_add_edge part.now at
-        (entry_state head vertices edges) }
+        (state head vertices.now edges.old) }
 {
     let n = part[at];
     let ends = append(
@@ -62,7 +62,7 @@ fn edge(head: Head, part: &[u32], at: usize, vertices: &[u32], edges: &mut [u32]
 // Puts word w last in the list of the vertex that it is seen from.
 fn word(head: Head, vertices: &mut [u32], edges: &mut [u32], w: u32)
     requires { CanWord w (state head vertices.old edges.old) }
-    ensures { exit_state head vertices edges ≡ state_add_word w (entry_state head vertices edges) }
+    ensures { state head vertices.new edges.new ≡ state_add_word w (state head vertices.old edges.old) }
 {
     let v = half_field(edges, w, HALF_THIS);
     let before = ends_of(vertices, v);
@@ -110,7 +110,7 @@ pub fn lists(head: Head, words: &[u32], vertices: &mut [u32], edges: &mut [u32])
     requires { CanLoad words.now vertices.old edges.old
         × Core (state head vertices.old edges.old) (map without_list (load_of words.now).vseq) (load_of
         words.now).eseq }
-    ensures { Core (exit_state head vertices edges) (load_of words.now).vseq
+    ensures { Core (state head vertices.new edges.new) (load_of words.now).vseq
         (load_of words.now).eseq }
 {
     let part = image::part(words, 3);

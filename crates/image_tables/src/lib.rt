@@ -1,4 +1,6 @@
 // Images into the tables and out of them.
+#![tactic(auto)]
+
 mod fill; // fill.rt: the tables, from the parts of an image
 mod write; // write.rt: the parts of an image, from the tables
 
@@ -6,7 +8,7 @@ ghost use Rattle.std.specs.Prelude.{◌≡◌, length};
 ghost use Rattle.lists.specs.Lists.{overwritten};
 ghost use Rattle.graph.specs.Graph.{Graph};
 ghost use Rattle.image.specs.Image.{save as save_of, load as load_of};
-ghost use Rattle.graph_tables.specs.Tables.{state, entry_state, exit_state};
+ghost use Rattle.graph_tables.specs.Tables.{state};
 ghost use Rattle.graph_tables.specs.Holds.{Holds};
 ghost use Rattle.image_tables.specs.Words.{CanSave};
 ghost use Rattle.image_tables.specs.Filling.{CanLoad};
@@ -19,7 +21,7 @@ use image::layout::{HEADER, edge_offset, incidence_offset};
 // words it has.
 pub fn save(head: Head, vertices: &[u32], edges: &[u32], out: &mut [u32]) -> usize
     requires { CanSave (state head vertices.now edges.now) (length out.old) }
-    ensures { (g : Graph) → Holds (entry_state head vertices edges) g
+    ensures { (g : Graph) → Holds (state head vertices.now edges.now) g
         → (out.new ≡ overwritten (save_of g) out.old) × (result ≡ length (save_of g)) }
 {
     let v = head.vertices;
@@ -33,7 +35,7 @@ pub fn save(head: Head, vertices: &[u32], edges: &[u32], out: &mut [u32]) -> usi
 // graph is left open, and so are the words of rows that hold nothing.
 pub fn load(words: &[u32], vertices: &mut [u32], edges: &mut [u32]) -> Head
     requires { CanLoad words.now vertices.old edges.old }
-    ensures { Holds (exit_state result vertices edges) (load_of words.now) }
+    ensures { Holds (state result vertices.new edges.new) (load_of words.now) }
 {
     let a = clear(vertices, edges);
     let b = fill::vertices(a, words, vertices, edges);

@@ -1,6 +1,8 @@
 // The journal's rows: twelve words each, of which ten are an edit, one is the cost of the edit's step, and one, in a
 // step's first row, the bench that made it.
 // A caller has room for the row, or rows that the run wrote.
+#![tactic(auto)]
+
 ghost use Rattle.std.specs.Prelude.{◌≡◌, [], ◌∷◌, ◌+◌, ◌*◌, ◌≤◌, length, set};
 ghost use Rattle.graph.specs.Edits.{inverse};
 ghost use Rattle.journal.specs.Rows.{edit_of, turned, edit_at, store_from, row_at, step_at, bench_at, signed};
@@ -10,7 +12,7 @@ use graph_tables::rows::reading_of;
 use lists::numbers::wide;
 
 // Five words, half of an edit.
-#[derive(Drop)]
+#[derive(Clone, Copy)]
 pub struct Five {
     pub a: u32,
     pub b: u32,

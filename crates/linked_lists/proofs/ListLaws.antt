@@ -1,11 +1,11 @@
 -- Laws of the lists of node numbers: where a node stands, and removal and insertion there.
+use Rattle.std.specs.Prelude.{◌==◌}
 use Prim.Native.Nat.{ℕ}
 use mathlib.Core.Path.{◌≡◌, refl, sym, ap, ◌∙◌}
 use mathlib.Core.List.{List, [], ◌∷◌, ◌++◌}
 use mathlib.Core.Bool.{Bool, true, false, ◌||◌}
 use mathlib.Core.Logic.{◌≢◌, ◌⊎◌, inl, inr}
 use borrow.Author.Tests.{eqb-true, eqb-false}
-use Rattle.lists.specs.Choice.{◌==◌}
 use Rattle.lists.specs.Lists.{member}
 use Rattle.lists.specs.Keyed.{insert_after_by, prev_by, last_by}
 use Rattle.lists.proofs.Bools.{tf, ft}

@@ -1,4 +1,5 @@
 -- Reading a link after a link was put.
+use Rattle.std.specs.Prelude.{◌==◌}
 use Prim.Native.Nat.{ℕ, ◌+◌, ◌*◌, ◌<◌}
 use mathlib.Core.Path.{◌≡◌, refl, sym, ◌∙◌}
 use mathlib.Core.List.{List}
@@ -9,7 +10,7 @@ use lib.Seq.{get_or-set_same, get_or-set_other}
 use borrow.Author.Tests.{eqb-true, eqb-false, ltb-true, ltb-false}
 use Rattle.linked_lists.specs.declared.LinkLayout.{LinkLayout}
 use Rattle.linked_lists.specs.declared.Ends.{Ends}
-use Rattle.lists.specs.Choice.{◌⇒◌else◌, ◌==◌}
+use Rattle.lists.specs.Choice.{◌⇒◌else◌}
 use Rattle.linked_lists.specs.Links.{ValidLayout, Direction, backward, forward, link_address, node_address, HasAddress, lacks_address, Inside, end_of, with_end, link_of, table_put, ends_put, table_join, ends_join}
 use Rattle.linked_lists.proofs.Words.{nodes_apart, sides_apart}
 

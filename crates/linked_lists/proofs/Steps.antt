@@ -1,4 +1,5 @@
 -- What the code's steps come to, from what each call ensures.
+use Rattle.std.specs.Prelude.{◌==◌}
 use Prim.Native.Nat.{ℕ, ◌+◌, ◌*◌}
 use mathlib.Core.Path.{◌≡◌, refl, sym, ap, ◌∙◌}
 use mathlib.Core.Bool.{Bool, true, false}
@@ -8,7 +9,7 @@ use lib.Dec.{eqb, ltb}
 use lib.ListN.{length, get_or, set}
 use lib.Seq.{set-set, set_comm}
 use borrow.Author.Tests.{eqb-false, ne_eqb, le-ltb}
-use Rattle.lists.specs.Choice.{◌⇒◌else◌, ◌==◌}
+use Rattle.lists.specs.Choice.{◌⇒◌else◌}
 use Rattle.linked_lists.specs.declared.LinkLayout.{LinkLayout}
 use Rattle.linked_lists.specs.declared.Ends.{Ends}
 use Rattle.linked_lists.specs.Links.{Direction, backward, forward, node_address, link_address, HasAddress, Inside, link_of, CanUnlink, CanInsert, CanAppend, table_put, ends_put, table_join, ends_join, table_unlink}

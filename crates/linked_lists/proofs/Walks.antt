@@ -1,4 +1,5 @@
 -- The links of a held list in the words of lists: the first node, the node after x, the node before it; and a walk along the list.
+use Rattle.std.specs.Prelude.{◌==◌}
 use Prim.Native.Nat.{ℕ, ◌<◌}
 use mathlib.Core.Path.{◌≡◌, refl, sym, ap, ◌∙◌}
 use mathlib.Core.List.{List, [], ◌∷◌, ◌++◌}
@@ -7,7 +8,7 @@ use mathlib.Core.Logic.{◌≢◌, ◌⊎◌, inl, inr}
 use native.Mathlib.Omega.{arith}
 use lib.ListN.{length}
 use borrow.Author.Tests.{eq-eqb, ne_eqb}
-use Rattle.lists.specs.Choice.{◌⇒◌else◌, ◌==◌}
+use Rattle.lists.specs.Choice.{◌⇒◌else◌}
 use Rattle.lists.specs.Lists.{member, first, drop_through, successor, before}
 use Rattle.lists.proofs.Bools.{ft, or_right}
 use Rattle.lists.proofs.Picks.{same, differ, same?}
@@ -96,10 +97,15 @@ suffix_after x [] d = refl
 suffix_after x (y ∷ l) d =
     let f : Fresh y (0 ∷ l) = ((λ q. d.0.0 (sym q)), d.1.0) in
     elim (same? y x) [
-      | same e i ↦ rw (behind_here x y l e) (suffix_later (first l) y l (not_first y l f) ∙ suffix_first l)
+      | same e i ↦
+          let q = behind_here x y l e in
+          ap (λ (k : List ℕ). suffix (first k) (y ∷ l)) q ∙ suffix_later (first l) y l (not_first y l f) ∙ suffix_first l ∙ sym q
       | differ e i ↦
-          rw (behind_later x y l e)
-          (suffix_later (successor x l) y l (not_first y (drop_through x l) (f.0, fresh_behind y x l f.1)) ∙ suffix_after x l (d.0.1, d.1.1))
+          let q = behind_later x y l e in
+          ap (λ (k : List ℕ). suffix (first k) (y ∷ l)) q
+          ∙ suffix_later (successor x l) y l (not_first y (drop_through x l) (f.0, fresh_behind y x l f.1))
+          ∙ suffix_after x l (d.0.1, d.1.1)
+          ∙ sym q
     ]
 
 -- ---- a held list

@@ -1,7 +1,9 @@
 // Doubly linked lists threaded through a lent table of words. Node 0 is no node: it stands for the ends of a list.
 // A caller has a table that holds the list: a walk along links that are not a list need not end.
-ghost use Rattle.std.specs.Prelude.{◌≡◌, ◌+◌, ◌<◌, ◌^◌, length};
-ghost use Rattle.lists.specs.Choice.{◌⇒◌else◌, ◌==◌};
+#![tactic(auto)]
+
+ghost use Rattle.std.specs.Prelude.{◌≡◌, ◌+◌, ◌<◌, ◌^◌, length, ◌==◌};
+ghost use Rattle.lists.specs.Choice.{◌⇒◌else◌};
 ghost use Rattle.lists.specs.Lists.{before as is_before};
 ghost use Rattle.linked_lists.specs.Links.{ValidLayout, Inside, HasAddress, node_address, link_of, table_put, ends_put};
 ghost use Rattle.linked_lists.specs.Links.{backward, forward, table_join, ends_join};
@@ -9,14 +11,14 @@ ghost use Rattle.linked_lists.specs.Links.{table_unlink, ends_unlink, table_inse
 ghost use Rattle.linked_lists.specs.Links.{CanAppend, CanMove, table_move, ends_move, nodes};
 
 // Where a list's links stand in a table: node x has its prev word at stride * x - offset, its next word just after it.
-#[derive(Drop)]
+#[derive(Clone, Copy)]
 pub struct LinkLayout {
     pub stride: usize,
     pub offset: usize,
 }
 
 // First and last node of a list; 0 is none.
-#[derive(Drop)]
+#[derive(Clone, Copy)]
 pub struct Ends {
     pub first: u32,
     pub last: u32,

@@ -1,11 +1,12 @@
 -- Counting by a test, and by a choice: the same counts.
+use Rattle.std.specs.Prelude.{◌==◌}
 use Prim.Native.Nat.{ℕ, ◌+◌, ◌≤◌}
 use mathlib.Core.Path.{◌≡◌, refl, ap₂}
 use mathlib.Core.Bool.{Bool, true, false, ◌||◌}
 use mathlib.Core.List.{List, [], ◌∷◌, map}
 use native.Mathlib.Omega.{arith}
 use borrow.Author.Tests.{eqb-true, eqb-false}
-use Rattle.lists.specs.Choice.{◌⇒◌else◌, ◌==◌, if_equal, indicator, to_bit}
+use Rattle.lists.specs.Choice.{◌⇒◌else◌, if_equal, indicator, to_bit}
 use Rattle.lists.specs.Lists.{any, count}
 use Rattle.lists.specs.Keyed.{count_by_key}
 use Rattle.lists.proofs.Bools.{tf, ft}

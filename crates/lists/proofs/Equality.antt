@@ -1,10 +1,10 @@
 -- The test of equality of two lists of numbers.
+use Rattle.std.specs.Prelude.{◌==◌}
 use Prim.Native.Nat.{ℕ}
 use mathlib.Core.Path.{◌≡◌, refl, ap₂}
 use mathlib.Core.Bool.{true}
 use mathlib.Core.List.{List, [], ◌∷◌}
 use borrow.Author.Tests.{eqb-true, eq-eqb}
-use Rattle.lists.specs.Choice.{◌==◌}
 use Rattle.lists.specs.Lists.{equal_lists}
 use Rattle.lists.proofs.Bools.{ft, and_true, and_both}
 

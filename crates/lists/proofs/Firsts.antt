@@ -1,11 +1,12 @@
 -- Each number of a list once, where it stands first.
+use Rattle.std.specs.Prelude.{◌==◌}
 use Prim.Native.Nat.{ℕ, min}
 use mathlib.Core.Path.{◌≡◌, refl, sym, ap, ◌∙◌}
 use mathlib.Core.Bool.{Bool, true, false, not, ◌||◌}
 use mathlib.Core.List.{List, [], ◌∷◌}
 use native.Mathlib.Omega.{arith}
 use borrow.Author.Tests.{eqb-true, eqb-false, eq-eqb, ne_eqb}
-use Rattle.lists.specs.Choice.{◌⇒◌else◌, ◌==◌, to_bit}
+use Rattle.lists.specs.Choice.{◌⇒◌else◌, to_bit}
 use Rattle.lists.specs.Lists.{filter, member, count, distinct, dedup_from, dedup}
 use Rattle.lists.proofs.Sums.{bit_le, has_count, has_not, count_distinct}
 

@@ -1,4 +1,5 @@
 -- Sums, facts about every element, and counting.
+use Rattle.std.specs.Prelude.{◌==◌}
 use Prim.Native.Nat.{ℕ, suc, ◌+◌, ◌≤◌}
 use mathlib.Core.Path.{◌≡◌, refl, sym, ap, ◌∙◌, subst}
 use mathlib.Core.Bool.{Bool, true, false, not}
@@ -6,7 +7,7 @@ use mathlib.Core.List.{List, [], ◌∷◌, ◌++◌}
 use native.Mathlib.Omega.{arith}
 use lib.ListN.{length}
 use borrow.Author.Tests.{eqb-true, eq-eqb, not-true}
-use Rattle.lists.specs.Choice.{◌⇒◌else◌, ◌==◌, to_bit}
+use Rattle.lists.specs.Choice.{◌⇒◌else◌, to_bit}
 use Rattle.lists.specs.Lists.{all, member, distinct, sum_of, count, All, done, more}
 use Rattle.lists.proofs.Bools.{tf, ft, and_true, and_both}
 

@@ -1,15 +1,11 @@
 -- Choices by a test, and by equality of two numbers.
-use Rattle.std.specs.Prelude.{ℕ, Bool, true, false, ◌&&◌, eqb, leb}
+use Rattle.std.specs.Prelude.{ℕ, Bool, true, false, ◌&&◌, eqb, leb, ◌==◌}
 
 infixr 5 ◌⇒◌else◌
-infix 40 ◌==◌
 -- the first value where the test holds, else the second
 abbrev pub ◌⇒◌else◌ {ℓ} : {A : Type ℓ} → Bool → A → A → A
 ◌⇒◌else◌ true x y = x
 ◌⇒◌else◌ false x y = y
-
-abbrev pub ◌==◌ : ℕ → ℕ → Bool
-m == n = eqb m n
 
 -- a where m and n are the same number, else b
 unfoldable pub if_equal {ℓ} : {A : Type ℓ} → ℕ → ℕ → A → A → A

@@ -1,8 +1,10 @@
--- A lent slice, for contracts that name slices and not their words.
+-- A lent slice that a function may write, for contracts that say what becomes of it.
 use Rattle.std.specs.Prelude.{ℕ, List}
-use Rattle.std.specs.Borrow.{Bor}
-use denote.Triple.Both.{Both}
 
--- a slice as the function begins and as it ends
-abbrev pub Slice : Type 0
-Slice = Both (Bor (List ℕ)) (Bor (List ℕ))
+-- the words of a slice as the function begins and as it ends
+pub record Slice : Type 0 where
+  pub old : List ℕ
+  pub new : List ℕ
+
+abbrev pub slice : List ℕ → List ℕ → Slice
+slice old new = record { old = old; new = new }

@@ -1,5 +1,7 @@
 // Shared definitions and laws on choices, lists and counts; the word of a slice at any place, and small functions that
 // many crates call.
+#![tactic(auto)]
+
 pub mod words; // words.rt: words of slices at places that need not be there
 pub mod numbers; // numbers.rt: widening, the smaller of two, a choice
 

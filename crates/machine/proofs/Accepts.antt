@@ -1,7 +1,7 @@
 -- Accepted and refused commands.
+use Rattle.std.specs.Prelude.{◌==◌}
 use mathlib.Core.Path.{◌≡◌}
 use mathlib.Core.Bool.{Bool, true, false}
-use Rattle.lists.specs.Choice.{◌==◌}
 use Rattle.history.specs.Machine.{Machine}
 use Rattle.machine.specs.Rules.{effected}
 use Rattle.commands.specs.declared.Command.{Command}

@@ -1,4 +1,5 @@
 -- The benches of the steps, and their counts.
+use Rattle.std.specs.Prelude.{◌==◌}
 use Prim.Native.Nat.{ℕ, zero, suc, ◌+◌, ◌-◌, ◌≤◌, ◌<◌}
 use mathlib.Core.Path.{◌≡◌, refl, sym, ap, ◌∙◌}
 use mathlib.Core.Bool.{Bool, true, false}
@@ -6,7 +7,7 @@ use mathlib.Core.List.{List, [], ◌∷◌, ◌++◌, map, map-append}
 use native.Mathlib.Omega.{arith}
 use lib.ListN.{length, take, drop}
 use borrow.Author.Tests.{leb-false, lt-leb}
-use Rattle.lists.specs.Choice.{◌⇒◌else◌, ◌==◌, to_bit, within}
+use Rattle.lists.specs.Choice.{◌⇒◌else◌, to_bit, within}
 use Rattle.lists.specs.Lists.{sum_of, range, count, All, done}
 use Rattle.lists.proofs.Bools.{ft}
 use Rattle.graph.specs.Graph.{Graph}

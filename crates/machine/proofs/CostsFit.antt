@@ -1,4 +1,5 @@
 -- The steps remembered never cost more than the capacity, so free changes plus the costs of steps 1 to p is the capacity.
+use Rattle.std.specs.Prelude.{◌==◌}
 use Prim.Native.Nat.{◌+◌, ◌≤◌}
 use mathlib.Core.Path.{◌≡◌, refl, sym, ◌∙◌}
 use mathlib.Core.Bool.{Bool, true, false, ◌&&◌}
@@ -6,7 +7,6 @@ use mathlib.Core.List.{List, [], ◌∷◌}
 use native.Mathlib.Omega.{arith}
 use lib.ListN.{take}
 use borrow.Author.Tests.{ltb-false}
-use Rattle.lists.specs.Choice.{◌==◌}
 use Rattle.graph.specs.Graph.{Graph}
 use Rattle.graph.specs.Changes.{cost}
 use Rattle.history.specs.Machine.{Step, Machine, costs, fresh, present}

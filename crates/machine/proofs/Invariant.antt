@@ -1,11 +1,11 @@
 -- What holds of every machine that calls reach from a fresh one, and how far its places and counts go.
+use Rattle.std.specs.Prelude.{◌==◌}
 use Prim.Native.Nat.{ℕ, zero, suc, ◌≤◌}
 use mathlib.Core.Path.{◌≡◌, refl}
 use mathlib.Core.Bool.{Bool, true, false}
 use mathlib.Core.List.{List, [], ◌∷◌, ◌++◌}
 use native.Mathlib.Omega.{arith}
 use lib.ListN.{length, take}
-use Rattle.lists.specs.Choice.{◌==◌}
 use Rattle.lists.specs.Lists.{All, done, more, range}
 use Rattle.lists.proofs.Members.{keep_length}
 use Rattle.graph.specs.Graph.{Graph}

@@ -1,4 +1,5 @@
 -- Short laws of the machine: undo, redo and commit.
+use Rattle.std.specs.Prelude.{◌==◌}
 use Prim.Native.Nat.{ℕ, suc, ◌-◌}
 use mathlib.Core.Path.{◌≡◌, refl}
 use mathlib.Core.Logic.{◌↔◌}
@@ -6,7 +7,7 @@ use mathlib.Core.Bool.{Bool, true, false}
 use native.Mathlib.Omega.{arith}
 use lib.ListN.{length}
 use borrow.Author.Tests.{eqb-true, eq-eqb, ne_eqb, le-ltb}
-use Rattle.lists.specs.Choice.{◌⇒◌else◌, ◌==◌}
+use Rattle.lists.specs.Choice.{◌⇒◌else◌}
 use Rattle.history.specs.Machine.{Machine, onward, moved_to, fresh_at, present}
 use Rattle.commands.specs.declared.HistoryCall.TheVariants.{Undo, Redo, Commit}
 use Rattle.commands.specs.declared.Command.TheVariants.{History}

@@ -1,4 +1,5 @@
 -- When marks stand and what going to one gives: REFERENCE 4.11 and 4.12.
+use Rattle.std.specs.Prelude.{◌==◌}
 use Prim.Native.Nat.{ℕ, suc, ◌≤◌}
 use mathlib.Core.Path.{◌≡◌, refl, sym, ap, ◌∙◌}
 use mathlib.Core.Logic.{◌⊎◌, inl, inr, ◌↔◌}
@@ -8,7 +9,7 @@ use native.Mathlib.Omega.{arith}
 use lib.Dec.{ltb}
 use lib.ListN.{length}
 use borrow.Author.Tests.{ltb-false, eqb-true, eqb-false}
-use Rattle.lists.specs.Choice.{◌⇒◌else◌, ◌==◌, within}
+use Rattle.lists.specs.Choice.{◌⇒◌else◌, within}
 use Rattle.lists.specs.Lists.{any}
 use Rattle.lists.proofs.Bools.{tf, ft, and_true, or_none}
 use Rattle.graph.specs.Graph.{Graph}
@@ -211,6 +212,7 @@ stay_graph (by {m} {n} {es} w x r) k q g h i e =
 
 pub kept_graph : {m n : Machine} {es : List Event} → Reached m es n → (k q : ℕ) (g : Graph) → PlacesInRange m → Kept k q g es → Holds n q g
 unfolding Holds
+kept_graph (here {m = m}) k q g h x9 = elim x9 [ ]
 kept_graph (by {m} {n} {es} w x r) k q g h (set_here s p c nz) =
     stay_graph r k q g (places_step w m x h)
     (holds_sets w m x k q g h (rw p at h.place_in, ap (λ (i : ℕ). graph_at i m.line.start m.line.steps) (sym p) ∙ c) s) nz
@@ -236,6 +238,7 @@ sets_range w m (Quote p) k f e = ft e
 sets_range w m Unknown k f e = ft e
 
 pub kept_range : {m n : Machine} {es : List Event} → Reached m es n → (k q : ℕ) (g : Graph) → Kept k q g es → within 1 64 k ≡ true
+kept_range (here {m = m}) k q g x5 = elim x5 [ ]
 kept_range (by {m} {n} {es} w x r) k q g (set_here s p c nz) =
     let a = and_true _ _ (sym (sets_is w m k q x) ∙ s) in
     sets_range w m (command_of x) k (not_refused w m (command_of x) a.0) a.1

@@ -1,4 +1,5 @@
 -- When marks have names and what going by one gives.
+use Rattle.std.specs.Prelude.{◌==◌}
 use Prim.Native.Nat.{ℕ, ◌≤◌}
 use mathlib.Core.Path.{◌≡◌, refl, sym, ap, ◌∙◌}
 use mathlib.Core.Logic.{◌⊎◌, inl, inr, ◌≢◌, ◌↔◌}
@@ -6,7 +7,7 @@ use mathlib.Core.Bool.{Bool, true, false, not, ◌&&◌, ◌||◌}
 use mathlib.Core.List.{List, [], ◌∷◌}
 use native.Mathlib.Omega.{arith}
 use borrow.Author.Tests.{eqb-true, eqb-false, eq-eqb, ne_eqb, not-false, le-ltb}
-use Rattle.lists.specs.Choice.{◌⇒◌else◌, ◌==◌, within}
+use Rattle.lists.specs.Choice.{◌⇒◌else◌, within}
 use Rattle.lists.specs.Lists.{any}
 use Rattle.lists.proofs.Bools.{tf, ft, and_true, and_both, or_none, or_left, or_right, within_range}
 use Rattle.lists.proofs.Picks.{same, differ, same?}
@@ -379,6 +380,7 @@ module _ (k q : ℕ) (n : Name) where
 
   name_kept : {m o : Machine} {es : List Event} → Reached m es o → o.marks k ≡ at q → NameKept k q n es → o.names k ≡ n
   unfolding AfterCall
+  name_kept (here {m = m}) a x9 = elim x9 [ ]
   name_kept (by {m} {es} w x z) a (named_here s nz) = name_stays z a (step_from w m x k q n (was_standing z k q a nz) (inl s)) nz
   name_kept (by {m} {es} w x z) a (named_later t) = name_kept z a t
 
@@ -396,6 +398,7 @@ given_real clears m k n p h = ft h
 given_real nothing m k n p h = ft h
 
 kept_real : {m o : Machine} {es : List Event} → Reached m es o → (k q : ℕ) (n : Name) → NameKept k q n es → is_name n ≡ true
+kept_real (here {m = m}) k q n x5 = elim x5 [ ]
 kept_real (by {m} {es} w x z) k q n (named_here s nz) =
     let a = and_true _ _ (sym (gives_is w m k q x n) ∙ s) in
     given_real (deed_of w (command_of x) m).effect m k n (proper w m (command_of x) (not_refused w m (command_of x) a.0)) a.1

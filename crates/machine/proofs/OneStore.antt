@@ -1,5 +1,6 @@
 -- One store with L its capacity of changes (REFERENCE 21.9): the run of K = 1 is the run of one store where no word
 -- stands behind the start image, and what else it can be where one does.
+use Rattle.std.specs.Prelude.{◌==◌}
 use Prim.Native.Nat.{ℕ, suc, ◌+◌, ◌-◌, ◌*◌, ◌/◌, ◌%◌, ◌≤◌, ◌<◌}
 use mathlib.Core.Path.{◌≡◌, refl, sym, ap, ◌∙◌, subst}
 use mathlib.Core.Logic.{◌⊎◌, inl, inr, ⊎_elim}
@@ -10,7 +11,7 @@ use lib.ListN.{length, take, drop, drop_of_length-le}
 use lib.Seq.{take_all}
 use lib.Dec.{ltb}
 use borrow.Author.Tests.{eqb-true, ne_eqb}
-use Rattle.lists.specs.Choice.{◌⇒◌else◌, ◌==◌, within}
+use Rattle.lists.specs.Choice.{◌⇒◌else◌, within}
 use Rattle.lists.specs.Lists.{sum_of, overwritten}
 use Rattle.type_rows.specs.Rows.{good_rows}
 use Rattle.graph.specs.WellFormed.{Bounds}

@@ -1,4 +1,5 @@
 -- A mark stands exactly where it was set and kept since.
+use Rattle.std.specs.Prelude.{◌==◌}
 use Prim.Native.Nat.{ℕ}
 use mathlib.Core.Path.{◌≡◌, refl, sym, ap, ◌∙◌}
 use mathlib.Core.Logic.{◌⊎◌, inl, inr}
@@ -6,7 +7,7 @@ use mathlib.Core.Bool.{Bool, true, false, ◌||◌}
 use mathlib.Core.List.{List, [], ◌∷◌}
 use native.Mathlib.Omega.{arith}
 use lib.Dec.{ltb}
-use Rattle.lists.specs.Choice.{◌⇒◌else◌, ◌==◌}
+use Rattle.lists.specs.Choice.{◌⇒◌else◌}
 use Rattle.lists.specs.Lists.{any}
 use Rattle.lists.proofs.Bools.{tf, ft, or_none}
 use Rattle.graph.specs.Graph.{Graph}
@@ -144,5 +145,6 @@ stay_from (by {m} {n} {es} w x r) k q e nz =
 
 pub kept_from : {m n : Machine} {es : List Event} → Reached m es n → (k q : ℕ) (h : Graph) → Kept k q h es → n.marks k ≡ at q
 unfolding AfterCall
+kept_from (here {m = m}) k q h x5 = elim x5 [ ]
 kept_from (by {m} {n} {es} w x r) k q h (set_here s p c nz) = stay_from r k q (step_from w m x k q (inl (s, p))) nz
 kept_from (by {m} {n} {es} w x r) k q h (set_later t) = kept_from r k q h t

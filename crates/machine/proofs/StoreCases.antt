@@ -1,10 +1,11 @@
 -- Several stores, worked out: calls of two stores with one limit, Seven and the empty graph; lists with the start images
 -- one after another, K and the parts; and a whole run.
+use Rattle.std.specs.Prelude.{◌==◌}
 use Prim.Native.Nat.{ℕ, ◌*◌}
 use mathlib.Core.Path.{◌≡◌, refl}
 use mathlib.Core.List.{List, [], ◌∷◌, ◌++◌}
 use lib.ListN.{replicate}
-use Rattle.lists.specs.Choice.{◌⇒◌else◌, ◌==◌, if_equal}
+use Rattle.lists.specs.Choice.{◌⇒◌else◌, if_equal}
 use Rattle.type_rows.specs.Types.{below}
 use Rattle.graph.specs.Graph.{empty}
 use Rattle.graph.specs.WellFormed.{well_formed}

@@ -1,4 +1,5 @@
 -- Every list of several stores meets demands 1 and 2.
+use Rattle.std.specs.Prelude.{◌==◌}
 use Prim.Native.Nat.{ℕ, suc, ◌-◌, ◌/◌, ◌≤◌}
 use mathlib.Core.Path.{◌≡◌, refl, sym, ap, ◌∙◌}
 use mathlib.Core.Logic.{◌↔◌, ⊎_elim}
@@ -9,7 +10,7 @@ use native.Mathlib.Nat.{div-add-mod}
 use lib.ListN.{length}
 use lib.Dec.{leb, ltb}
 use borrow.Author.Tests.{eqb-true, leb-true, le-leb, ltb-false}
-use Rattle.lists.specs.Choice.{◌⇒◌else◌, ◌==◌}
+use Rattle.lists.specs.Choice.{◌⇒◌else◌}
 use Rattle.lists.specs.Lists.{All, range}
 use Rattle.lists.proofs.Bools.{ft, tf, and_both, within_range}
 use Rattle.lists.proofs.Sums.{all_bool}
@@ -169,6 +170,7 @@ module _ (l : LentStores) where
   after_four k f h = (later_than (later_than (later_than (later_than f (λ e. omega arith)).1 (λ e. omega arith)).1 (λ e. omega arith)).1 (λ e. omega arith)).1
 
   start_is : (k : ℕ) → (106 ≡ k → ⊥) → FirstApplies k start_rows → start ≡ k
+  start_is k n (later _ (later _ (later _ (later _ x24)))) = elim x24 [ ]
   start_is k n (found f e) = eqb-true start 105 f ∙ e
   start_is k n (later _ (found f e)) = eqb-true start 108 f ∙ e
   start_is k n (later _ (later _ (found f e))) = eqb-true start 109 f ∙ e

@@ -1,4 +1,5 @@
 -- The end images of several stores: each graph is well formed, its image has room in its part and stands at its front.
+use Rattle.std.specs.Prelude.{◌==◌}
 use Prim.Native.Nat.{ℕ, zero, suc, ◌+◌, ◌-◌, ◌*◌, ◌≤◌, ◌<◌}
 use mathlib.Core.Path.{◌≡◌, refl, sym, ap, subst, ◌∙◌}
 use mathlib.Core.Bool.{Bool, true, false}
@@ -6,7 +7,6 @@ use mathlib.Core.List.{List, [], ◌∷◌, ◌++◌, map, append_assoc}
 use native.Mathlib.Omega.{arith}
 use lib.ListN.{length, take, drop, length-drop}
 use lib.Seq.{length-take-le, take-append_seam, drop-append-add}
-use Rattle.lists.specs.Choice.{◌==◌}
 use Rattle.lists.specs.Lists.{range, overwritten, All, done, more}
 use Rattle.history.specs.Machine.{Machine}
 use Rattle.image.proofs.WordSize.{Word}

@@ -1,4 +1,5 @@
 -- A call of one of several stores that goes to a standing mark: accepted wherever 10 does not refuse it, back always.
+use Rattle.std.specs.Prelude.{◌==◌}
 use Prim.Native.Nat.{ℕ, ◌≤◌, ◌<◌}
 use mathlib.Core.Path.{◌≡◌, refl, sym, ap, ◌∙◌}
 use mathlib.Core.Bool.{Bool, true, false}
@@ -6,7 +7,7 @@ use mathlib.Core.List.{List}
 use native.Mathlib.Omega.{arith}
 use lib.Dec.{ltb}
 use borrow.Author.Tests.{ltb-true, ltb-false, eq-eqb}
-use Rattle.lists.specs.Choice.{◌==◌, within}
+use Rattle.lists.specs.Choice.{within}
 use Rattle.graph.specs.Graph.{Graph}
 use Rattle.history.specs.Machine.{Machine, onward, distance, present}
 use Rattle.history.proofs.Timelines.{onward_back}

@@ -1,6 +1,6 @@
 -- Which bench makes steps, and how many steps between two marks each made, told by the calls and answers so far.
-use Rattle.std.specs.Prelude.{ℕ, ◌-◌, ◌<◌, ◌≡◌, Bool, not, ◌&&◌, List, [], ◌∷◌, ◌++◌, map, take, drop}
-use Rattle.lists.specs.Choice.{◌⇒◌else◌, ◌==◌}
+use Rattle.std.specs.Prelude.{ℕ, ◌-◌, ◌<◌, ◌≡◌, Bool, not, ◌&&◌, List, [], ◌∷◌, ◌++◌, map, take, drop, ◌==◌}
+use Rattle.lists.specs.Choice.{◌⇒◌else◌}
 use Rattle.lists.specs.Lists.{sum_of, range, count}
 use Rattle.graph.specs.Graph.{Graph}
 use Rattle.graph.specs.Limits.{most_benches}

@@ -1,6 +1,6 @@
 -- What stays the same over a list of calls, and what a call names.
-use Rattle.std.specs.Prelude.{ℕ, List, [], ◌∷◌, length}
-use Rattle.lists.specs.Choice.{◌⇒◌else◌, ◌==◌}
+use Rattle.std.specs.Prelude.{ℕ, List, [], ◌∷◌, length, ◌==◌}
+use Rattle.lists.specs.Choice.{◌⇒◌else◌}
 use Rattle.lists.specs.Lists.{◌is◌}
 use Rattle.graph.specs.Graph.{edge_of}
 use Rattle.graph.specs.WellFormed.{Bounds}

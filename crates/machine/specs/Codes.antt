@@ -1,7 +1,7 @@
 -- The table of codes 1 to 20, of a call on its store: when each applies, and the lowest that does. A number of no
 -- store has 21 before all of them (Stores).
-use Rattle.std.specs.Prelude.{ℕ, Bool, false, not, ◌&&◌, List, [], ◌∷◌, ◌++◌, leb, ltb}
-use Rattle.lists.specs.Choice.{◌⇒◌else◌, ◌==◌, within}
+use Rattle.std.specs.Prelude.{ℕ, Bool, false, not, ◌&&◌, List, [], ◌∷◌, ◌++◌, leb, ltb, ◌==◌}
+use Rattle.lists.specs.Choice.{◌⇒◌else◌, within}
 use Rattle.lists.specs.Lists.{◌is◌}
 use Rattle.graph.specs.declared.Change.{Change}
 use Rattle.graph.specs.Graph.{Graph, has_vertex, has_edge, this, is_reading}

@@ -1,6 +1,6 @@
 -- Rows 10 to 14 and 18 to 20 of the table of codes, read on a call's words and the machine as the call begins.
-use Rattle.std.specs.Prelude.{ℕ, suc, Bool, false, not, ◌&&◌, ◌||◌, List, [], ◌∷◌, length, leb, ltb}
-use Rattle.lists.specs.Choice.{◌⇒◌else◌, ◌==◌}
+use Rattle.std.specs.Prelude.{ℕ, suc, Bool, false, not, ◌&&◌, ◌||◌, List, [], ◌∷◌, length, leb, ltb, ◌==◌}
+use Rattle.lists.specs.Choice.{◌⇒◌else◌}
 use Rattle.lists.specs.Lists.{◌is◌}
 use Rattle.graph.specs.declared.Change.{Change}
 use Rattle.graph.specs.Limits.{most_benches}

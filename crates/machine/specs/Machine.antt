@@ -1,6 +1,6 @@
 -- The plain machine: the answer to a call, the state after it, and a list of calls.
-use Rattle.std.specs.Prelude.{ℕ, List, [], ◌∷◌}
-use Rattle.lists.specs.Choice.{◌⇒◌else◌, ◌==◌, to_bit}
+use Rattle.std.specs.Prelude.{ℕ, List, [], ◌∷◌, ◌==◌}
+use Rattle.lists.specs.Choice.{◌⇒◌else◌, to_bit}
 use Rattle.lists.specs.Lists.{first, successor, before}
 use Rattle.type_rows.specs.Types.{below}
 use Rattle.graph.specs.Graph.{

@@ -1,6 +1,5 @@
 -- When a mark has a name and what going by a name gives, told by the calls and answers so far.
-use Rattle.std.specs.Prelude.{ℕ, ◌≡◌, ◌↔◌, Bool, true, false, ◌&&◌, ◌||◌, List, ◌∷◌}
-use Rattle.lists.specs.Choice.{◌==◌}
+use Rattle.std.specs.Prelude.{ℕ, ◌≡◌, ◌↔◌, Bool, true, false, ◌&&◌, ◌||◌, List, ◌∷◌, ◌==◌}
 use Rattle.lists.specs.Lists.{any}
 use Rattle.graph.specs.Graph.{Graph}
 use Rattle.history.specs.Machine.{Name, name, no_name, is_name, same_name, gone, bears, distance, present}

@@ -1,7 +1,7 @@
 -- What an accepted change and an accepted history call do, and the rule of each: its code, its number and the state
 -- after it.
-use Rattle.std.specs.Prelude.{ℕ, suc, ◌-◌, ◌++◌}
-use Rattle.lists.specs.Choice.{◌⇒◌else◌, ◌==◌}
+use Rattle.std.specs.Prelude.{ℕ, suc, ◌-◌, ◌++◌, ◌==◌}
+use Rattle.lists.specs.Choice.{◌⇒◌else◌}
 use Rattle.graph.specs.declared.Change.{Change}
 use Rattle.graph.specs.WellFormed.{Bounds}
 use Rattle.graph.specs.Changes.{cost}

@@ -1,6 +1,6 @@
 -- A run: what is lent, the refusals of a list, the result and the lent words after it.
-use Rattle.std.specs.Prelude.{ℕ, ◌*◌, ◌/◌, ◌%◌, ◌≤◌, not, ◌&&◌, ◌||◌, List, [], ◌∷◌, length, ltb}
-use Rattle.lists.specs.Choice.{◌⇒◌else◌, ◌==◌, within}
+use Rattle.std.specs.Prelude.{ℕ, ◌*◌, ◌/◌, ◌%◌, ◌≤◌, not, ◌&&◌, ◌||◌, List, [], ◌∷◌, length, ltb, ◌==◌}
+use Rattle.lists.specs.Choice.{◌⇒◌else◌, within}
 use Rattle.lists.specs.Lists.{overwritten}
 use Rattle.type_rows.specs.Rows.{good_rows}
 use Rattle.image.specs.Image.{image_length, save, load}

@@ -1,6 +1,6 @@
 -- Several stores in one run (REFERENCE 21): as many plain machines, one limit.
-use Rattle.std.specs.Prelude.{ℕ, suc, ◌-◌, Bool, List, [], ◌∷◌}
-use Rattle.lists.specs.Choice.{◌⇒◌else◌, ◌==◌, within}
+use Rattle.std.specs.Prelude.{ℕ, suc, ◌-◌, Bool, List, [], ◌∷◌, ◌==◌}
+use Rattle.lists.specs.Choice.{◌⇒◌else◌, within}
 use Rattle.lists.specs.Lists.{sum_of, range}
 use Rattle.history.specs.Machine.{Machine, spent}
 use Rattle.commands.specs.Calls.{Call, five}

@@ -1,4 +1,5 @@
 -- The codes 11, 12, 13 and 18 read off the set and the words of the marks.
+use Rattle.std.specs.Prelude.{◌==◌}
 use Prim.Native.Nat.{ℕ, ◌≤◌, ◌<◌}
 use mathlib.Core.Path.{◌≡◌, refl, sym, ap, ◌∙◌}
 use mathlib.Core.Logic.{◌≢◌}
@@ -6,7 +7,7 @@ use mathlib.Core.Bool.{Bool, true, false, not, ◌||◌}
 use mathlib.Core.List.{List}
 use native.Mathlib.Omega.{arith}
 use borrow.Author.Tests.{le-leb, lt-leb}
-use Rattle.lists.specs.Choice.{◌⇒◌else◌, ◌==◌, within}
+use Rattle.lists.specs.Choice.{◌⇒◌else◌, within}
 use Rattle.lists.proofs.Bools.{tf, within_range}
 use Rattle.history.specs.Machine.{Machine, stands, Name, is_name, holder_but}
 use Rattle.marks.specs.Marked.{in_set, Marked}

@@ -1,4 +1,5 @@
 -- Numbers by their binary digits: one digit read, one digit changed, the count of ones.
+use Rattle.std.specs.Prelude.{◌==◌}
 use Prim.Native.Nat.{ℕ, zero, suc, ◌+◌, ◌-◌, ◌*◌, ◌/◌, ◌%◌, ◌^◌, ◌≤◌, ◌<◌}
 use mathlib.Core.Bool.{Bool, true, false}
 use mathlib.Core.Path.{◌≡◌, refl, sym, ap, subst, ◌∙◌}
@@ -11,7 +12,7 @@ use lib.Pow.{pow-lt, pow-add, shr-shr}
 use lib.Bits.{bit_and, bit_or, bit_xor, and_high, or_add_and, xor_add_and}
 use lib.Count.{ones, ones_step, count_trailing_zeros, under}
 use lib.ListN.{length}
-use Rattle.lists.specs.Choice.{◌==◌, ◌⇒◌else◌, to_bit}
+use Rattle.lists.specs.Choice.{◌⇒◌else◌, to_bit}
 use Rattle.lists.specs.Lists.{filter, range}
 use Rattle.lists.proofs.Picks.{same, differ, same?}
 use Rattle.lists.proofs.Sums.{bit_le}

@@ -1,4 +1,5 @@
 -- The set and the places as marks are set, dropped and cut.
+use Rattle.std.specs.Prelude.{◌==◌}
 use Prim.Native.Nat.{ℕ, zero, suc, ◌+◌, ◌-◌, ◌*◌, ◌/◌, ◌%◌, ◌^◌, ◌≤◌, ◌<◌}
 use mathlib.Core.Bool.{Bool, true, false, not, ◌&&◌}
 use mathlib.Core.Path.{◌≡◌, refl, sym, ap, ◌∙◌}
@@ -13,7 +14,7 @@ use lib.Dec.{leb, ltb}
 use lib.Pow.{pow_mono, shr-shr}
 use lib.ListN.{length, get_or, set, length-set}
 use lib.Seq.{get_or-set_same, get_or-set_other}
-use Rattle.lists.specs.Choice.{◌==◌, ◌⇒◌else◌, to_bit, within}
+use Rattle.lists.specs.Choice.{◌⇒◌else◌, to_bit, within}
 use Rattle.lists.proofs.Bools.{ft, and_true, within_range}
 use Rattle.lists.proofs.Picks.{Same, same, differ, same?}
 use Rattle.history.specs.Machine.{MarkPlace, gone, at, no_marks, stands, place_or, marked, cut, cut_marks, count_standing}

@@ -1,6 +1,6 @@
 -- The codes of a call that names marks, read off the set and the words of the marks.
-use Rattle.std.specs.Prelude.{ℕ, Bool, not, ◌||◌, List}
-use Rattle.lists.specs.Choice.{◌⇒◌else◌, ◌==◌}
+use Rattle.std.specs.Prelude.{ℕ, Bool, not, ◌||◌, List, ◌==◌}
+use Rattle.lists.specs.Choice.{◌⇒◌else◌}
 use Rattle.history.specs.Machine.{is_mark, Name, is_name}
 use Rattle.marks.specs.Marked.{in_set}
 use Rattle.marks.specs.Named.{holder_in}

@@ -1,6 +1,6 @@
 -- The set of standing marks and their places: what each call makes of them, and how they stand for the machine's marks.
-use Rattle.std.specs.Prelude.{ℕ, zero, suc, ◌+◌, ◌-◌, ◌*◌, ◌/◌, ◌%◌, ◌^◌, ◌≤◌, ◌≡◌, Bool, not, ◌&&◌, List, leb, length, get_or}
-use Rattle.lists.specs.Choice.{◌==◌, ◌⇒◌else◌, to_bit}
+use Rattle.std.specs.Prelude.{ℕ, zero, suc, ◌+◌, ◌-◌, ◌*◌, ◌/◌, ◌%◌, ◌^◌, ◌≤◌, ◌≡◌, Bool, not, ◌&&◌, List, leb, length, get_or, ◌==◌}
+use Rattle.lists.specs.Choice.{◌⇒◌else◌, to_bit}
 use Rattle.graph.specs.Limits.{most_marks}
 use Rattle.history.specs.Machine.{MarkPlace, at, stands, is_mark}
 

@@ -1,6 +1,6 @@
 -- The names of the standing marks, in the words behind the places.
-use Rattle.std.specs.Prelude.{ℕ, ◌+◌, ◌-◌, ◌*◌, ◌≡◌, Bool, true, not, ◌&&◌, List, get_or, set as set_at}
-use Rattle.lists.specs.Choice.{◌==◌, ◌⇒◌else◌}
+use Rattle.std.specs.Prelude.{ℕ, ◌+◌, ◌-◌, ◌*◌, ◌≡◌, Bool, true, not, ◌&&◌, List, get_or, set as set_at, ◌==◌}
+use Rattle.lists.specs.Choice.{◌⇒◌else◌}
 use Rattle.graph.specs.Limits.{most_marks}
 use Rattle.history.specs.Machine.{MarkPlace, stands, is_mark, Name, name, no_name, is_name, same_name, seek}
 use Rattle.marks.specs.Marked.{in_set}

@@ -1,9 +1,11 @@
 // The standing marks: one 64-bit set, and the place and the name of each.
+#![tactic(auto)]
+
 pub mod codes;
 
-ghost use Rattle.std.specs.Prelude.{◌≡◌, true, false, not, ◌&&◌, List, ℕ, ◌-◌, ◌%◌, ltb, length};
+ghost use Rattle.std.specs.Prelude.{◌≡◌, true, false, not, ◌&&◌, List, ℕ, ◌-◌, ◌%◌, ltb, length, ◌==◌};
 ghost use Rattle.std.specs.Int.Count.{ones};
-ghost use Rattle.lists.specs.Choice.{◌==◌, ◌⇒◌else◌};
+ghost use Rattle.lists.specs.Choice.{◌⇒◌else◌};
 ghost use Rattle.history.specs.Machine.{MarkPlace, is_mark, gone, at, no_marks, name, is_name};
 ghost use Rattle.history.specs.Machine.{marked, cut_marks, count_standing, distance};
 ghost use Rattle.marks.specs.Marked.{mark_words, in_set, place_in, with_mark, without_mark, cut_set, Marked};
@@ -120,7 +122,7 @@ pub fn set_mark(set: u64, places: &mut [u32], a: u32, p: u32) -> u64
     requires { length places.old ≡ mark_words }
     ensures value { result ≡ with_mark a set }
     ensures places_after { places.new
-        ≡ (is_mark a ⇒ mark_put a p places.old else (λ x. x.now) places.entry) }
+        ≡ (is_mark a ⇒ mark_put a p places.old else places.old) }
     ensures by_index { (ms : ℕ → MarkPlace) → is_mark a ≡ true → in_set set a ≡ false
         → Marked ms set places.old → Marked (marked a (at p) ms) result places.new }
 {

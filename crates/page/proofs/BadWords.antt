@@ -1,4 +1,5 @@
 -- What stands beside the code of a page that is refused: with 108 and 109 the offset of the first bad word, else 0.
+use Rattle.std.specs.Prelude.{◌==◌}
 use Prim.Native.Nat.{ℕ, ◌+◌, ◌*◌, ◌≤◌, ◌<◌}
 use mathlib.Core.Path.{◌≡◌, refl, sym, ap, ◌∙◌}
 use mathlib.Core.Logic.{◌⊎◌, inl, inr, ⊎_elim}
@@ -8,7 +9,6 @@ use native.Mathlib.Omega.{arith}
 use lib.Dec.{ltb}
 use lib.ListN.{length}
 use borrow.Author.Tests.{ltb-true, ltb-false, eqb-true, eqb-false}
-use Rattle.lists.specs.Choice.{◌==◌}
 use Rattle.image.specs.Image.{vertex_size, vertex_offset, incidence_offset, vertex_count, edge_count, record_size}
 use Rattle.image_check.specs.Checks.{code_of, offset_of, load_code, load_offset, verdict}
 use Rattle.image_check.specs.FirstBad.{is_degree, FirstBad, FirstDegree}

@@ -1,6 +1,6 @@
 -- The page of an image: the code and the number of bytes, and what the page is afterwards, for all words.
-use Rattle.std.specs.Prelude.{ℕ, ◌*◌, List, length, ltb}
-use Rattle.lists.specs.Choice.{◌⇒◌else◌, ◌==◌}
+use Rattle.std.specs.Prelude.{ℕ, ◌*◌, List, length, ltb, ◌==◌}
+use Rattle.lists.specs.Choice.{◌⇒◌else◌}
 use Rattle.lists.specs.Lists.{overwritten}
 use Rattle.graph.specs.WellFormed.{Bounds}
 use Rattle.image.specs.Image.{load}

@@ -1,5 +1,7 @@
 // The page of an image (a saved chart): one row of 25 bytes for each edge.
 // Each function but print writes a text at a place of out and returns the place behind it.
+#![tactic(auto)]
+
 ghost use Rattle.std.specs.Prelude.{◌≡◌, ◌+◌, ◌*◌, ◌≤◌, length, replicate};
 ghost use Rattle.decimal.specs.Stored.{Stored};
 ghost use Rattle.graph.specs.Graph.{reading_of};
@@ -13,7 +15,7 @@ use image_check::{check_saved, code_of, offset_of};
 
 // A code, and how many bytes were written; with a code none, and bytes is the offset of the first bad word, else 0.
 #[repr(C)]
-#[derive(Drop)]
+#[derive(Clone, Copy)]
 pub struct Printed {
     pub code: u32,
     pub bytes: usize,

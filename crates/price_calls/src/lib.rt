@@ -1,11 +1,13 @@
 // The price list, read off the lent tables.
 // A caller has tables that hold a graph; the words of the call may be any.
+#![tactic(auto)]
+
 mod grades; // grades.rt: the printed limits, and the grade of a range
 
 ghost use Rattle.std.specs.Prelude.{◌≡◌, ◌/◌};
 ghost use Rattle.graph.specs.Graph.{Graph};
 ghost use Rattle.graph_tables.specs.declared.Head.{Head};
-ghost use Rattle.graph_tables.specs.Tables.{EdgeRowIn, state, entry_state};
+ghost use Rattle.graph_tables.specs.Tables.{EdgeRowIn, state};
 ghost use Rattle.graph.specs.WellFormed.{Bounds};
 ghost use Rattle.graph_tables.specs.Capacities.{Sized};
 ghost use Rattle.graph_tables.specs.Holds.{Holds};
@@ -95,7 +97,7 @@ fn price_of(vertices: &[u32], edges: &[u32], a: u32, b: u32) -> Answer
 fn priced(vertices: &[u32], edges: &[u32], a: u32, b: u32) -> Answer
     requires { (z : Bounds) × (head : Head) × (g : Graph) × Sized z (state head vertices.now edges.now)
         × Holds (state head vertices.now edges.now) g }
-    ensures { (head : Head) → (g : Graph) → Holds (entry_state head vertices edges) g
+    ensures { (head : Head) → (g : Graph) → Holds (state head vertices.now edges.now) g
         → result ≡ answer_of (price_code g (price.Range a b)) (price_number g (price.Range a b)) }
 {
     let f = find_vertex(vertices, a);
@@ -114,7 +116,7 @@ fn priced(vertices: &[u32], edges: &[u32], a: u32, b: u32) -> Answer
 fn range(vertices: &[u32], edges: &[u32], a: u32, b: u32) -> Answer
     requires { (z : Bounds) × (head : Head) × (g : Graph) × Sized z (state head vertices.now edges.now)
         × Holds (state head vertices.now edges.now) g }
-    ensures { (head : Head) → (g : Graph) → Holds (entry_state head vertices edges) g
+    ensures { (head : Head) → (g : Graph) → Holds (state head vertices.now edges.now) g
         → result ≡ answer_of (price_code g (price.Range a b)) (price_number g (price.Range a b)) }
 {
     let p = priced(vertices, edges, a, b);
@@ -128,7 +130,7 @@ fn range(vertices: &[u32], edges: &[u32], a: u32, b: u32) -> Answer
 fn grade(vertices: &[u32], edges: &[u32], a: u32, b: u32, c: u32) -> Answer
     requires { (z : Bounds) × (head : Head) × (g : Graph) × Sized z (state head vertices.now edges.now)
         × Holds (state head vertices.now edges.now) g }
-    ensures { (head : Head) → (g : Graph) → Holds (entry_state head vertices edges) g
+    ensures { (head : Head) → (g : Graph) → Holds (state head vertices.now edges.now) g
         → result ≡ answer_of (price_code g (price.Grade a b c)) (price_number g (price.Grade a b c)) }
 {
     let p = priced(vertices, edges, a, b);
@@ -145,7 +147,7 @@ fn grade(vertices: &[u32], edges: &[u32], a: u32, b: u32, c: u32) -> Answer
 pub fn quote(vertices: &[u32], edges: &[u32], call: PriceCall) -> Answer
     requires { (z : Bounds) × (head : Head) × (g : Graph) × Sized z (state head vertices.now edges.now)
         × Holds (state head vertices.now edges.now) g }
-    ensures { (head : Head) → (g : Graph) → Holds (entry_state head vertices edges) g
+    ensures { (head : Head) → (g : Graph) → Holds (state head vertices.now edges.now) g
         → result ≡ answer_of (price_code g call) (price_number g call) }
 {
     match call {

@@ -1,1 +1,2 @@
 // The price list layer. Its definitions are in specs/.
+#![tactic(auto)]

@@ -1,6 +1,6 @@
 -- The program chartpage, from the bytes that it reads to the bytes that it writes.
-use Rattle.std.specs.Prelude.{ℕ, List, []}
-use Rattle.lists.specs.Choice.{◌⇒◌else◌, ◌==◌}
+use Rattle.std.specs.Prelude.{ℕ, List, [], ◌==◌}
+use Rattle.lists.specs.Choice.{◌⇒◌else◌}
 use Rattle.image.specs.Image.{load}
 use Rattle.image_check.specs.Checks.{load_code, load_offset}
 use Rattle.page.specs.Rows.{rows_of}

@@ -1,4 +1,6 @@
 // The program chartpage from bytes to bytes: the line of an image read, its page written, or why there is none.
+#![tactic(auto)]
+
 ghost use Rattle.std.specs.Prelude.{◌≤◌, length};
 ghost use Rattle.decimal.specs.Stored.{WrittenAt};
 ghost use Rattle.printout.specs.Printout.{rows_or_code, printout};

@@ -1,11 +1,12 @@
 -- A word of a named row answers the question that it is the word of.
+use Rattle.std.specs.Prelude.{◌==◌}
 use Prim.Native.Nat.{ℕ, ◌+◌, ◌-◌, ◌*◌, ◌%◌, ◌≤◌}
 use mathlib.Core.Path.{◌≡◌, refl, sym, ap, ◌∙◌}
 use mathlib.Core.Bool.{Bool, true, false, not}
 use mathlib.Core.List.{List}
 use native.Mathlib.Omega.{arith}
 use lib.ListN.{get_or}
-use Rattle.lists.specs.Choice.{◌⇒◌else◌, ◌==◌}
+use Rattle.lists.specs.Choice.{◌⇒◌else◌}
 use Rattle.lists.specs.Lists.{first, successor}
 use Rattle.lists.proofs.Picks.{pick_yes, pick_no, same, differ, same?}
 use Rattle.graph.specs.Graph.{Graph, vertex, edge, has_vertex, has_edge, vertex_numbers, edge_numbers, edge_of, in_word, out_word, this, that, list_of, reading_kind, decimetres}

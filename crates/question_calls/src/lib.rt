@@ -1,5 +1,7 @@
 // The answers to questions. Where a name is missing, the look-up says so and the function leaves with the code.
 // A caller has tables that hold a graph; the words of the question may be any.
+#![tactic(auto)]
+
 ghost use Rattle.std.specs.Prelude.{◌≡◌, List, ℕ, ◌<◌, true};
 ghost use Rattle.graph.specs.Graph.{Graph};
 ghost use Rattle.lists.specs.Choice.{to_bit};
@@ -8,7 +10,7 @@ ghost use Rattle.type_rows.specs.Closure.{closure_words};
 ghost use Rattle.graph.specs.WellFormed.{Bounds};
 ghost use Rattle.graph_tables.specs.Capacities.{Sized};
 ghost use Rattle.graph_tables.specs.declared.Head.{Head};
-ghost use Rattle.graph_tables.specs.Tables.{state, entry_state};
+ghost use Rattle.graph_tables.specs.Tables.{state};
 ghost use Rattle.graph_tables.specs.Holds.{Holds};
 ghost use Rattle.commands.specs.declared.Question.TheVariants as ask;
 ghost use Rattle.commands.specs.Answers.{answer_of};
@@ -118,7 +120,7 @@ fn order_of_edges(head: Head, edges: &[u32], a: u32, b: u32) -> Answer
 fn order_of_words(vertices: &[u32], edges: &[u32], a: u32, b: u32) -> Answer
     requires { (head : Head) × (g : Graph) × Holds (state head vertices.now edges.now) g }
     ensures { (g : Graph) → (n : ℕ) → (rows : List ℕ) → (head : Head)
-        → Holds (entry_state head vertices edges) g
+        → Holds (state head vertices.now edges.now) g
         → result ≡ answer_of (question_code n g (ask.WordOrder a b)) (question_number rows g (ask.WordOrder a b)) }
 {
     let f = find_word(edges, a);
@@ -149,7 +151,7 @@ fn degree_of(
     requires { (b : Bounds) × (head : Head) × (g : Graph) × Sized b (state head vertices.now edges.now)
         × Holds (state head vertices.now edges.now) g }
     ensures { (g : Graph) → (rows : List ℕ) → (b : Bounds) → (head : Head)
-        → Sized b (entry_state head vertices edges) → Holds (entry_state head vertices edges) g → good_rows rows ≡ true
+        → Sized b (state head vertices.now edges.now) → Holds (state head vertices.now edges.now) g → good_rows rows ≡ true
         → closed.now ≡ closure_words rows
         → result ≡ answer_of (question_code types g (ask.Degree a t c)) (question_number rows g (ask.Degree a t c)) }
 {
@@ -193,8 +195,8 @@ pub fn reply(
     requires sized { (b : Bounds) × (g : Graph) × Sized b (state head vertices.now edges.now)
         × Holds (state head vertices.now edges.now) g }
     requires by_index { (rows : List ℕ) × (good_rows rows ≡ true) × (closed.now ≡ closure_words rows) }
-    ensures { (g : Graph) → (rows : List ℕ) → (b : Bounds) → Sized b (entry_state head vertices edges)
-        → Holds (entry_state head vertices edges) g → good_rows rows ≡ true → closed.now ≡ closure_words rows
+    ensures { (g : Graph) → (rows : List ℕ) → (b : Bounds) → Sized b (state head vertices.now edges.now)
+        → Holds (state head vertices.now edges.now) g → good_rows rows ≡ true → closed.now ≡ closure_words rows
         → result ≡ answer_of (question_code types g question) (question_number rows g question) }
 {
     match question {

@@ -20,7 +20,6 @@ use Rattle.commands.specs.declared.Command.{Command}
 use Rattle.commands.specs.declared.Command.TheVariants.{Alter, History, Ask, Quote, Unknown}
 use Rattle.commands.specs.declared.Answer.{Answer}
 use Rattle.machine.specs.Calls.{Parameters, bounds_in}
-use Rattle.machine.specs.Rules.{steps}
 use Rattle.machine.specs.Machine.{deed_of, step_to}
 use Rattle.history_calls.specs.declared.Store.{Store}
 use Rattle.history_calls.specs.declared.Called.{Called}

@@ -28,7 +28,7 @@ use Rattle.copies.proofs.MadeLaws.{alter_kind, made_more, made_few, one_more, ch
 use Rattle.recorder.proofs.CoverLaws.{covers_as}
 use Rattle.copies.specs.Copies.{graph_made, step_graphs, stretch, changes_in}
 use Rattle.copies.specs.Recording.{Covers, role_of, takes, Takes}
-use Rattle.recorder.specs.Contracts.{HasStretch}
+use Rattle.recorder.specs.Asked.{HasStretch}
 
 -- ---- a call that takes a copy is of kinds 1 to 16
 

@@ -17,7 +17,7 @@ use Rattle.machine.specs.Calls.{Parameters, bounds_in}
 use Rattle.machine.specs.Run.{Lent, AfterRun, parameters_of, list_refusal, list_number, accepted, refused}
 use Rattle.timeline.specs.Steps.{rows_to}
 use Rattle.copies.specs.Copies.{stretch, recorded_from, recorded, changes_in}
-use Rattle.copies.specs.Recording.{places, copy_of, Covers}
+use Rattle.copies.specs.Recording.{copy_of, Covers}
 use Rattle.recorder.specs.Outcomes.{made_in, recording_refusal, after_recording, recording}
 
 -- ---- refusals

@@ -1,2 +1,2 @@
-pub mod Contracts
+pub mod Asked
 pub mod Outcomes

@@ -1,6 +1,6 @@
 -- A recorded run: its refusals, its result, and the lent words after it.
-use Rattle.std.specs.Prelude.{ℕ, ◌/◌, ◌≡◌, ◌≢◌, List, ltb, length}
-use Rattle.lists.specs.Choice.{◌⇒◌else◌, ◌==◌}
+use Rattle.std.specs.Prelude.{ℕ, ◌/◌, ◌≢◌, List, ltb, length, ◌==◌}
+use Rattle.lists.specs.Choice.{◌⇒◌else◌}
 use Rattle.lists.specs.Slices.{Slice}
 use Rattle.graph.specs.Graph.{Graph}
 use Rattle.history.specs.Machine.{fresh}

@@ -1,5 +1,7 @@
 // The recorder: a saved copy of the graph after every step. Undo, redo and going to a mark load the copy of the place,
 // and no edit is undone; every other call is the main engine's.
+#![tactic(auto)]
+
 ghost use Rattle.std.specs.Prelude.{◌≡◌, List, [], ◌++◌, ℕ, ◌*◌, ◌/◌, ◌≤◌, ◌<◌, length};
 ghost use Rattle.graph.specs.Graph.{Graph};
 ghost use Rattle.history.specs.Machine.{Machine};
@@ -10,17 +12,18 @@ ghost use Rattle.machine.specs.Calls.{Parameters, bounds_in};
 ghost use Rattle.machine.specs.Rules.{history_rule};
 ghost use Rattle.machine.specs.Machine.{step_to};
 ghost use Rattle.machine.specs.Run.{list_refusal, accepted as accepted_of};
-ghost use Rattle.history_calls.specs.Memory.{memory, entry, exit};
+ghost use Rattle.history_calls.specs.Memory.{memory};
 ghost use Rattle.history_calls.specs.Represents.{Represents, Follows};
 ghost use Rattle.history_calls.specs.Outcomes.{Leads};
 ghost use Rattle.engine.specs.Running.{Running, Answered};
 ghost use Rattle.engine.specs.Calls.{AfterCalls};
-ghost use Rattle.engine.specs.Outcomes.{lent, given, left, MeetsDemand3};
+ghost use Rattle.engine.specs.Outcomes.{lent, MeetsDemand3, run_result};
 ghost use Rattle.copies.specs.Copies.{stretch, graph_made, step_graphs, changes_in, recorded};
 ghost use Rattle.copies.specs.Recording.{Covers, role_of};
-ghost use Rattle.recorder.specs.Contracts.{CanRecord, CanAdd, CanBegin, HasStretch, called_by};
+ghost use Rattle.recorder.specs.Asked.{CanRecord, CanAdd, CanBegin, HasStretch, called_by};
 ghost use Rattle.recorder.specs.Outcomes.{made_in, after_recording, recording};
 ghost use Rattle.recorder.specs.Outcomes.{Untouched, MeetsDemand1, MeetsDemand2};
+ghost use Rattle.lists.specs.Slices.{slice};
 
 use commands::{Answer, HistoryCall};
 use copies::{PLACES, Role, changes_in, copies_after, leads_to, reload, role_of};
@@ -36,7 +39,7 @@ use timeline::lent::moved;
 use type_rows::closure;
 
 // The store, the number of copies, and the answer to a call.
-#[derive(Drop)]
+#[derive(Clone, Copy)]
 pub struct Progress {
     pub store: Store,
     pub count: usize,
@@ -62,7 +65,7 @@ fn go_by_copy(
         × Represents (bounds_in w) store (memory vertices.old edges.old journal.now marks.now) m
         × Covers w start.now lent copies.now numbers.now used.now gs n m × (size ≡ stretch w) }
     ensures { (w : Parameters) → (m : Machine) → (lent : List ℕ) → (gs : List Graph) → (n : ℕ)
-        → Represents (bounds_in w) store (entry vertices edges journal marks) m
+        → Represents (bounds_in w) store (memory vertices.old edges.old journal.now marks.now) m
         → Covers w start.now lent copies.now numbers.now used.now gs n m
         → size ≡ stretch w → (capacity : ℕ) → Follows (history_rule capacity call) m (bounds_in w) result
         (memory vertices.new edges.new journal.now marks.now) }
@@ -108,12 +111,12 @@ fn performed(
     role: Role,
 ) -> Called
     requires call_len { (length call.now ≡ 5) × (role ≡ role_of (command_of (call_at call.now))) }
-    requires can_record { CanRecord store start vertices edges journal marks closed types copies size numbers used }
+    requires can_record { CanRecord store start.now vertices.old edges.old journal.old marks.old closed.now types copies.now size numbers.now used.now }
     ensures { (w : Parameters) → (m : Machine) → (lent : List ℕ) → (gs : List Graph) → (n : ℕ)
-        → Running w store (entry vertices edges journal marks) closed.now types m
+        → Running w store (memory vertices.old edges.old journal.old marks.old) closed.now types m
         → Covers w start.now lent copies.now numbers.now used.now gs n m
         → size ≡ stretch w
-        → Answered w w.changes m (command_of (call_at call.now)) result (exit vertices edges journal marks)
+        → Answered w w.changes m (command_of (call_at call.now)) result (memory vertices.new edges.new journal.new marks.new)
         closed.now types }
 {
     match role {
@@ -142,13 +145,13 @@ fn record_call(
     used: &mut [u32; PLACES],
 ) -> Progress
     requires call_len { (length call.now ≡ 5) × HasStretch call.now size count (length copies.old) }
-    requires can_add { CanAdd store start vertices edges journal marks closed types copies size numbers used count }
+    requires can_add { CanAdd store start.now vertices.old edges.old journal.old marks.old closed.now types copies.old size numbers.old used.old count }
     ensures { (w : Parameters) → (m : Machine) → (lent : List ℕ) → (gs : List Graph)
-        → Running w store (entry vertices edges journal marks) closed.now types m
+        → Running w store (memory vertices.old edges.old journal.old marks.old) closed.now types m
         → Covers w start.now lent copies.old numbers.old used.old gs count m
         → size ≡ stretch w
         → Answered w w.changes m (command_of (call_at call.now)) (called_by result)
-        (exit vertices edges journal marks) closed.now types
+        (memory vertices.new edges.new journal.new marks.new) closed.now types
         × Covers w start.now lent copies.new numbers.new used.new
         (gs ++ graph_made w m (command_of (call_at call.now))) result.count
         (step_to w m (command_of (call_at call.now))) }
@@ -198,14 +201,14 @@ fn record_all(
     numbers: &mut [usize; PLACES],
     used: &mut [u32; PLACES],
 ) -> Store
-    requires can_begin { CanBegin store start vertices edges journal marks closed types copies size numbers used }
+    requires can_begin { CanBegin store start.now vertices.old edges.old journal.old marks.old closed.now types copies.old size numbers.old used.old }
     requires calls_in_bounds { (2 * (length calls.now / 5) ≤ length answers.old)
         × (size * changes_in (calls_of calls.now) ≤ length copies.old) }
     ensures { (w : Parameters) → (m : Machine)
-        → Running w store (entry vertices edges journal marks) closed.now types m
+        → Running w store (memory vertices.old edges.old journal.old marks.old) closed.now types m
         → Covers w start.now copies.old copies.old numbers.old
         used.old [] 0 m → size ≡ stretch w
-        → AfterCalls w w.changes m (calls_of calls.now) result (exit vertices edges journal marks)
+        → AfterCalls w w.changes m (calls_of calls.now) result (memory vertices.new edges.new journal.new marks.new)
         closed.now types answers.old answers.new
         × (copies.new ≡ recorded (stretch w) (step_graphs w m (calls_of calls.now))
         copies.old) }
@@ -257,8 +260,8 @@ fn accepted(
         vertices.old edges.old journal.old answers.old image.old) ≡ 0 }
     requires size_value { (size ≡ image_length (length vertices.old / 8) (length edges.old / 12))
         × (size * changes_in (calls_of calls.now) ≤ length copies.old) }
-    ensures { (left result answers image ≡ accepted_of (given start rows calls vertices edges journal answers image))
-        × (copies.new ≡ recorded size (made_in (given start rows calls vertices edges journal answers image))
+    ensures { (run_result result answers.new image.new ≡ accepted_of (lent start.now rows.now calls.now vertices.old edges.old journal.old answers.old image.old))
+        × (copies.new ≡ recorded size (made_in (lent start.now rows.now calls.now vertices.old edges.old journal.old answers.old image.old))
         copies.old) }
 {
     let closed = closure(rows);
@@ -305,16 +308,14 @@ pub fn record_run(
     image: &mut [u32],
     copies: &mut [u32],
 ) -> RunResult
-    ensures copies_after { after_recording (left result answers image) copies.new
-        ≡ recording (given start rows calls vertices edges journal answers image) copies.old }
-    ensures untouched { Untouched (given start rows calls vertices edges journal answers image)
-        (length copies.old) vertices edges journal }
-    ensures meets_demand1 { MeetsDemand1 (given start rows calls vertices edges journal answers image)
-        (left result answers image) vertices edges journal }
-    ensures meets_demand2 { MeetsDemand2 (given start rows calls vertices edges journal answers image)
-        (left result answers image) }
-    ensures meets_demand3 { MeetsDemand3 (given start rows calls vertices edges journal answers image)
-        (left result answers image) }
+    ensures copies_after { after_recording (run_result result answers.new image.new) copies.new
+        ≡ recording (lent start.now rows.now calls.now vertices.old edges.old journal.old answers.old image.old) copies.old }
+    ensures untouched { Untouched (lent start.now rows.now calls.now vertices.old edges.old journal.old answers.old image.old) (length copies.old) (slice vertices.old vertices.new) (slice edges.old edges.new) (slice journal.old journal.new) }
+    ensures meets_demand1 { MeetsDemand1 (lent start.now rows.now calls.now vertices.old edges.old journal.old answers.old image.old) (run_result result answers.new image.new) (slice vertices.old vertices.new) (slice edges.old edges.new) (slice journal.old journal.new) }
+    ensures meets_demand2 { MeetsDemand2 (lent start.now rows.now calls.now vertices.old edges.old journal.old answers.old image.old)
+        (run_result result answers.new image.new) }
+    ensures meets_demand3 { MeetsDemand3 (lent start.now rows.now calls.now vertices.old edges.old journal.old answers.old image.old)
+        (run_result result answers.new image.new) }
 {
     let refused = refusal(
         start,

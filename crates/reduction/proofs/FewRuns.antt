@@ -1,15 +1,14 @@
 -- How many lists are run at most.
-use Prim.Native.Nat.{ℕ, zero, suc, ◌+◌, ◌-◌, ◌*◌, ◌≤◌, ◌<◌}
+use Rattle.std.specs.Prelude.{◌==◌}
+use Prim.Native.Nat.{ℕ, zero, suc, ◌+◌, ◌-◌, ◌≤◌, ◌<◌}
 use mathlib.Core.Path.{◌≡◌, refl}
-use mathlib.Core.Logic.{◌≢◌}
 use mathlib.Core.Bool.{Bool, true, false}
 use mathlib.Core.List.{List}
 use native.Mathlib.Omega.{arith}
-use native.Mathlib.Nat.{mul-suc}
 use lib.ListN.{length}
 use borrow.Author.Tests.{eqb-false}
-use Rattle.lists.specs.Choice.{◌⇒◌else◌, ◌==◌}
-use Rattle.reduction.specs.Reduction.{Reduced, first_loose, reduced_from, pairs, reduced}
+use Rattle.lists.specs.Choice.{◌⇒◌else◌}
+use Rattle.reduction.specs.Reduction.{first_loose, reduced_from, pairs, reduced}
 use Rattle.lists.specs.Lists.{without}
 use Rattle.reduction.proofs.ReductionLaws.{first_within}
 use Rattle.lists.proofs.Without.{without_length}

@@ -1,4 +1,5 @@
 -- What is left still fails alike, and no earlier element can be left out; and the search as it goes.
+use Rattle.std.specs.Prelude.{◌==◌}
 use Prim.Native.Nat.{ℕ, zero, suc, ◌+◌, ◌-◌, ◌≤◌, ◌<◌}
 use mathlib.Core.Path.{◌≡◌, refl, sym, ap, ◌∙◌}
 use mathlib.Core.Logic.{◌≢◌}
@@ -7,7 +8,7 @@ use mathlib.Core.List.{List, [], ◌∷◌}
 use native.Mathlib.Omega.{arith}
 use lib.ListN.{length}
 use borrow.Author.Tests.{eqb-true, eqb-false, eq-eqb, ne_eqb}
-use Rattle.lists.specs.Choice.{◌⇒◌else◌, ◌==◌}
+use Rattle.lists.specs.Choice.{◌⇒◌else◌}
 use Rattle.lists.proofs.Picks.{same, differ, same?}
 use Rattle.lists.proofs.Without.{without_length}
 use Rattle.reduction.specs.Reduction.{Subsequence, none, kept, dropped, final_of, Reduced, first_loose, reduced_from, reduced, Least}
@@ -157,7 +158,7 @@ module _ {A : Type 0} where
 
   sub_trans : {xs ys zs : List A} → Subsequence xs ys → Subsequence ys zs → Subsequence xs zs
   sub_trans none none = none
-  sub_trans (kept h) (kept k) = kept (sub_trans h k)
+  sub_trans (kept {xs = as'} h) (kept k) = kept (sub_trans {xs = as'} h k)
   sub_trans (dropped h) (kept k) = dropped (sub_trans h k)
   sub_trans h (dropped k) = dropped (sub_trans h k)
 

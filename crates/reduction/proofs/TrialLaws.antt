@@ -1,4 +1,5 @@
 -- A list that is tried: call by call, its beginning, and what the search and the writing make of the numbers kept.
+use Rattle.std.specs.Prelude.{◌==◌}
 use Prim.Native.Nat.{ℕ, suc, ◌+◌, ◌-◌, ◌*◌, ◌/◌, ◌^◌, ◌≤◌, ◌<◌}
 use mathlib.Core.Path.{◌≡◌, refl, sym, ap, subst, ◌∙◌}
 use mathlib.Core.Bool.{Bool, true, false}
@@ -9,7 +10,7 @@ use borrow.Author.Tests.{lt-ltb, ltb-true, ltb-false, eqb-true, eqb-false}
 use lib.Dec.{ltb}
 use lib.ListN.{length, get_or, take, drop, length-drop, length-map}
 use lib.Seq.{take-suc, take_at, length-take-le, sets, get_or-take, get_or-drop}
-use Rattle.lists.specs.Choice.{◌⇒◌else◌, ◌==◌}
+use Rattle.lists.specs.Choice.{◌⇒◌else◌}
 use Rattle.lists.specs.Lists.{overwritten, concat_map, without}
 use Rattle.lists.proofs.Stores.{over_sets}
 use Rattle.graph.specs.WellFormed.{Bounds, Within}

@@ -1,6 +1,6 @@
 -- The reduction of a list: its refusals, its result, and the lent list after it.
-use Rattle.std.specs.Prelude.{ℕ, ◌*◌, ◌/◌, ◌≤◌, ◌≡◌, ◌≢◌, Bool, ◌||◌, List, [], ◌∷◌, ltb, length, take}
-use Rattle.lists.specs.Choice.{◌⇒◌else◌, ◌==◌}
+use Rattle.std.specs.Prelude.{ℕ, ◌*◌, ◌/◌, ◌≤◌, ◌≡◌, ◌≢◌, Bool, ◌||◌, List, [], ◌∷◌, ltb, length, take, ◌==◌}
+use Rattle.lists.specs.Choice.{◌⇒◌else◌}
 use Rattle.lists.specs.Lists.{overwritten, concat_map}
 use Rattle.lists.specs.Slices.{Slice}
 use Rattle.image.specs.Image.{load}

@@ -1,8 +1,6 @@
 -- A list that is tried: the calls of some numbers, one of them left out, and the code of its last call.
 use Rattle.std.specs.Prelude.{ℕ, ◌+◌, ◌/◌, ◌≤◌, ◌<◌, ◌≡◌, true, List, [], ◌∷◌, map, ltb, length, get_or, take}
-use Rattle.std.specs.Borrow.{Bor}
 use Rattle.lists.specs.Choice.{◌⇒◌else◌}
-use Rattle.lists.specs.Slices.{Slice}
 use Rattle.graph.specs.Graph.{Graph}
 use Rattle.history.specs.Machine.{fresh}
 use Rattle.image.specs.Image.{loadable}
@@ -59,12 +57,6 @@ pub record Ready (w : Parameters) (start vertices edges journal closed : List �
 
 -- ---- for contracts
 
-abbrev pub CanTry : Bor (List ℕ) → Bor (List ℕ) → Bor (List ℕ) → Bor (List ℕ) → Bor (List ℕ) → ℕ → Type 0
+abbrev pub CanTry : List ℕ → List ℕ → List ℕ → List ℕ → List ℕ → ℕ → Type 0
 CanTry start vertices edges journal closed types =
-    (w : Parameters) × Ready w start.now vertices.now edges.now journal.now closed.now types
-
--- as a function begins
-abbrev pub ReadyAt : Parameters → Slice → Slice → Slice → Slice → Slice → ℕ → Type 0
-ReadyAt w start vertices edges journal closed types =
-    Ready w start.entry.now vertices.entry.now edges.entry.now journal.entry.now
-    closed.entry.now types
+    (w : Parameters) × Ready w start vertices edges journal closed types

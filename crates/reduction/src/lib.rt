@@ -1,5 +1,7 @@
 // Lists made small: of a list that ends with a refused call, earlier calls are left out as long as that call keeps its
 // code.
+#![tactic(auto)]
+
 ghost use Rattle.std.specs.Prelude.{◌≡◌, true, false, [], ◌∷◌, ◌++◌, ◌+◌, ◌-◌, ◌*◌, ◌/◌, ◌≤◌, ◌<◌, length, get_or, take, drop};
 ghost use Rattle.std.proofs.lemmas.List.Edits.{sets};
 ghost use Rattle.lists.specs.Lists.{overwritten, range, concat_map, without};
@@ -8,30 +10,13 @@ ghost use Rattle.image.specs.Image.{load};
 ghost use Rattle.machine.specs.Calls.{Parameters};
 ghost use Rattle.machine.specs.Machine.{answers as answers_of};
 ghost use Rattle.machine.specs.Run.{list_refusal};
-ghost use Rattle.history_calls.specs.Memory.{entry};
+ghost use Rattle.history_calls.specs.Memory.{memory};
 ghost use Rattle.engine.specs.Running.{Running, Runs};
-ghost use Rattle.engine.specs.Outcomes.{lent, given};
+ghost use Rattle.engine.specs.Outcomes.{lent};
 ghost use Rattle.reduction.specs.Reduction.{reduced as reduced_of};
-ghost use Rattle.reduction.specs.Trials.{
-  last_of,
-  last_code,
-  calls_at,
-  tried,
-  place_of,
-  Tries,
-  Numbered,
-  CanTry,
-  ReadyAt,
-};
-ghost use Rattle.reduction.specs.Outcomes.{
-  words_of,
-  too_long,
-  after_reduction,
-  reduction,
-  Untouched,
-  IsLeast,
-  Searched,
-};
+ghost use Rattle.reduction.specs.Trials.{last_of, last_code, calls_at, tried, place_of, Tries, Numbered, CanTry, Ready};
+ghost use Rattle.reduction.specs.Outcomes.{words_of, too_long, after_reduction, reduction, Untouched, IsLeast, Searched};
+ghost use Rattle.lists.specs.Slices.{slice};
 
 use engine::begin::begin;
 use engine::calls::one;
@@ -41,7 +26,7 @@ use type_rows::closure;
 
 // The code, the calls kept, the runs made. Of a refused list `kept` is the number beside its code.
 #[repr(C)]
-#[derive(Drop)]
+#[derive(Clone, Copy)]
 pub struct Reduction {
     pub code: u32,
     pub kept: usize,
@@ -49,7 +34,7 @@ pub struct Reduction {
 }
 
 // The calls that are still kept, and the one that is tried next.
-#[derive(Drop)]
+#[derive(Clone, Copy)]
 pub struct Trying {
     pub count: usize,
     pub at: usize,
@@ -92,10 +77,10 @@ fn last_code(
     skip: usize,
     n: usize,
 ) -> u32
-    requires runs { Runs store vertices edges journal marks closed types }
+    requires runs { Runs store vertices.old edges.old journal.old marks.old closed.now types }
     requires tries { Tries calls.now kept.now skip n }
     ensures { (w : Parameters) → (m : Machine)
-        → Running w store (entry vertices edges journal marks) closed.now types m
+        → Running w store (memory vertices.old edges.old journal.old marks.old) closed.now types m
         → result ≡ last_of 0 (answers_of w m (calls_at calls.now (tried kept.now skip n))) }
 {
     let mut y = store;
@@ -134,9 +119,9 @@ fn trial(
     skip: usize,
     n: usize,
 ) -> u32
-    requires can_try { CanTry start vertices edges journal closed types }
+    requires can_try { CanTry start.now vertices.old edges.old journal.old closed.now types }
     requires tries { Tries calls.now kept.now skip n }
-    ensures { (w : Parameters) → ReadyAt w start vertices edges journal closed types
+    ensures { (w : Parameters) → Ready w start.now vertices.old edges.old journal.old closed.now types
         → result ≡ last_code w (load start.now)
         (calls_at calls.now (tried kept.now skip n)) }
 {
@@ -194,9 +179,9 @@ fn search(
     wanted: u32,
     n: usize,
 ) -> Reduction
-    requires can_try { CanTry start vertices edges journal closed types }
+    requires can_try { CanTry start.now vertices.old edges.old journal.old closed.now types }
     requires numbered { Numbered calls.now kept.old n }
-    ensures { (w : Parameters) → ReadyAt w start vertices edges journal closed types
+    ensures { (w : Parameters) → Ready w start.now vertices.old edges.old journal.old closed.now types
         → wanted ≡ last_code w (load start.now) (calls_at calls.now (take n kept.old))
         → Searched calls.now kept.new n result (reduced_of (last_code w (load start.now))
         (calls_at calls.now (take n kept.old))) }
@@ -271,7 +256,7 @@ fn reduced(
     requires list_value { too_long (lent start.now rows.now calls.now
         vertices.old edges.old journal.old answers.old image.now) (length list.old) ≡ false }
     ensures { after_reduction result list.new
-        ≡ reduction (given start rows calls vertices edges journal answers image) list.old }
+        ≡ reduction (lent start.now rows.now calls.now vertices.old edges.old journal.old answers.old image.now) list.old }
 {
     let closed = closure(rows);
     let types = rows.len() as u32;
@@ -308,9 +293,9 @@ pub fn reduce(
     list: &mut [u32],
 ) -> Reduction
     ensures list_after { after_reduction result list.new
-        ≡ reduction (given start rows calls vertices edges journal answers image) list.old }
-    ensures untouched { Untouched result vertices edges journal answers }
-    ensures least { IsLeast (given start rows calls vertices edges journal answers image) result list.new }
+        ≡ reduction (lent start.now rows.now calls.now vertices.old edges.old journal.old answers.old image.now) list.old }
+    ensures untouched { Untouched result (slice vertices.old vertices.new) (slice edges.old edges.new) (slice journal.old journal.new) (slice answers.old answers.new) }
+    ensures least { IsLeast (lent start.now rows.now calls.now vertices.old edges.old journal.old answers.old image.now) result list.new }
 {
     let refused = refusal(
         start,

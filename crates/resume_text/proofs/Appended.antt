@@ -1,4 +1,5 @@
 -- Texts one behind the other: two lists of calls are read as one, and the line of an image with calls behind it as both.
+use Rattle.std.specs.Prelude.{◌==◌}
 use Prim.Native.Nat.{ℕ, ◌+◌, ◌^◌, ◌≤◌, ◌<◌}
 use mathlib.Core.Path.{◌≡◌, refl, sym, ap, ◌∙◌}
 use mathlib.Core.Bool.{true, not, ◌&&◌, ◌||◌}
@@ -7,7 +8,6 @@ use native.Mathlib.Omega.{arith}
 use lib.ListN.{length, length-append}
 use lib.Seq.{take_at, drop_at}
 use borrow.Author.Tests.{leb-true, ltb-true, ne_eqb}
-use Rattle.lists.specs.Choice.{◌==◌}
 use Rattle.lists.specs.Lists.{all, concat_map, All, done, more}
 use Rattle.lists.proofs.Bools.{ft, and_true}
 use Rattle.lists.proofs.Sums.{all_append, all_bool}

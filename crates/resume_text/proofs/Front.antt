@@ -1,4 +1,5 @@
 -- Bytes behind the first 460,001 change nothing, so a program that reads so many reads enough.
+use Rattle.std.specs.Prelude.{◌==◌}
 use Prim.Native.Nat.{ℕ, zero, suc, ◌≤◌, ◌<◌}
 use mathlib.Core.Path.{◌≡◌, refl, sym, ap, ◌∙◌}
 use mathlib.Core.Bool.{Bool, true, false}
@@ -8,7 +9,7 @@ use lib.ListN.{length, take, length-drop}
 use lib.Dec.{ltb}
 use lib.Seq.{length-take-le, take_all, take-take}
 use borrow.Author.Tests.{ltb-true, ltb-false}
-use Rattle.lists.specs.Choice.{◌⇒◌else◌, ◌==◌}
+use Rattle.lists.specs.Choice.{◌⇒◌else◌}
 use Rattle.text.specs.Reading.{unreadable, read_text}
 use Rattle.text.specs.ImageLine.{ImageLine, read_image}
 use Rattle.text.proofs.Verdicts.{long}

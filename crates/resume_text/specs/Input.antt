@@ -1,6 +1,6 @@
 -- chartresume's input: the line of an image, and lines of calls behind it (REFERENCE 11.8, 11.9).
-use Rattle.std.specs.Prelude.{ℕ, suc, ◌+◌, List, [], ◌∷◌, length, take, drop}
-use Rattle.lists.specs.Choice.{◌⇒◌else◌, ◌==◌}
+use Rattle.std.specs.Prelude.{ℕ, suc, ◌+◌, List, [], ◌∷◌, length, take, drop, ◌==◌}
+use Rattle.lists.specs.Choice.{◌⇒◌else◌}
 use Rattle.text.specs.Reading.{Verdict, calls, unreadable, read_text, call_words}
 use Rattle.text.specs.ImageLine.{ImageLine, image, other, read_image}
 use Rattle.resume_text.specs.declared.InputVerdict.{InputVerdict}

@@ -1,4 +1,6 @@
 // chartresume's input: the line of an image and the lines of calls behind it, from bytes to words.
+#![tactic(auto)]
+
 ghost use Rattle.std.specs.Prelude.{◌≡◌, ◌≤◌, length};
 ghost use Rattle.lists.specs.Lists.{overwritten};
 ghost use Rattle.text.specs.Reading.{read_text, call_words};
@@ -9,7 +11,7 @@ ghost use Rattle.resume_text.specs.Input.{calls_in, input_verdict, read_input};
 use text::{LineVerdict, ReadVerdict, read, read_image};
 
 // What the bytes are: so many words of an image and of calls, or unreadable and the number that is printed after it.
-#[derive(Drop)]
+#[derive(Clone, Copy)]
 pub enum InputVerdict {
     Saved(usize, usize),
     Unreadable(u32),

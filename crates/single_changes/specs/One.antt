@@ -1,6 +1,6 @@
 -- A change of one edit: what it asks of the tables, its code, its cost, and the words that it leaves.
-use Rattle.std.specs.Prelude.{ℕ, ◌≡◌}
-use Rattle.lists.specs.Choice.{◌==◌, ◌⇒◌else◌}
+use Rattle.std.specs.Prelude.{ℕ, ◌≡◌, ◌==◌}
+use Rattle.lists.specs.Choice.{◌⇒◌else◌}
 use Rattle.graph.specs.declared.SingleChange.{SingleChange}
 use Rattle.graph.specs.declared.SingleChange.TheVariants.{
   CreateVertex,

@@ -2,7 +2,7 @@
 // tried. A caller has tables that hold a graph, and room for the row where `free` is not 0; the words of the call may
 // be any.
 ghost use Rattle.std.specs.Prelude.{◌≡◌, ◌+◌, ◌*◌, ◌≤◌, length};
-ghost use Rattle.graph_tables.specs.Tables.{state, entry_state, exit_state};
+ghost use Rattle.graph_tables.specs.Tables.{state};
 ghost use Rattle.single_changes.specs.One.{HoldsGraph, One, Untyped};
 ghost use Rattle.tried_edits.specs.Tried.{attempt, outcome};
 
@@ -30,7 +30,7 @@ pub fn create_vertex(
     requires { HoldsGraph (state head vertices.old edges.now)
         × ((free ≡ 0 → ⊥) → 12 * row + 12 ≤ length journal.old) }
     ensures { One (SingleChange.CreateVertex n sort value) types
-        (attempt row free (entry_state head vertices edges) journal.old)
+        (attempt row free (state head vertices.old edges.now) journal.old)
         (outcome result.code result.cost (state result.head vertices.new edges.now)
         journal.new) }
 {
@@ -59,8 +59,8 @@ pub fn create_edge(
     requires { HoldsGraph (state head vertices.old edges.old)
         × ((free ≡ 0 → ⊥) → 12 * row + 12 ≤ length journal.old) }
     ensures { One (SingleChange.CreateEdge n a z sort) types
-        (attempt row free (entry_state head vertices edges) journal.old)
-        (outcome result.code result.cost (exit_state result.head vertices edges) journal.new) }
+        (attempt row free (state head vertices.old edges.old) journal.old)
+        (outcome result.code result.cost (state result.head vertices.new edges.new) journal.new) }
 {
     let c = change_codes::create_edge(vertices, edges, types, n, a, z, sort);
     if c != 0 {
@@ -88,8 +88,8 @@ pub fn delete_edge(
     requires { HoldsGraph (state head vertices.old edges.old)
         × ((free ≡ 0 → ⊥) → 12 * row + 12 ≤ length journal.old) }
     ensures { Untyped (SingleChange.DeleteEdge n)
-        (attempt row free (entry_state head vertices edges) journal.old)
-        (outcome result.code result.cost (exit_state result.head vertices edges) journal.new) }
+        (attempt row free (state head vertices.old edges.old) journal.old)
+        (outcome result.code result.cost (state result.head vertices.new edges.new) journal.new) }
 {
     let c = change_codes::edge_code(edges, n);
     if c != 0 {
@@ -114,7 +114,7 @@ pub fn retype_vertex(
     requires { HoldsGraph (state head vertices.old edges.now)
         × ((free ≡ 0 → ⊥) → 12 * row + 12 ≤ length journal.old) }
     ensures { One (SingleChange.RetypeVertex a sort2) types
-        (attempt row free (entry_state head vertices edges) journal.old)
+        (attempt row free (state head vertices.old edges.now) journal.old)
         (outcome result.code result.cost (state result.head vertices.new edges.now)
         journal.new) }
 {
@@ -142,7 +142,7 @@ pub fn retype_edge(
     requires { HoldsGraph (state head vertices.now edges.old)
         × ((free ≡ 0 → ⊥) → 12 * row + 12 ≤ length journal.old) }
     ensures { One (SingleChange.RetypeEdge a sort2) types
-        (attempt row free (entry_state head vertices edges) journal.old)
+        (attempt row free (state head vertices.now edges.old) journal.old)
         (outcome result.code result.cost (state result.head vertices.now edges.new)
         journal.new) }
 {
@@ -182,7 +182,7 @@ pub fn set_value(
     requires { HoldsGraph (state head vertices.old edges.now)
         × ((free ≡ 0 → ⊥) → 12 * row + 12 ≤ length journal.old) }
     ensures { Untyped (SingleChange.SetValue a value2)
-        (attempt row free (entry_state head vertices edges) journal.old)
+        (attempt row free (state head vertices.old edges.now) journal.old)
         (outcome result.code result.cost (state result.head vertices.new edges.now)
         journal.new) }
 {
@@ -212,7 +212,7 @@ pub fn set_reading(
     requires { HoldsGraph (state head vertices.now edges.old)
         × ((free ≡ 0 → ⊥) → 12 * row + 12 ≤ length journal.old) }
     ensures { Untyped (SingleChange.SetReading a kind2 decimetres2)
-        (attempt row free (entry_state head vertices edges) journal.old)
+        (attempt row free (state head vertices.now edges.old) journal.old)
         (outcome result.code result.cost (state result.head vertices.now edges.new)
         journal.new) }
 {

@@ -1,6 +1,8 @@
 // The changes of one edit: codes, row and tables in one go, by one choice of the kind.
+#![tactic(auto)]
+
 ghost use Rattle.std.specs.Prelude.{◌≡◌, ◌+◌, ◌*◌, ◌≤◌, length};
-ghost use Rattle.graph_tables.specs.Tables.{state, entry_state, exit_state};
+ghost use Rattle.graph_tables.specs.Tables.{state};
 ghost use Rattle.single_changes.specs.One.{HoldsGraph, One};
 ghost use Rattle.tried_edits.specs.Tried.{attempt, outcome};
 
@@ -25,8 +27,8 @@ pub fn make(
     requires { HoldsGraph (state head vertices.old edges.old)
         × ((free ≡ 0 → ⊥) → 12 * row + 12 ≤ length journal.old) }
     ensures { One change types
-        (attempt row free (entry_state head vertices edges) journal.old)
-        (outcome result.code result.cost (exit_state result.head vertices edges) journal.new) }
+        (attempt row free (state head vertices.old edges.old) journal.old)
+        (outcome result.code result.cost (state result.head vertices.new edges.new) journal.new) }
 {
     match change {
         SingleChange::CreateVertex(n, sort, value) => kinds::create_vertex(

@@ -2,17 +2,7 @@
 // Pairs that differ in a side stay apart: a function of this size with two callers is not compiled into them, and the
 // head then goes through memory for every kind; `word_last` is small enough.
 ghost use Rattle.std.specs.Prelude.{◌≡◌, ◌+◌, ◌*◌, ◌≤◌, length};
-ghost use Rattle.graph_tables.specs.Tables.{
-  state,
-  VertexRowIn,
-  HalfRowIn,
-  CanMoveWord,
-  vlast,
-  wprev,
-  wthis,
-  entry_state,
-  exit_state,
-};
+ghost use Rattle.graph_tables.specs.Tables.{state, VertexRowIn, HalfRowIn, CanMoveWord, vlast, wprev, wthis};
 ghost use Rattle.tried_edits.specs.Plans.{plan_word_last, unless};
 ghost use Rattle.single_changes.specs.One.{HoldsGraph, Untyped};
 ghost use Rattle.tried_edits.specs.Tried.{attempt, outcome, Tries};
@@ -39,8 +29,8 @@ fn word_last(
         × CanMoveWord w (wthis edges.old w) u (unless w (wprev edges.old w) (vlast vertices.old u))
         (state head vertices.old edges.old) × ((free ≡ 0 → ⊥) → 12 * row + 12 ≤ length journal.old) }
     ensures { Tries (plan_word_last vertices.old edges.old w u)
-        (attempt row free (entry_state head vertices edges) journal.old)
-        (outcome result.code result.cost (exit_state result.head vertices edges) journal.new) }
+        (attempt row free (state head vertices.old edges.old) journal.old)
+        (outcome result.code result.cost (state result.head vertices.new edges.new) journal.new) }
 {
     let v = half_field(edges, w, HALF_THIS);
     let p = half_field(edges, w, HALF_PREV);
@@ -63,8 +53,8 @@ pub fn set_alpha(
     requires { HoldsGraph (state head vertices.old edges.old)
         × ((free ≡ 0 → ⊥) → 12 * row + 12 ≤ length journal.old) }
     ensures { Untyped (SingleChange.SetAlpha a u)
-        (attempt row free (entry_state head vertices edges) journal.old)
-        (outcome result.code result.cost (exit_state result.head vertices edges) journal.new) }
+        (attempt row free (state head vertices.old edges.old) journal.old)
+        (outcome result.code result.cost (state result.head vertices.new edges.new) journal.new) }
 {
     let c = change_codes::set_end(vertices, edges, a, u);
     if c != 0 {
@@ -87,8 +77,8 @@ pub fn set_omega(
     requires { HoldsGraph (state head vertices.old edges.old)
         × ((free ≡ 0 → ⊥) → 12 * row + 12 ≤ length journal.old) }
     ensures { Untyped (SingleChange.SetOmega a u)
-        (attempt row free (entry_state head vertices edges) journal.old)
-        (outcome result.code result.cost (exit_state result.head vertices edges) journal.new) }
+        (attempt row free (state head vertices.old edges.old) journal.old)
+        (outcome result.code result.cost (state result.head vertices.new edges.new) journal.new) }
 {
     let c = change_codes::set_end(vertices, edges, a, u);
     if c != 0 {
@@ -111,7 +101,7 @@ pub fn vertex_before(
     requires { HoldsGraph (state head vertices.old edges.now)
         × ((free ≡ 0 → ⊥) → 12 * row + 12 ≤ length journal.old) }
     ensures { Untyped (SingleChange.VertexBefore a b)
-        (attempt row free (entry_state head vertices edges) journal.old)
+        (attempt row free (state head vertices.old edges.now) journal.old)
         (outcome result.code result.cost (state result.head vertices.new edges.now)
         journal.new) }
 {
@@ -139,7 +129,7 @@ pub fn vertex_after(
     requires { HoldsGraph (state head vertices.old edges.now)
         × ((free ≡ 0 → ⊥) → 12 * row + 12 ≤ length journal.old) }
     ensures { Untyped (SingleChange.VertexAfter a b)
-        (attempt row free (entry_state head vertices edges) journal.old)
+        (attempt row free (state head vertices.old edges.now) journal.old)
         (outcome result.code result.cost (state result.head vertices.new edges.now)
         journal.new) }
 {
@@ -165,7 +155,7 @@ pub fn edge_before(
     requires { HoldsGraph (state head vertices.now edges.old)
         × ((free ≡ 0 → ⊥) → 12 * row + 12 ≤ length journal.old) }
     ensures { Untyped (SingleChange.EdgeBefore a b)
-        (attempt row free (entry_state head vertices edges) journal.old)
+        (attempt row free (state head vertices.now edges.old) journal.old)
         (outcome result.code result.cost (state result.head vertices.now edges.new)
         journal.new) }
 {
@@ -193,7 +183,7 @@ pub fn edge_after(
     requires { HoldsGraph (state head vertices.now edges.old)
         × ((free ≡ 0 → ⊥) → 12 * row + 12 ≤ length journal.old) }
     ensures { Untyped (SingleChange.EdgeAfter a b)
-        (attempt row free (entry_state head vertices edges) journal.old)
+        (attempt row free (state head vertices.now edges.old) journal.old)
         (outcome result.code result.cost (state result.head vertices.now edges.new)
         journal.new) }
 {
@@ -219,8 +209,8 @@ pub fn word_before(
     requires { HoldsGraph (state head vertices.old edges.old)
         × ((free ≡ 0 → ⊥) → 12 * row + 12 ≤ length journal.old) }
     ensures { Untyped (SingleChange.WordBefore a b)
-        (attempt row free (entry_state head vertices edges) journal.old)
-        (outcome result.code result.cost (exit_state result.head vertices edges) journal.new) }
+        (attempt row free (state head vertices.old edges.old) journal.old)
+        (outcome result.code result.cost (state result.head vertices.new edges.new) journal.new) }
 {
     let c = change_codes::order_words(edges, a, b);
     if c != 0 {
@@ -247,8 +237,8 @@ pub fn word_after(
     requires { HoldsGraph (state head vertices.old edges.old)
         × ((free ≡ 0 → ⊥) → 12 * row + 12 ≤ length journal.old) }
     ensures { Untyped (SingleChange.WordAfter a b)
-        (attempt row free (entry_state head vertices edges) journal.old)
-        (outcome result.code result.cost (exit_state result.head vertices edges) journal.new) }
+        (attempt row free (state head vertices.old edges.old) journal.old)
+        (outcome result.code result.cost (state result.head vertices.new edges.new) journal.new) }
 {
     let c = change_codes::order_words(edges, a, b);
     if c != 0 {

@@ -1,12 +1,12 @@
 -- Calls of six words: the k-th, some of them in a row, and the words that their answers write over a slice.
 use Prim.Native.Nat.{ℕ, zero, suc, ◌+◌, ◌-◌, ◌*◌, ◌/◌, ◌≤◌, ◌<◌}
-use mathlib.Core.Path.{◌≡◌, refl, sym, ap, ◌∙◌, subst}
-use mathlib.Core.List.{List, [], ◌∷◌, ◌++◌, map}
+use mathlib.Core.Path.{◌≡◌, refl, sym, ap, ◌∙◌}
+use mathlib.Core.List.{List, [], ◌∷◌, ◌++◌}
 use native.Mathlib.Omega.{arith}
 use lib.ListN.{length, get_or, take, drop, length-append, length-drop, length-map, take-append-drop, get_or-map}
-use lib.Seq.{drop-drop, take-add, take-take, take_at, drop_at, take_all, length_front, length-take-le, get_or-take, get_or-drop}
+use lib.Seq.{drop-drop, take-add, take-take, take_at, drop_at, take_all, length_front, length-take-le, get_or-take}
 use Rattle.lists.specs.Lists.{overwritten}
-use Rattle.commands.specs.Calls.{Call, call_at}
+use Rattle.commands.specs.Calls.{call_at}
 use Rattle.commands.specs.declared.Answer.{Answer}
 use Rattle.machine.specs.Calls.{Parameters}
 use Rattle.machine.specs.Run.{answer_words}

@@ -1,15 +1,14 @@
 -- Where a call leads, read off the store and its marks; calls of one store, which is there or not.
-use Rattle.std.specs.Prelude.{ℕ, ◌+◌, ◌*◌, ◌≤◌, ◌<◌, ◌≡◌, Bool, true, not, ◌&&◌, ◌||◌, List, map, length, get_or, take}
-use Rattle.lists.specs.Choice.{◌⇒◌else◌, ◌==◌}
+use Rattle.std.specs.Prelude.{ℕ, ◌+◌, ◌*◌, ◌≤◌, ◌<◌, ◌≡◌, Bool, true, not, ◌&&◌, ◌||◌, List, map, length, get_or, take, ◌==◌}
+use Rattle.lists.specs.Choice.{◌⇒◌else◌}
 use Rattle.lists.specs.Lists.{overwritten}
-use Rattle.lists.specs.Slices.{Slice}
 use Rattle.history.specs.Machine.{Machine, name}
 use Rattle.marks.specs.Marked.{in_set, place_in}
 use Rattle.marks.specs.Named.{holder_in}
 use Rattle.commands.specs.Answers.{refuses}
 use Rattle.commands.specs.Calls.{Call}
 use Rattle.history_calls.specs.declared.Store.{Store}
-use Rattle.history_calls.specs.Memory.{Memory, entry, exit}
+use Rattle.history_calls.specs.Memory.{Memory}
 use Rattle.machine.specs.Calls.{Parameters}
 use Rattle.machine.specs.Machine.{answers, last}
 use Rattle.machine.specs.Run.{answer_words}
@@ -66,9 +65,8 @@ pub record Taken (w : Parameters) (capacity : ℕ) (m : Machine) (there : Bool) 
       map (λ (y : StoreCall). refuses 21) xs)) slice
 
 -- whatever run stood there
-abbrev pub Takes : Bool → ℕ → Store → Stretch → Slice → Slice → Slice → Slice → Slice → ℕ → Slice → Slice → Type 0
-Takes there capacity x d vertices edges journal marks closed types calls answers =
+abbrev pub Takes : Bool → ℕ → Store → Stretch → Memory → Memory → List ℕ → ℕ → List ℕ → List ℕ → List ℕ → Type 0
+Takes there capacity x d mem mem' closed types calls slice slice' =
     (w : Parameters) → (m : Machine)
-    → Running w x (entry vertices edges journal marks) closed.entry.now types m
-    → Taken w capacity m there (take d.calls (store_calls_of calls.entry.now)) d.store
-    (exit vertices edges journal marks) closed.entry.now types answers.entry.now answers.exit.now
+    → Running w x mem closed types m
+    → Taken w capacity m there (take d.calls (store_calls_of calls)) d.store mem' closed types slice slice'

@@ -1,10 +1,7 @@
 -- What the stores of a run and the parts of the lent words have to do with the K plain machines.
 use Rattle.std.specs.Prelude.{ℕ, suc, ◌-◌, ◌*◌, ◌^◌, ◌≤◌, ◌<◌, ◌≡◌, List, [], length, get_or}
-use Rattle.std.specs.Borrow.{Bor}
-use denote.Triple.Both.{Both}
 use Rattle.lists.specs.Choice.{◌⇒◌else◌, within}
 use Rattle.lists.specs.Lists.{overwritten}
-use Rattle.lists.specs.Slices.{Slice}
 use Rattle.history_calls.specs.declared.Store.{Store}
 use Rattle.history_calls.specs.Memory.{memory}
 use Rattle.history_calls.specs.Outcomes.{begun_at}
@@ -59,17 +56,14 @@ pub record Serving (w : Parameters) (z : Sizes) (all : List Store) (mem : Whole)
       (memory (part z.vertices i mem.vertices) (part z.edges i mem.edges)
       (part z.journal i mem.journal) (get_or mem.marks i [])) closed types (s.machine (suc i))
 
--- ---- for contracts: the lent slices by their names
-
-abbrev pub Places : Type 0
-Places = Bor (List (List ℕ))
+-- ---- for contracts
 
 -- some machines stand there, and so much room is left to all of them
-abbrev pub Serves : List Store → Bor (List ℕ) → Bor (List ℕ) → Bor (List ℕ) → Places → Bor (List ℕ)
+abbrev pub Serves : List Store → List ℕ → List ℕ → List ℕ → List (List ℕ) → List ℕ
     → ℕ → ℕ → ℕ → ℕ → ℕ → ℕ → Type 0
 Serves all vertices edges journal marks closed types stores room v e t =
     (w : Parameters) × (s : Stores) × (s.count ≡ stores) × (room ≡ joint_room s)
-    × Serving w (sizes v e t) all (whole vertices.now edges.now journal.now marks.now) closed.now types s
+    × Serving w (sizes v e t) all (whole vertices edges journal marks) closed types s
 
 -- after these calls, what stands is the machines', and so are the words written over the slice of answers
 pub record AfterAll (w : Parameters) (z : Sizes) (s : Stores) (xs : List StoreCall) (all : List Store) (mem : Whole)
@@ -77,13 +71,9 @@ pub record AfterAll (w : Parameters) (z : Sizes) (s : Stores) (xs : List StoreCa
   pub after : Serving w z all mem closed types (last_in w s xs)
   pub answered : slice' ≡ overwritten (answer_words (answers_in w s xs)) slice
 
-abbrev pub Served : List Store → List Store → Slice → Slice → Slice → Both Places Places → Slice → ℕ → Slice → Slice
+abbrev pub Served : List Store → List Store → Whole → Whole → List ℕ → ℕ → List ℕ → List ℕ → List ℕ
     → ℕ → ℕ → ℕ → ℕ → ℕ → Type 0
-Served first all vertices edges journal marks closed types calls answers stores room v e t =
+Served first all mem mem' closed types calls slice slice' stores room v e t =
     (w : Parameters) → (s : Stores) → s.count ≡ stores → room ≡ joint_room s
-    → Serving w (sizes v e t) first
-    (whole vertices.entry.now edges.entry.now journal.entry.now marks.entry.now)
-    closed.entry.now types s
-    → AfterAll w (sizes v e t) s (store_calls_of calls.entry.now) all
-    (whole vertices.exit.now edges.exit.now journal.exit.now marks.exit.now) closed.entry.now
-    types answers.entry.now answers.exit.now
+    → Serving w (sizes v e t) first mem closed types s
+    → AfterAll w (sizes v e t) s (store_calls_of calls) all mem' closed types slice slice'

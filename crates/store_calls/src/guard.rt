@@ -131,7 +131,7 @@ fn refuse(answers: &mut [u32], code: u32)
 }
 
 // The store after some calls, and how many.
-#[derive(Drop)]
+#[derive(Clone, Copy)]
 pub struct Stretch {
     pub store: Store,
     pub calls: usize,
@@ -153,11 +153,11 @@ pub fn answer(
     answers: &mut [u32],
     there: bool,
 ) -> Stretch
-    requires runs { Runs store vertices edges journal marks closed types × Granted capacity store journal }
+    requires runs { Runs store vertices.old edges.old journal.old marks.old closed.now types × Granted capacity store journal.old }
     requires in_bounds { 6 ≤ length calls.now }
     requires calls_in_bounds { 2 * (length calls.now / 6) ≤ length answers.old }
     ensures alike { Alike result.calls calls.now }
-    ensures takes { Takes there capacity store result vertices edges journal marks closed types calls answers }
+    ensures takes { Takes there capacity store result (memory vertices.old edges.old journal.old marks.old) (memory vertices.new edges.new journal.new marks.new) closed.now types calls.now answers.old answers.new }
 {
     if !there {
         refuse(answers, 21);

@@ -2,7 +2,7 @@
 ghost use Rattle.std.specs.Prelude.{◌≡◌, ◌+◌, ◌*◌, ◌/◌, ◌≤◌, ◌<◌, length};
 ghost use Rattle.lists.specs.Choice.{within};
 ghost use Rattle.store_calls.specs.Parts.{RestStays};
-ghost use Rattle.store_calls.specs.Serving.{Serves, Served, slot_of};
+ghost use Rattle.store_calls.specs.Serving.{Serves, Served, slot_of, whole};
 
 use crate::guard::answer;
 use history_calls::Store;
@@ -48,9 +48,9 @@ pub fn serve(
     e: usize,
     t: usize,
 ) -> [Store; 8]
-    requires serves { Serves first vertices edges journal marks closed types stores joint v e t }
+    requires serves { Serves first vertices.old edges.old journal.old marks.old closed.now types stores joint v e t }
     requires calls_in_bounds { 2 * (length calls.now / 6) ≤ length answers.old }
-    ensures served { Served first result vertices edges journal marks closed types calls answers stores joint v e t }
+    ensures served { Served first result (whole vertices.old edges.old journal.old marks.old) (whole vertices.new edges.new journal.new marks.new) closed.now types calls.now answers.old answers.new stores joint v e t }
     ensures rest_stays { RestStays stores v vertices.old vertices.new
         × RestStays stores e edges.old edges.new
         × RestStays stores t journal.old journal.new }

@@ -1,25 +1,26 @@
 -- The code of a list of several stores and the number beside it, by which test stops it; and what a list that is not
 -- refused has passed.
-use Prim.Native.Nat.{ℕ, zero, suc, ◌*◌, ◌/◌, ◌%◌, ◌≤◌}
+use Rattle.std.specs.Prelude.{◌==◌}
+use Prim.Native.Nat.{ℕ, suc, ◌*◌, ◌/◌, ◌%◌, ◌≤◌}
 use mathlib.Core.Path.{◌≡◌, refl, sym, ap, ◌∙◌}
 use mathlib.Core.Bool.{Bool, true, false, not, ◌&&◌}
 use mathlib.Core.List.{List}
 use native.Mathlib.Omega.{arith}
 use lib.Dec.{ltb}
-use lib.ListN.{length, take, drop}
+use lib.ListN.{length}
 use borrow.Author.Tests.{not-false, lt-ltb, le-ltb, ltb-false}
-use Rattle.lists.specs.Choice.{◌⇒◌else◌, ◌==◌, within}
+use Rattle.lists.specs.Choice.{◌⇒◌else◌, within}
 use Rattle.lists.specs.Lists.{all}
 use Rattle.lists.proofs.Bools.{and_true, within_range}
 use Rattle.type_rows.specs.Rows.{row_fits, good_rows}
 use Rattle.graph.specs.WellFormed.{Bounds}
 use Rattle.image.specs.Image.{image_length}
-use Rattle.image_check.specs.Checks.{bounds, verdict, code_of, load_code}
+use Rattle.image_check.specs.Checks.{bounds, code_of}
 use Rattle.image_check.specs.declared.Verdict.{Verdict}
 use Rattle.image_check.specs.declared.Verdict.TheVariants.{Sound, BadHeader, BadRecord, BadIncidence}
 use Rattle.machine.specs.Calls.{Parameters, bounds_in}
 use Rattle.machine.specs.Run.{Limits, number_beside}
-use Rattle.machine.specs.StoreRun.{LentStores, parameters_in, stated_length, starts_code, starts_offset, stores_refusal, stores_number}
+use Rattle.machine.specs.StoreRun.{LentStores, parameters_in, starts_code, starts_offset, stores_refusal, stores_number}
 use Rattle.machine.proofs.StoreStarts.{starts_verdict}
 use Rattle.engine.proofs.RefusalLaws.{Beside, stopped, gone_on}
 use Rattle.stores.specs.Refusals.{in_limits_in, lengths_in, LendsIn}

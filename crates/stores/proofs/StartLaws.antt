@@ -1,4 +1,5 @@
 -- The start images, one after another: what a loop over them has before each.
+use Rattle.std.specs.Prelude.{◌==◌}
 use Prim.Native.Nat.{ℕ, zero, suc, ◌+◌, ◌-◌, min, ◌≤◌, ◌<◌}
 use mathlib.Core.Path.{◌≡◌, refl, sym, ap, ◌∙◌}
 use mathlib.Core.Bool.{Bool, true, false, ◌||◌}
@@ -8,8 +9,8 @@ use native.Mathlib.Numerals.{add-one}
 use lib.Dec.{ltb}
 use lib.ListN.{length, take, drop, length-take, length-drop, drop_of_length-le}
 use lib.Seq.{take_all, take-length, drop-length, drop-drop, get_or-take}
-use borrow.Author.Tests.{ltb-true, ltb-false, eqb-true, eqb-false, eq-eqb, ne_eqb}
-use Rattle.lists.specs.Choice.{◌⇒◌else◌, ◌==◌}
+use borrow.Author.Tests.{ltb-true, ltb-false, eq-eqb, ne_eqb}
+use Rattle.lists.specs.Choice.{◌⇒◌else◌}
 use Rattle.graph.specs.WellFormed.{Bounds}
 use Rattle.image_check.specs.Checks.{code_of, offset_of, load_code, load_offset}
 use Rattle.image_check.specs.declared.Verdict.{Verdict}
@@ -19,7 +20,6 @@ use Rattle.stores.specs.Refusals.{number_at}
 use Rattle.image.proofs.Headers.{header_words}
 use Rattle.image_check.proofs.LoadCodes.{code_loads}
 use Rattle.image.proofs.Loads.{loaded}
-use Rattle.image.specs.Image.{loadable}
 use Rattle.machine.specs.StoreRun.{stated_length, images_from, starts_code, starts_offset, image_at}
 
 take_min : (n : ℕ) (ws : List ℕ) → take (min n (length ws)) ws ≡ take n ws

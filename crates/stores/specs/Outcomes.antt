@@ -19,7 +19,7 @@ UntouchedIn l vertices edges journal = (stores_refusal l ≡ 0 → ⊥) → Same
 
 -- of a table of K parts, each of length ÷ K words, the words behind the last part stay
 abbrev pub Remainder : ℕ → Slice → Type 0
-Remainder stores s = RestStays stores (length s.entry.now / stores) s.entry.now s.exit.now
+Remainder stores s = RestStays stores (length s.old / stores) s.old s.new
 
 abbrev pub BehindStays : ℕ → Slice → Slice → Slice → Type 0
 BehindStays stores vertices edges journal =

@@ -1,7 +1,7 @@
 -- The refusals of a list of several stores, from the words of the starts, the type rows and the lengths of all that is
 -- lent.
-use Rattle.std.specs.Prelude.{ℕ, ◌+◌, ◌*◌, ◌/◌, ◌%◌, ◌≡◌, Bool, not, ◌&&◌, List, ltb}
-use Rattle.lists.specs.Choice.{◌⇒◌else◌, ◌==◌, within}
+use Rattle.std.specs.Prelude.{ℕ, ◌+◌, ◌*◌, ◌/◌, ◌%◌, ◌≡◌, Bool, not, ◌&&◌, List, ltb, ◌==◌}
+use Rattle.lists.specs.Choice.{◌⇒◌else◌, within}
 use Rattle.graph.specs.Limits.{most_vertices, most_edges, most_changes}
 use Rattle.machine.specs.StoreRun.{LentStores, most_stores}
 use Rattle.image_check.specs.declared.Verdict.{Verdict}

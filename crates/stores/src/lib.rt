@@ -1,5 +1,7 @@
 // Several stores in one run: up to eight graphs with their histories, each in its part of the lent tables, and one
 // limit on the changes remembered by all.
+#![tactic(auto)]
+
 mod starts; // starts.rt: the start images, one after another
 mod refusals; // refusals.rt: the codes of a list
 mod opening; // opening.rt: every store before the first call

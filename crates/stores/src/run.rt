@@ -2,8 +2,9 @@
 ghost use Rattle.std.specs.Prelude.{◌≡◌};
 ghost use Rattle.machine.specs.StoreRun.{stores_refusal, accepted_in, run_in};
 ghost use Rattle.machine.specs.StoreDemands.{Demand2In};
-ghost use Rattle.engine.specs.Outcomes.{lent, run_result, given, left};
+ghost use Rattle.engine.specs.Outcomes.{lent, run_result};
 ghost use Rattle.stores.specs.Outcomes.{several, UntouchedIn, BehindStays, MeetsDemand1In, MeetsDemand3In};
+ghost use Rattle.lists.specs.Slices.{slice};
 
 use crate::opening::open_all;
 use crate::refusals::refusal;
@@ -28,8 +29,8 @@ fn accepted(
     requires { stores_refusal (several (lent start.now rows.now calls.now
         vertices.old edges.old journal.old answers.old image.old) stores limit) ≡ 0 }
     ensures image_after { run_result result answers.new image.new
-        ≡ accepted_in (several (given start rows calls vertices edges journal answers image) stores limit) }
-    ensures behind_stays { BehindStays stores vertices edges journal }
+        ≡ accepted_in (several (lent start.now rows.now calls.now vertices.old edges.old journal.old answers.old image.old) stores limit) }
+    ensures behind_stays { BehindStays stores (slice vertices.old vertices.new) (slice edges.old edges.new) (slice journal.old journal.new) }
 {
     let closed = closure(rows);
     let types = rows.len() as u32;
@@ -66,17 +67,15 @@ pub fn run(
     stores: u32,
     limit: u32,
 ) -> RunResult
-    ensures image_value { left result answers image
-        ≡ run_in (several (given start rows calls vertices edges journal answers image) stores limit) }
-    ensures untouched_in { UntouchedIn (several (given start rows calls vertices edges journal answers image) stores limit)
-        vertices edges journal }
-    ensures behind_stays { BehindStays stores vertices edges journal }
-    ensures meets_demand1in { MeetsDemand1In (several (given start rows calls vertices edges journal answers image) stores limit)
-        (left result answers image) vertices edges journal }
-    ensures demand2in { Demand2In (several (given start rows calls vertices edges journal answers image) stores limit)
-        (left result answers image) }
-    ensures meets_demand3in { MeetsDemand3In (several (given start rows calls vertices edges journal answers image) stores limit)
-        (left result answers image) }
+    ensures image_value { run_result result answers.new image.new
+        ≡ run_in (several (lent start.now rows.now calls.now vertices.old edges.old journal.old answers.old image.old) stores limit) }
+    ensures untouched_in { UntouchedIn (several (lent start.now rows.now calls.now vertices.old edges.old journal.old answers.old image.old) stores limit) (slice vertices.old vertices.new) (slice edges.old edges.new) (slice journal.old journal.new) }
+    ensures behind_stays { BehindStays stores (slice vertices.old vertices.new) (slice edges.old edges.new) (slice journal.old journal.new) }
+    ensures meets_demand1in { MeetsDemand1In (several (lent start.now rows.now calls.now vertices.old edges.old journal.old answers.old image.old) stores limit) (run_result result answers.new image.new) (slice vertices.old vertices.new) (slice edges.old edges.new) (slice journal.old journal.new) }
+    ensures demand2in { Demand2In (several (lent start.now rows.now calls.now vertices.old edges.old journal.old answers.old image.old) stores limit)
+        (run_result result answers.new image.new) }
+    ensures meets_demand3in { MeetsDemand3In (several (lent start.now rows.now calls.now vertices.old edges.old journal.old answers.old image.old) stores limit)
+        (run_result result answers.new image.new) }
 {
     let k = stores as usize;
     let refused = refusal(

@@ -1,4 +1,5 @@
 -- Which inputs are lists of calls: exactly those of lines of five good numbers, within the two limits.
+use Rattle.std.specs.Prelude.{◌==◌}
 use Prim.Native.Nat.{ℕ, ◌*◌, ◌≤◌}
 use mathlib.Core.Path.{◌≡◌, refl, sym, ap, ◌∙◌}
 use mathlib.Core.Bool.{Bool, true, false}
@@ -7,7 +8,7 @@ use native.Mathlib.Omega.{arith}
 use lib.ListN.{length}
 use lib.Dec.{ltb}
 use borrow.Author.Tests.{leb-true, ltb-false, le-ltb, eqb-true, eq-eqb, ne_eqb}
-use Rattle.lists.specs.Choice.{◌⇒◌else◌, ◌==◌}
+use Rattle.lists.specs.Choice.{◌⇒◌else◌}
 use Rattle.lists.specs.Lists.{all, All, done, more}
 use Rattle.lists.proofs.Bools.{and_true, and_both}
 use Rattle.lists.proofs.Sums.{all_bool}

@@ -1,4 +1,5 @@
 -- The line that is written for words of 32 bits is read as those words.
+use Rattle.std.specs.Prelude.{◌==◌}
 use Prim.Native.Nat.{ℕ, zero, suc, ◌+◌, ◌-◌, ◌/◌, ◌%◌, ◌^◌, ◌≤◌, ◌<◌}
 use mathlib.Core.Path.{◌≡◌, refl, sym, ap, ap₂, ◌∙◌}
 use mathlib.Core.Bool.{Bool, true, false}
@@ -9,7 +10,7 @@ use lib.ListN.{length, get_or, length-append}
 use lib.Seq.{take_at, get_or_at}
 use lib.Dec.{ltb}
 use borrow.Author.Tests.{lt-ltb, ltb-true, ltb-false, le-leb, ne_eqb}
-use Rattle.lists.specs.Choice.{◌⇒◌else◌, ◌==◌}
+use Rattle.lists.specs.Choice.{◌⇒◌else◌}
 use Rattle.lists.specs.Lists.{all, concat_map, All, done, more}
 use Rattle.lists.proofs.Bools.{and_true, and_both}
 use Rattle.decimal.specs.Decimal.{digits, value_of}
@@ -91,7 +92,7 @@ unfolding spaced
 next_pieces {p} f done = ap (pieces 32) (append-nil p) ∙ pieces_rest 32 f
 next_pieces {p} f (more {x = w} {xs = ws} h a) =
     pieces_cut 32 f (digits 10 w ++ concat_map spaced ws)
-    ∙ ap (λ (ls : List (List ℕ)). p ∷ ls) (next_pieces (no_space (digits 10 w) (written_good w h)) a)
+    ∙ ap (λ (ls : List (List ℕ)). p ∷ ls) (next_pieces {p = digits 10 w} (no_space (digits 10 w) (written_good w h)) a)
 
 pub line_pieces : {ws : List ℕ} → All Word ws → pieces 32 (concat_map spaced ws) ≡ [] ∷ map (digits 10) ws
 line_pieces a = next_pieces done a

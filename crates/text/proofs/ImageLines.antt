@@ -1,4 +1,5 @@
 -- What the code finds in the bytes is what ImageLine says of them.
+use Rattle.std.specs.Prelude.{◌==◌}
 use Prim.Native.Nat.{ℕ, suc, ◌+◌, ◌-◌, ◌≤◌, ◌<◌}
 use mathlib.Core.Path.{◌≡◌, refl, sym, ap, ◌∙◌}
 use mathlib.Core.Bool.{Bool, true, false, ◌&&◌}
@@ -8,7 +9,7 @@ use lib.ListN.{length, get_or, take, drop, drop_of_length-le, length-append, len
 use lib.Dec.{leb}
 use lib.Seq.{take-suc, take_all, get_or-drop}
 use borrow.Author.Tests.{le-leb, lt-leb, eq-eqb, ne_eqb, leb-true, leb-false, eqb-true, eqb-false}
-use Rattle.lists.specs.Choice.{◌==◌, within}
+use Rattle.lists.specs.Choice.{within}
 use Rattle.lists.specs.Lists.{all, equal_lists, overwritten}
 use Rattle.lists.proofs.Bools.{and_false}
 use Rattle.decimal.specs.Decimal.{value_of}

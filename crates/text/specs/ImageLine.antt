@@ -1,6 +1,6 @@
 -- The line of an image, read back: the word image, one space before each number, and one newline behind the last.
-use Rattle.std.specs.Prelude.{ℕ, ◌-◌, Bool, ◌&&◌, List, [], ◌∷◌, map, length, get_or, take, drop}
-use Rattle.lists.specs.Choice.{◌⇒◌else◌, ◌==◌, within}
+use Rattle.std.specs.Prelude.{ℕ, ◌-◌, Bool, ◌&&◌, List, [], ◌∷◌, map, length, get_or, take, drop, ◌==◌}
+use Rattle.lists.specs.Choice.{◌⇒◌else◌, within}
 use Rattle.lists.specs.Lists.{all, equal_lists}
 use Rattle.decimal.specs.Decimal.{value_of}
 use Rattle.text.specs.Reading.{pieces, good_number}

@@ -1,7 +1,7 @@
 -- chartrun's input: REFERENCE 11.2 and 11.3.
 -- Bytes are numbers: the newline is 10, the space 32, the digits 48 to 57.
-use Rattle.std.specs.Prelude.{ℕ, ◌+◌, ◌^◌, Bool, false, not, ◌&&◌, ◌||◌, List, [], ◌∷◌, ◌++◌, map, length, ltb}
-use Rattle.lists.specs.Choice.{◌⇒◌else◌, ◌==◌, within}
+use Rattle.std.specs.Prelude.{ℕ, ◌+◌, ◌^◌, Bool, false, not, ◌&&◌, ◌||◌, List, [], ◌∷◌, ◌++◌, map, length, ltb, ◌==◌}
+use Rattle.lists.specs.Choice.{◌⇒◌else◌, within}
 use Rattle.lists.specs.Lists.{all}
 use Rattle.decimal.specs.Decimal.{value_of}
 use Rattle.text.specs.declared.reading.ReadVerdict.{ReadVerdict}

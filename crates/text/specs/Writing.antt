@@ -1,6 +1,6 @@
 -- chartrun's output: REFERENCE 11.3 and 11.4.
-use Rattle.std.specs.Prelude.{ℕ, List, [], ◌∷◌, ◌++◌, length, ltb}
-use Rattle.lists.specs.Choice.{◌⇒◌else◌, ◌==◌}
+use Rattle.std.specs.Prelude.{ℕ, List, [], ◌∷◌, ◌++◌, length, ltb, ◌==◌}
+use Rattle.lists.specs.Choice.{◌⇒◌else◌}
 use Rattle.lists.specs.Lists.{concat_map}
 use Rattle.decimal.specs.Decimal.{digits}
 

@@ -7,7 +7,7 @@ ghost use Rattle.text.specs.ImageLine.{read_image, line_words, line_verdict, fie
 use crate::reading::{Number, digit_in, is_value, words};
 
 // What the bytes are: the line of so many words, or another text.
-#[derive(Drop)]
+#[derive(Clone, Copy)]
 pub enum LineVerdict {
     Words(usize),
     Unreadable,

@@ -1,4 +1,6 @@
 // Text of the programs: from bytes to the words of calls or of an image, and from answers and an image to bytes.
+#![tactic(auto)]
+
 mod reading; // reading.rt: calls
 mod writing; // writing.rt: answers and an image
 mod image_line; // image_line.rt: an image, read back

@@ -9,14 +9,14 @@ ghost use Rattle.text.specs.Scan.{field_ends};
 ghost use Rattle.text.specs.Scan.{number_after, word_at, words_from};
 
 // What the bytes are: so many words of calls, or unreadable and the number that is printed after it.
-#[derive(Drop)]
+#[derive(Clone, Copy)]
 pub enum ReadVerdict {
     Calls(usize),
     Unreadable(u32),
 }
 
 // What the bytes since the start of a number are: none, a number below 2 ^ 32, or no number.
-#[derive(Drop)]
+#[derive(Clone, Copy)]
 pub enum Number {
     Empty,
     Value(u32),
@@ -24,14 +24,14 @@ pub enum Number {
 }
 
 // A line so far: the numbers before its last space, and the number since.
-#[derive(Drop)]
+#[derive(Clone, Copy)]
 pub struct Line {
     pub fields: u32,
     pub number: Number,
 }
 
 // The lines so far: how many ended, the number of the first bad one or 0, and the line since.
-#[derive(Drop)]
+#[derive(Clone, Copy)]
 pub struct Lines {
     pub ended: u32,
     pub bad: u32,

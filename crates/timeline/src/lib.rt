@@ -1,15 +1,17 @@
 // The steps in the journal: undo, redo, going to a place, and steps that are added.
 // A caller has tables and journal that stand for a timeline.
+#![tactic(auto)]
+
 use graph_tables::Head;
 
 pub mod lent; // the record that every change updates, lent to thin functions
 
-ghost use Rattle.std.specs.Prelude.{◌≡◌, true, false, ◌&&◌, List, ℕ, ◌+◌, ◌-◌, ◌^◌, ◌<◌, ◌≤◌, leb, ltb, length, take, drop};
-ghost use Rattle.lists.specs.Choice.{◌==◌, to_bit};
+ghost use Rattle.std.specs.Prelude.{◌≡◌, true, false, ◌&&◌, List, ℕ, ◌+◌, ◌-◌, ◌^◌, ◌<◌, ◌≤◌, leb, ltb, length, take, drop, ◌==◌};
+ghost use Rattle.lists.specs.Choice.{to_bit};
 ghost use Rattle.graph.specs.Graph.{Graph};
 ghost use Rattle.graph.specs.WellFormed.{Bounds, Within};
 ghost use Rattle.history.specs.Machine.{Step, Timeline, begun, placed, onward, made_by};
-ghost use Rattle.graph_tables.specs.Tables.{State, state, entry_state, exit_state};
+ghost use Rattle.graph_tables.specs.Tables.{State, state};
 ghost use Rattle.graph_tables.specs.Capacities.{Sized};
 ghost use Rattle.graph_tables.specs.Holds.{Holds};
 ghost use Rattle.timeline.specs.Current.{no_steps};
@@ -17,7 +19,7 @@ ghost use Rattle.timeline.specs.JournalRows.{shifted, Reach, crossed, JournalRow
 ghost use Rattle.timeline.specs.Steps.{rows_to, Journal, Behind, Unfinished, Advances, Aims};
 
 // The place p, the number of steps m, and the rows of steps 1 to p.
-#[derive(Drop)]
+#[derive(Clone, Copy)]
 pub struct Position {
     pub place: u32,
     pub steps: u32,
@@ -25,14 +27,14 @@ pub struct Position {
 }
 
 // What every change updates: ends and counts of the graph, and the position.
-#[derive(Drop)]
+#[derive(Clone, Copy)]
 pub struct Current {
     pub position: Position,
     pub head: Head,
 }
 
 // The rows up to which the present step leads, and how many steps come after it.
-#[derive(Drop)]
+#[derive(Clone, Copy)]
 pub struct Ahead {
     pub end: u32,
     pub left: u32,
@@ -65,8 +67,8 @@ fn undo_row(head: Head, vertices: &mut [u32], edges: &mut [u32], journal: &[u32]
     requires { (b : Bounds) × (g : Graph) × (n : ℕ) × Reach true 1 u n
         × JournalRows b journal.now g n (state head vertices.old edges.old) u }
     ensures { (b : Bounds) → (g : Graph) → (n : ℕ) → Reach true 1 u n
-        → JournalRows b journal.now g n (entry_state head vertices edges) u
-        → JournalRows b journal.now g n (exit_state result vertices edges) (shifted true 1 u) }
+        → JournalRows b journal.now g n (state head vertices.old edges.old) u
+        → JournalRows b journal.now g n (state result vertices.new edges.new) (shifted true 1 u) }
 {
     let i = row_crossed(u, true);
     let e = journal::row_at(journal, i, true);
@@ -78,8 +80,8 @@ fn redo_row(head: Head, vertices: &mut [u32], edges: &mut [u32], journal: &[u32]
     requires { (b : Bounds) × (g : Graph) × (n : ℕ) × Reach false 1 u n
         × JournalRows b journal.now g n (state head vertices.old edges.old) u }
     ensures { (b : Bounds) → (g : Graph) → (n : ℕ) → Reach false 1 u n
-        → JournalRows b journal.now g n (entry_state head vertices edges) u
-        → JournalRows b journal.now g n (exit_state result vertices edges) (shifted false 1 u) }
+        → JournalRows b journal.now g n (state head vertices.old edges.old) u
+        → JournalRows b journal.now g n (state result vertices.new edges.new) (shifted false 1 u) }
 {
     let i = row_crossed(u, false);
     let e = journal::row_at(journal, i, false);
@@ -135,8 +137,8 @@ pub fn back(
     requires journal { (b : Bounds) × (l : Timeline)
         × Journal b current.position (state current.head vertices.old edges.old) journal.now l }
     ensures { (b : Bounds) → (l : Timeline)
-        → Journal b current.position (entry_state current.head vertices edges) journal.now l
-        → Journal b result.position (exit_state result.head vertices edges) journal.now
+        → Journal b current.position (state current.head vertices.old edges.old) journal.now l
+        → Journal b result.position (state result.head vertices.new edges.new) journal.now
         (placed (shifted true steps l.place) l) }
 {
     let mut h = current.head;
@@ -166,8 +168,8 @@ pub fn on(
     requires journal { (b : Bounds) × (l : Timeline)
         × Journal b current.position (state current.head vertices.old edges.old) journal.now l }
     ensures { (b : Bounds) → (l : Timeline)
-        → Journal b current.position (entry_state current.head vertices edges) journal.now l
-        → Journal b result.position (exit_state result.head vertices edges) journal.now
+        → Journal b current.position (state current.head vertices.old edges.old) journal.now l
+        → Journal b result.position (state result.head vertices.new edges.new) journal.now
         (placed (shifted false steps l.place) l) }
 {
     let mut h = current.head;

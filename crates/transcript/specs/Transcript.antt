@@ -1,6 +1,6 @@
 -- The programs chartrun and chartresume, from the bytes that they read to the bytes that they write.
-use Rattle.std.specs.Prelude.{ℕ, ◌*◌, List, [], ◌∷◌, take}
-use Rattle.lists.specs.Choice.{◌⇒◌else◌, ◌==◌}
+use Rattle.std.specs.Prelude.{ℕ, ◌*◌, List, [], ◌∷◌, take, ◌==◌}
+use Rattle.lists.specs.Choice.{◌⇒◌else◌}
 use Rattle.graph.specs.Graph.{empty}
 use Rattle.graph.specs.WellFormed.{Bounds}
 use Rattle.image.specs.Image.{save, load}

@@ -1,5 +1,7 @@
 // The programs chartrun and chartresume from bytes to bytes: the calls read, the list run from a start, the answers and
 // the image written.
+#![tactic(auto)]
+
 ghost use Rattle.std.specs.Prelude.{◌≡◌, ◌*◌, ◌%◌, ◌^◌, ◌≤◌, ◌<◌, length, take};
 ghost use Rattle.decimal.specs.Stored.{WrittenAt};
 ghost use Rattle.text.specs.Writing.{write_text};

@@ -1,11 +1,11 @@
 -- An edit that was tried: nothing written, or its row written and the edit carried out.
+use Rattle.std.specs.Prelude.{◌==◌}
 use Prim.Native.Nat.{ℕ}
 use mathlib.Core.Path.{◌≡◌, sym, ap, ◌∙◌}
 use mathlib.Core.Logic.{◌≢◌}
 use mathlib.Core.Bool.{true, false, ◌&&◌}
 use mathlib.Core.List.{List, [], ◌∷◌}
 use borrow.Author.Tests.{ne_eqb}
-use Rattle.lists.specs.Choice.{◌==◌}
 use Rattle.graph.specs.declared.Edit.{Edit}
 use Rattle.graph.specs.declared.Edit.TheVariants.{SetEdge}
 use Rattle.graph.specs.Graph.{reading_of, IsWords}

@@ -1,6 +1,6 @@
 -- An edit tried: its code, its cost, and the words that it leaves.
-use Rattle.std.specs.Prelude.{ℕ, ◌≡◌, List}
-use Rattle.lists.specs.Choice.{◌==◌, ◌⇒◌else◌}
+use Rattle.std.specs.Prelude.{ℕ, ◌≡◌, List, ◌==◌}
+use Rattle.lists.specs.Choice.{◌⇒◌else◌}
 use Rattle.graph.specs.declared.Edit.{Edit}
 use Rattle.graph.specs.Same.{idle}
 use Rattle.graph_tables.specs.Tables.{State}

@@ -1,19 +1,11 @@
 // An edit tried: 0 and nothing written where its old and its new agree, 10 where there is no room for its row, else it
 // is written down as one row, a step of cost 1, and carried out.
-ghost use Rattle.std.specs.Prelude.{◌≡◌, ◌&&◌, ◌+◌, ◌*◌, ◌^◌, ◌≤◌, ◌<◌, length};
-ghost use Rattle.lists.specs.Choice.{◌==◌};
+#![tactic(auto)]
+
+ghost use Rattle.std.specs.Prelude.{◌≡◌, ◌&&◌, ◌+◌, ◌*◌, ◌^◌, ◌≤◌, ◌<◌, length, ◌==◌};
 ghost use Rattle.linked_lists.specs.Links.{CanMove};
 ghost use Rattle.graph.specs.Graph.{reading_of, IsWords};
-ghost use Rattle.graph_tables.specs.Tables.{
-  state,
-  vertex_links,
-  edge_links,
-  vertex_list_ends,
-  edge_list_ends,
-  VertexRowIn,
-  entry_state,
-  exit_state,
-};
+ghost use Rattle.graph_tables.specs.Tables.{state, vertex_links, edge_links, vertex_list_ends, edge_list_ends, VertexRowIn};
 ghost use Rattle.graph_tables.specs.Tables.{EdgeRowIn, CanInsertVertex};
 ghost use Rattle.graph_tables.specs.Tables.{CanInsertEdge, CanRemoveEdge, CanMoveWord};
 ghost use Rattle.tried_edits.specs.Plans.{removal_of};
@@ -30,7 +22,7 @@ pub mod removal; // what the row of an edge says of its removal
 
 // What a change came to: the head after it, its code (0 where it is accepted) and its cost; 0 where it wrote nothing,
 // since it is refused or alters nothing.
-#[derive(Drop)]
+#[derive(Clone, Copy)]
 pub struct Made {
     pub head: Head,
     pub code: u32,
@@ -102,7 +94,7 @@ pub fn insert_vertex(
     requires { CanInsertVertex n p (state head vertices.old edges.now)
         × ((free ≡ 0 → ⊥) → 12 * row + 12 ≤ length journal.old) }
     ensures { Tries (Edit.InsertVertex n sort value p)
-        (attempt row free (entry_state head vertices edges) journal.old)
+        (attempt row free (state head vertices.old edges.now) journal.old)
         (outcome result.code result.cost (state result.head vertices.new edges.now)
         journal.new) }
 {
@@ -134,8 +126,8 @@ pub fn insert_edge(
         (state head vertices.old edges.old)
         × ((free ≡ 0 → ⊥) → 12 * row + 12 ≤ length journal.old) }
     ensures { Tries (Edit.InsertEdge n a z sort Reading.Untested p out into)
-        (attempt row free (entry_state head vertices edges) journal.old)
-        (outcome result.code result.cost (exit_state result.head vertices edges) journal.new) }
+        (attempt row free (state head vertices.old edges.old) journal.old)
+        (outcome result.code result.cost (state result.head vertices.new edges.new) journal.new) }
 {
     if free == 0 {
         return unchanged(head, 10);
@@ -173,8 +165,8 @@ pub fn remove_edge(
     requires { (n < 2 ^ 31) × CanRemoveEdge n w.alpha w.omega (state head vertices.old edges.old)
         × IsWords w.kind w.decimetres × ((free ≡ 0 → ⊥) → 12 * row + 12 ≤ length journal.old) }
     ensures { Tries (removal_of n w)
-        (attempt row free (entry_state head vertices edges) journal.old)
-        (outcome result.code result.cost (exit_state result.head vertices edges) journal.new) }
+        (attempt row free (state head vertices.old edges.old) journal.old)
+        (outcome result.code result.cost (state result.head vertices.new edges.new) journal.new) }
 {
     if free == 0 {
         return unchanged(head, 10);
@@ -214,7 +206,7 @@ pub fn set_vertex(
 ) -> Made
     requires { VertexRowIn vertices.old n × ((free ≡ 0 → ⊥) → 12 * row + 12 ≤ length journal.old) }
     ensures { Tries (Edit.SetVertex n sort value sort2 value2)
-        (attempt row free (entry_state head vertices edges) journal.old)
+        (attempt row free (state head vertices.old edges.now) journal.old)
         (outcome result.code result.cost (state result.head vertices.new edges.now)
         journal.new) }
 {
@@ -250,7 +242,7 @@ pub fn set_edge(
     requires { EdgeRowIn edges.old n × IsWords kind decimetres × IsWords kind2 decimetres2 × ((free ≡ 0 → ⊥)
         → 12 * row + 12 ≤ length journal.old) }
     ensures { Tries (Edit.SetEdge n sort (reading_of kind decimetres) sort2 (reading_of kind2 decimetres2))
-        (attempt row free (entry_state head vertices edges) journal.old)
+        (attempt row free (state head vertices.now edges.old) journal.old)
         (outcome result.code result.cost (state result.head vertices.now edges.new)
         journal.new) }
 {
@@ -294,7 +286,7 @@ pub fn move_vertex(
     requires { CanMove vertex_links n q vertices.old (vertex_list_ends head) × ((free ≡ 0 → ⊥)
         → 12 * row + 12 ≤ length journal.old) }
     ensures { Tries (Edit.MoveVertex n p q)
-        (attempt row free (entry_state head vertices edges) journal.old)
+        (attempt row free (state head vertices.old edges.now) journal.old)
         (outcome result.code result.cost (state result.head vertices.new edges.now)
         journal.new) }
 {
@@ -324,7 +316,7 @@ pub fn move_edge(
     requires { CanMove edge_links n q edges.old (edge_list_ends head)
         × ((free ≡ 0 → ⊥) → 12 * row + 12 ≤ length journal.old) }
     ensures { Tries (Edit.MoveEdge n p q)
-        (attempt row free (entry_state head vertices edges) journal.old)
+        (attempt row free (state head vertices.now edges.old) journal.old)
         (outcome result.code result.cost (state result.head vertices.now edges.new)
         journal.new) }
 {
@@ -356,8 +348,8 @@ pub fn move_word(
     requires { CanMoveWord w v u q (state head vertices.old edges.old)
         × ((free ≡ 0 → ⊥) → 12 * row + 12 ≤ length journal.old) }
     ensures { Tries (Edit.MoveWord w v p u q)
-        (attempt row free (entry_state head vertices edges) journal.old)
-        (outcome result.code result.cost (exit_state result.head vertices edges) journal.new) }
+        (attempt row free (state head vertices.old edges.old) journal.old)
+        (outcome result.code result.cost (state result.head vertices.new edges.new) journal.new) }
 {
     if agree(v, u, p, q) {
         return unchanged(head, 0);

@@ -1,4 +1,5 @@
 -- The words of the closure: where they start, what a chain over k adds, and what is read from them.
+use Rattle.std.specs.Prelude.{◌==◌}
 use Prim.Native.Nat.{ℕ, zero, suc, ◌+◌, ◌*◌, ◌/◌, ◌%◌, ◌^◌, ◌≤◌, ◌<◌}
 use mathlib.Core.Path.{◌≡◌, refl, sym, ap, ap₂, ◌∙◌}
 use mathlib.Core.Logic.{◌⊎◌, inl, inr}
@@ -13,7 +14,7 @@ use lib.ListN.{length, get_or, set, replicate, length-append, length-map, length
 use lib.Pow.{pow-lt}
 use lib.Seq.{ext_get_or, get_or-set_same, get_or-set_other, get_or_at}
 use borrow.Author.Tests.{lt-ltb, le-ltb, ltb-true, ltb-false, eq-eqb, ne_eqb}
-use Rattle.lists.specs.Choice.{◌⇒◌else◌, ◌==◌}
+use Rattle.lists.specs.Choice.{◌⇒◌else◌}
 use Rattle.lists.specs.Lists.{range}
 use Rattle.lists.proofs.Picks.{Same, same, differ, same?}
 use Rattle.type_rows.specs.Types.{declared, direct, below_by, below}

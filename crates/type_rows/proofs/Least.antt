@@ -1,4 +1,5 @@
 -- `below` decides the least relation of REFERENCE 1.10: `below_least`. The laws after it say what that comes to.
+use Rattle.std.specs.Prelude.{◌==◌}
 use Prim.Native.Nat.{ℕ, zero, suc, ◌<◌}
 use mathlib.Core.Path.{◌≡◌, refl, sym, subst}
 use mathlib.Core.Logic.{◌↔◌, ◌⊎◌, inl, inr}
@@ -8,7 +9,6 @@ use native.Mathlib.Omega.{arith}
 use lib.Dec.{ltb}
 use lib.ListN.{length}
 use borrow.Author.Tests.{lt-ltb, ltb-true, ltb-false, eqb-true, eq-eqb}
-use Rattle.lists.specs.Choice.{◌==◌}
 use Rattle.lists.proofs.Bools.{or_true, or_left, or_right, and_true, and_both}
 use Rattle.type_rows.specs.Types.{is_type, declared, direct, below_by, below, Below, by_row, itself, top, chain}
 

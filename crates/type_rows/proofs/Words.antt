@@ -1,4 +1,5 @@
 -- Words by their bits: how the operations on words act on `word_of`.
+use Rattle.std.specs.Prelude.{◌==◌}
 use Prim.Native.Nat.{ℕ, zero, suc, ◌+◌, ◌-◌, ◌*◌, ◌/◌, ◌%◌, ◌^◌, ◌≤◌, ◌<◌}
 use mathlib.Core.Path.{◌≡◌, refl, sym, ap, ap₂, ◌∙◌}
 use mathlib.Core.Bool.{Bool, true, false, ◌&&◌, ◌||◌}
@@ -11,7 +12,7 @@ use lib.Bits.{bit_or, or_block}
 use lib.Dec.{ltb}
 use lib.Pow.{pow_mono, high, low, field, mod-mod-pow, mod-pow-add}
 use borrow.Author.Tests.{lt-ltb, le-ltb, ltb-true, ltb-false}
-use Rattle.lists.specs.Choice.{◌==◌, to_bit}
+use Rattle.lists.specs.Choice.{to_bit}
 use Rattle.lists.specs.Lists.{range}
 use Rattle.lists.proofs.Picks.{Same, same, differ, same?}
 use Rattle.lists.proofs.Sums.{sum_append}

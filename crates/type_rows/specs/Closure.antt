@@ -1,6 +1,6 @@
 -- The relation "below" as 64 words, one for each type.
-use Rattle.std.specs.Prelude.{ℕ, ◌*◌, ◌/◌, ◌%◌, ◌^◌, Bool, false, List, [], map, length, get_or, ltb}
-use Rattle.lists.specs.Choice.{to_bit, ◌==◌, ◌⇒◌else◌}
+use Rattle.std.specs.Prelude.{ℕ, ◌*◌, ◌/◌, ◌%◌, ◌^◌, Bool, false, List, [], map, length, get_or, ltb, ◌==◌}
+use Rattle.lists.specs.Choice.{to_bit, ◌⇒◌else◌}
 use Rattle.lists.specs.Lists.{sum_of, range}
 use Rattle.type_rows.specs.Types.{below}
 use Rattle.type_rows.specs.Rows.{good_rows}

@@ -1,6 +1,5 @@
 -- Types and the relation "below": REFERENCE 1.9 to 1.11.
-use Rattle.std.specs.Prelude.{ℕ, zero, suc, ◌/◌, ◌%◌, ◌^◌, ◌<◌, Bool, true, ◌&&◌, ◌||◌, List, ◌≡◌, ltb, length, get_or}
-use Rattle.lists.specs.Choice.{◌==◌}
+use Rattle.std.specs.Prelude.{ℕ, zero, suc, ◌/◌, ◌%◌, ◌^◌, ◌<◌, Bool, true, ◌&&◌, ◌||◌, List, ◌≡◌, ltb, length, get_or, ◌==◌}
 
 -- a type is a number under n, the number of rows
 abbrev pub is_type : List ℕ → ℕ → Bool

@@ -1,13 +1,15 @@
 // The types layer: which type rows are taken, and the relation "below" between types, closed once a run.
-ghost use Rattle.std.specs.Prelude.{true, ◌≡◌, List, ℕ, ◌+◌, ◌/◌, ◌%◌, ◌^◌, ◌<◌, ◌≤◌, length};
+#![tactic(auto)]
+
+ghost use Rattle.std.specs.Prelude.{true, ◌≡◌, List, ℕ, ◌+◌, ◌/◌, ◌%◌, ◌^◌, ◌<◌, ◌≤◌, length, ◌==◌};
 ghost use Rattle.std.specs.Int.Bits.{bit_or};
-ghost use Rattle.lists.specs.Choice.{◌==◌, ◌⇒◌else◌};
+ghost use Rattle.lists.specs.Choice.{◌⇒◌else◌};
 ghost use Rattle.type_rows.specs.Types.{below, below_by};
 ghost use Rattle.type_rows.specs.Rows.{good_rows, row_fits, rows_code, code_of_rows};
 ghost use Rattle.type_rows.specs.Closure.{closure_rows, closure_words, closure_of, bit_of};
 
 // `Good` is code 0, `Bad` is code 104.
-#[derive(Drop)]
+#[derive(Clone, Copy)]
 pub enum RowsVerdict {
     Good,
     Bad,

@@ -2,13 +2,15 @@
 // Here: words of slices, with nothing past the end; the junk that lent slices are filled with; a line's first word and
 // its numbers.
 // Files below use what is private above them.
+#![tactic(auto)]
+
 mod running; // running.rt: a run, a page, a comparison or an order; running/cases.rt: the lines of the cases
 
 ghost use Rattle.std.specs.Prelude.{◌≤◌};
 
-use libc::STDIN_FILENO;
 use running::cases;
 use std::num::{wrapping_add_u64, wrapping_add_usize};
+use whole_input::read_whole;
 
 fn word(s: &[u32], i: usize) -> u32 {
     if i < s.len() {
@@ -153,7 +155,7 @@ fn leads(line: &[u8], name: &[u8]) -> bool {
 }
 
 // The numbers so far, the one under way, whether one is under way.
-#[derive(Drop)]
+#[derive(Clone, Copy)]
 struct Scan {
     count: usize,
     value: u64,
@@ -242,8 +244,8 @@ fn room() -> [u8; 100000] {
     [0; 100000]
 }
 
-fn main() {
+fn main(rt: HostRuntime) {
     let mut bytes = room();
-    let count = io::read_full(STDIN_FILENO, &mut bytes);
-    cases(between(&bytes, 0, count));
+    let count = read_whole(&mut rt.stdin(), &mut bytes);
+    cases(&rt, between(&bytes, 0, count));
 }

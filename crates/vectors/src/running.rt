@@ -7,87 +7,87 @@ use arrangement::{Arrangement, arrange_edges, arrange_vertices, arrange_words};
 pub use cases::cases;
 use comparison::compare;
 use engine::run::{RunResult, run};
-use libc::STDOUT_FILENO;
 use page::{Printed, print};
 use std::num::wrapping_add_usize;
 
-fn write_text(bytes: &[u8]) {
-    io::write_all(STDOUT_FILENO, bytes);
+// A write that fails is not told.
+fn write_text(rt: &impl Print, bytes: &[u8]) {
+    let _ = rt.write_all(bytes);
 }
 
-fn write_line(bytes: &[u8]) {
-    write_text(bytes);
-    write_text(b"\n");
+fn write_line(rt: &impl Print, bytes: &[u8]) {
+    write_text(rt, bytes);
+    write_text(rt, b"\n");
 }
 
-fn write_spaced(n: u64) {
-    write_text(b" ");
-    io::print_decimal(STDOUT_FILENO, n);
+fn write_spaced(rt: &impl Print, n: u64) {
+    write_text(rt, b" ");
+    let _ = print!(rt; "{n}");
 }
 
-fn write_words(list: &[u32]) {
+fn write_words(rt: &impl Print, list: &[u32]) {
     let mut i = 0;
     while i < list.len() {
-        write_spaced(word(list, i) as u64);
+        write_spaced(rt, word(list, i) as u64);
         i += 1;
     }
 }
 
 // A name and words.
-fn write_named(name: &[u8], list: &[u32]) {
-    write_text(name);
-    write_words(list);
-    write_text(b"\n");
+fn write_named(rt: &impl Print, name: &[u8], list: &[u32]) {
+    write_text(rt, name);
+    write_words(rt, list);
+    write_text(rt, b"\n");
 }
 
-fn write_part(which: u32, list: &[u32]) {
-    write_text(b"part");
-    write_spaced(which as u64);
-    write_named(b":", list);
+fn write_part(rt: &impl Print, which: u32, list: &[u32]) {
+    write_text(rt, b"part");
+    write_spaced(rt, which as u64);
+    write_named(rt, b":", list);
 }
 
 // The code, the calls done, the words of the end image.
-fn write_result(code: u32, done: usize, count: usize) {
-    write_text(b"result");
-    write_spaced(code as u64);
-    write_spaced(done as u64);
-    write_spaced(count as u64);
-    write_text(b"\n");
+fn write_result(rt: &impl Print, code: u32, done: usize, count: usize) {
+    write_text(rt, b"result");
+    write_spaced(rt, code as u64);
+    write_spaced(rt, done as u64);
+    write_spaced(rt, count as u64);
+    write_text(rt, b"\n");
 }
 
 // The code and the bytes of a page.
-fn write_page(code: u32, bytes: usize) {
-    write_text(b"page");
-    write_spaced(code as u64);
-    write_spaced(bytes as u64);
-    write_text(b"\n");
+fn write_page(rt: &impl Print, code: u32, bytes: usize) {
+    write_text(rt, b"page");
+    write_spaced(rt, code as u64);
+    write_spaced(rt, bytes as u64);
+    write_text(rt, b"\n");
 }
 
 // Whether what nothing was to be written to is as it was.
-fn write_kept(good: bool) {
+fn write_kept(rt: &impl Print, good: bool) {
     if good {
-        write_line(b"kept");
+        write_line(rt, b"kept");
     } else {
-        write_line(b"CHANGED");
+        write_line(rt, b"CHANGED");
     }
 }
 
 // A call's five words and the two of its answer.
-fn write_answer(call: &[u32], answer: &[u32]) {
-    write_text(b"call");
-    write_words(front(call, 5));
-    write_text(b":");
-    write_words(front(answer, 2));
-    write_text(b"\n");
+fn write_answer(rt: &impl Print, call: &[u32], answer: &[u32]) {
+    write_text(rt, b"call");
+    write_words(rt, front(call, 5));
+    write_text(rt, b":");
+    write_words(rt, front(answer, 2));
+    write_text(rt, b"\n");
 }
 
 // The first calls with their answers.
-fn write_answers(calls: &[u32], list: &[u32], done: usize) {
+fn write_answers(rt: &impl Print, calls: &[u32], list: &[u32], done: usize) {
     let mut call = 0;
     let mut at = 0;
     let mut k = 0;
     while k < done {
-        write_answer(rest(calls, call), rest(list, at));
+        write_answer(rt, rest(calls, call), rest(list, at));
         call = wrapping_add_usize(call, 5);
         at = wrapping_add_usize(at, 2);
         k += 1;
@@ -117,46 +117,46 @@ fn rows_in(r: Printed) -> usize {
 }
 
 // Code and number, the rows, and whether the bytes behind them are as they were.
-fn show_page(words: &[u32], room: usize) {
+fn show_page(rt: &impl Print, words: &[u32], room: usize) {
     let mut page = [35u8; 2000];
     let r = print_on(words, &mut page, room);
-    write_page(r.code, r.bytes);
+    write_page(rt, r.code, r.bytes);
     let rows = rows_in(r);
-    write_text(between(&page, 0, rows));
-    write_kept(bytes_kept(&page, rows));
+    write_text(rt, between(&page, 0, rows));
+    write_kept(rt, bytes_kept(&page, rows));
 }
 
 // The code and the four counts.
-fn show_comparison(first: &[u32], second: &[u32], tolerance: u32) {
+fn show_comparison(rt: &impl Print, first: &[u32], second: &[u32], tolerance: u32) {
     let r = compare(first, second, tolerance);
-    write_text(b"compare");
-    write_spaced(r.code as u64);
-    write_spaced(r.matched as u64);
-    write_spaced(r.agreeing as u64);
-    write_spaced(r.first as u64);
-    write_spaced(r.second as u64);
-    write_text(b"\n");
+    write_text(rt, b"compare");
+    write_spaced(rt, r.code as u64);
+    write_spaced(rt, r.matched as u64);
+    write_spaced(rt, r.agreeing as u64);
+    write_spaced(rt, r.first as u64);
+    write_spaced(rt, r.second as u64);
+    write_text(rt, b"\n");
 }
 
 // The code and the number of calls of an order.
-fn write_order(code: u32, calls: usize) {
-    write_text(b"arrange");
-    write_spaced(code as u64);
-    write_spaced(calls as u64);
-    write_text(b"\n");
+fn write_order(rt: &impl Print, code: u32, calls: usize) {
+    write_text(rt, b"arrange");
+    write_spaced(rt, code as u64);
+    write_spaced(rt, calls as u64);
+    write_text(rt, b"\n");
 }
 
 // The call at a place of a list.
-fn write_call(list: &[u32], at: usize) {
-    write_named(b"call", front(rest(list, at), 5));
+fn write_call(rt: &impl Print, list: &[u32], at: usize) {
+    write_named(rt, b"call", front(rest(list, at), 5));
 }
 
 // So many calls, five words each; the place behind the last.
-fn write_calls(list: &[u32], calls: usize) -> usize {
+fn write_calls(rt: &impl Print, list: &[u32], calls: usize) -> usize {
     let mut at = 0;
     let mut k = 0;
     while k < calls {
-        write_call(list, at);
+        write_call(rt, list, at);
         at = wrapping_add_usize(at, 5);
         k += 1;
     }
@@ -183,17 +183,25 @@ fn arrange_on(
 }
 
 // Code and number, the calls, and whether the words behind them are as they were.
-fn show_order(words: &[u32], kind: u32, vertex: u32, wanted: &[u32], room: usize, junk: u32) {
+fn show_order(
+    rt: &impl Print,
+    words: &[u32],
+    kind: u32,
+    vertex: u32,
+    wanted: &[u32],
+    room: usize,
+    junk: u32,
+) {
     let mut list = [0u32; 200];
     fill(&mut list, junk);
     let r = arrange_on(words, kind, vertex, wanted, &mut list, room);
-    write_order(r.code, r.calls);
-    let end = write_calls(&list, r.calls);
-    write_kept(untouched(&list, end, junk));
+    write_order(rt, r.code, r.calls);
+    let end = write_calls(rt, &list, r.calls);
+    write_kept(rt, untouched(&list, end, junk));
 }
 
 // The lengths in words of what is lent.
-#[derive(Drop)]
+#[derive(Clone, Copy)]
 pub struct Lengths {
     pub vertices: usize,
     pub edges: usize,
@@ -264,6 +272,7 @@ fn all_kept(
 
 // What the run left.
 fn report(
+    rt: &impl Print,
     r: RunResult,
     calls: &[u32],
     vertices: &[u32],
@@ -273,14 +282,14 @@ fn report(
     image: &[u32],
     junk: u32,
 ) {
-    write_result(r.code, r.done, r.words);
+    write_result(rt, r.code, r.done, r.words);
     if r.code != 0 {
-        write_kept(all_kept(vertices, edges, journal, answers, image, junk));
+        write_kept(rt, all_kept(vertices, edges, journal, answers, image, junk));
         return;
     }
-    write_answers(calls, answers, r.done);
-    write_named(b"image", front(image, r.words));
-    write_kept(behind(r, answers, image, junk));
+    write_answers(rt, calls, answers, r.done);
+    write_named(rt, b"image", front(image, r.words));
+    write_kept(rt, behind(r, answers, image, junk));
 }
 
 fn fill_all(
@@ -301,6 +310,7 @@ fn fill_all(
 // Every lent slice full of junk, the run, what it left: the words of the end image.
 // There is room for 1,001 vertices, 4,001 edges and 20,001 changes, so that each limit has a list on either side.
 fn run_lent(
+    rt: &impl Print,
     start: &[u32],
     rows: &[u64],
     calls: &[u32],
@@ -331,6 +341,8 @@ fn run_lent(
         image,
         lent,
     );
-    report(r, calls, &vertices, &edges, &journal, &answers, image, junk);
+    report(
+        rt, r, calls, &vertices, &edges, &journal, &answers, image, junk,
+    );
     r.words
 }

@@ -1,10 +1,12 @@
 // Kind 2, the deletion of a vertex: codes, rows and tables.
+#![tactic(auto)]
+
 ghost use Rattle.std.specs.Prelude.{◌≡◌, ◌+◌, ◌*◌, ◌≤◌, length};
 ghost use Rattle.graph.specs.Graph.{Graph, IsWords};
 ghost use Rattle.graph.specs.WellFormed.{Bounds};
 ghost use Rattle.graph.specs.Changes.{cost, Allowed};
 ghost use Rattle.history.specs.Machine.{Timeline, present_in};
-ghost use Rattle.graph_tables.specs.Tables.{state, VertexRowIn, EdgeRowIn, ekind, edecimetres, entry_state, exit_state};
+ghost use Rattle.graph_tables.specs.Tables.{state, VertexRowIn, EdgeRowIn, ekind, edecimetres};
 ghost use Rattle.graph_tables.specs.Edits.{Can};
 ghost use Rattle.graph_tables.specs.Holds.{Holds};
 ghost use Rattle.graph_tables.specs.Capacities.{Sized};
@@ -30,7 +32,7 @@ use tried_edits::{Made, unchanged};
 fn cost_of(head: Head, vertices: &[u32], edges: &[u32], a: u32) -> u32
     requires { (b : Bounds) × (g : Graph) × Sized b (state head vertices.now edges.now)
         × Holds (state head vertices.now edges.now) g × Allowed b g (Change.DeleteVertex a) }
-    ensures { (b : Bounds) → (g : Graph) → Holds (entry_state head vertices edges) g
+    ensures { (b : Bounds) → (g : Graph) → Holds (state head vertices.now edges.now) g
         → Allowed b g (Change.DeleteVertex a) → result ≡ cost (Change.DeleteVertex a) g }
 {
     walks::counting::count_edges(vertices, edges, a) + 1
@@ -49,8 +51,8 @@ fn remove_edge(
     requires { (12 * row + 12 ≤ length journal.old) × EdgeRowIn edges.old n
         × Can (plan_remove_edge edges.old n) (state head vertices.old edges.old)
         × IsWords (ekind edges.old n) (edecimetres edges.old n) }
-    ensures { Written (plan_remove_edge edges.old n) (costing cost) row (entry_state head vertices edges)
-        journal.old (exit_state result vertices edges) journal.new }
+    ensures { Written (plan_remove_edge edges.old n) (costing cost) row (state head vertices.old edges.old)
+        journal.old (state result vertices.new edges.new) journal.new }
 {
     let w = removed_edge(edges, n);
     put_row(
@@ -84,7 +86,7 @@ fn remove_vertex(
     requires { (12 * row + 12 ≤ length journal.old) × VertexRowIn vertices.old n
         × Can (plan_remove_vertex vertices.old n) (state head vertices.old edges.now) }
     ensures { Written (plan_remove_vertex vertices.old n) (costing cost) row
-        (entry_state head vertices edges) journal.old (state result vertices.new edges.now)
+        (state head vertices.old edges.now) journal.old (state result vertices.new edges.now)
         journal.new }
 {
     let s = vertex_field(vertices, n, VERTEX_TYPE);
@@ -107,8 +109,8 @@ fn next_row(
     requires { (12 * row + 12 ≤ length journal.old)
         × ((b : Bounds) × (g : Graph) × Sized b (state head vertices.old edges.old)
         × Holds (state head vertices.old edges.old) g × Allowed b g (Change.DeleteVertex a)) }
-    ensures { Written (next_edit (entry_state head vertices edges) a) (costing cost) row
-        (entry_state head vertices edges) journal.old (exit_state result vertices edges) journal.new }
+    ensures { Written (next_edit (state head vertices.old edges.old) a) (costing cost) row
+        (state head vertices.old edges.old) journal.old (state result vertices.new edges.new) journal.new }
 {
     let w = vertex_field(vertices, a, VERTEX_FIRST);
     if w != 0 {
@@ -131,10 +133,10 @@ fn make_rows(
         × (12 * (current.position.used + rows) ≤ length journal.old)
         × Journal b current.position (state current.head vertices.old edges.old) journal.old l }
     ensures { (b : Bounds) → (l : Timeline) → Allowed b (present_in l) (Change.DeleteVertex a)
-        → Journal b current.position (entry_state current.head vertices edges) journal.old l
+        → Journal b current.position (state current.head vertices.old edges.old) journal.old l
         → Making (Change.DeleteVertex a)
-        (step_start b current.position (entry_state current.head vertices edges) journal.old l) rows
-        (stage (exit_state result vertices edges) journal.new (current.position.used + rows)) }
+        (step_start b current.position (state current.head vertices.old edges.old) journal.old l) rows
+        (stage (state result vertices.new edges.new) journal.new (current.position.used + rows)) }
 {
     let mut h = current.head;
     let mut u = current.position.used;
@@ -162,9 +164,9 @@ pub fn delete(
     requires { (b : Bounds) × (l : Timeline)
         × Journal b current.position (state current.head vertices.old edges.old) journal.old l
         × (12 * (current.position.used + free) ≤ length journal.old) }
-    ensures { Deletes vertex free current.position (entry_state current.head vertices edges)
+    ensures { Deletes vertex free current.position (state current.head vertices.old edges.old)
         journal.old
-        (outcome result.code result.cost (exit_state result.head vertices edges) journal.new) }
+        (outcome result.code result.cost (state result.head vertices.new edges.new) journal.new) }
 {
     let found = find_vertex(vertices, vertex);
     let Lookup::Found(_) = found else {

@@ -1,4 +1,5 @@
 -- A sum over a list in which each key's share is 1: the number of distinct keys.
+use Rattle.std.specs.Prelude.{◌==◌}
 use Prim.Native.Nat.{ℕ, ◌+◌, ◌≤◌}
 use mathlib.Core.Path.{◌≡◌, refl, sym, ap, ◌∙◌}
 use mathlib.Core.Bool.{true}
@@ -6,7 +7,7 @@ use mathlib.Core.List.{List, [], ◌∷◌, map}
 use native.Mathlib.Omega.{arith}
 use lib.ListN.{length}
 use borrow.Author.Tests.{eq-eqb, ne_eqb}
-use Rattle.lists.specs.Choice.{◌==◌, if_equal, to_bit}
+use Rattle.lists.specs.Choice.{if_equal, to_bit}
 use Rattle.lists.specs.Lists.{sum_of, member, count, dedup}
 use Rattle.lists.specs.Keyed.{count_by_key}
 use Rattle.lists.proofs.Bools.{or_right}

@@ -1,10 +1,12 @@
 -- A walk along a held list, node by node, that adds f of each node.
-use Prim.Native.Nat.{ℕ, ◌+◌, ◌/◌, ◌^◌, ◌≤◌, ◌<◌}
+use Rattle.std.specs.Prelude.{◌==◌}
+use Prim.Native.Nat.{ℕ, zero, suc, ◌+◌, ◌/◌, ◌^◌, ◌≤◌, ◌<◌}
 use mathlib.Core.Path.{◌≡◌, refl, sym, ap, ◌∙◌}
-use mathlib.Core.Bool.{Bool}
+use mathlib.Core.Bool.{Bool, true, false}
 use mathlib.Core.List.{List, [], ◌∷◌}
 use native.Mathlib.Omega.{arith}
 use lib.ListN.{length, get_or}
+use Rattle.lists.specs.Choice.{◌⇒◌else◌}
 use Rattle.lists.specs.Lists.{sum_of, before}
 use Rattle.linked_lists.specs.declared.LinkLayout.{LinkLayout}
 use Rattle.linked_lists.specs.declared.Ends.{Ends}
@@ -132,6 +134,27 @@ pub record Along (f : ℕ → ℕ) (vertices edges : List ℕ) (v w n : ℕ) : T
 -- what is left of the list
 abbrev pub along_left : List ℕ → List ℕ → ℕ → ℕ → ℕ
 along_left vertices edges v w = left incidence_links edges (vertex_ends vertices v) w
+
+-- the same by the edge table alone, whose words are the links of a list's nodes, whatever its ends are
+abbrev pub rest_left : List ℕ → ℕ → ℕ
+rest_left edges w = left incidence_links edges (record { first = 0; last = 0 }) w
+
+module _ (layout : LinkLayout) (t : List ℕ) (e e' : Ends) where
+  link_any : (k : ℕ) → (k == 0) ≡ false → link_of forward layout t e k ≡ link_of forward layout t e' k
+  unfolding link_of
+  link_any k q = rw q
+
+  nodes_any : (f k : ℕ) → nodes_from (link_of forward layout t e) f k ≡ nodes_from (link_of forward layout t e') f k
+  nodes_any zero k = refl
+  nodes_any (suc f) k = go (λ j. nodes_any f j) (k == 0) refl
+    where
+      go : ((j : ℕ) → nodes_from (link_of forward layout t e) f j ≡ nodes_from (link_of forward layout t e') f j) → (b : Bool) → (k == 0) ≡ b
+          → (b ⇒ [] else (k ∷ nodes_from (link_of forward layout t e) f (link_of forward layout t e k))) ≡ (b ⇒ [] else (k ∷ nodes_from (link_of forward layout t e') f (link_of forward layout t e' k)))
+      go ih true q = refl
+      go ih false q = ap (λ (l : List ℕ). k ∷ l) (ih (link_of forward layout t e k) ∙ ap (nodes_from (link_of forward layout t e') f) (link_any k q))
+
+pub rest_along : (vertices edges : List ℕ) (v w : ℕ) → along_left vertices edges v w ≡ rest_left edges w
+rest_along vertices edges v w = ap length (nodes_any incidence_links edges (vertex_ends vertices v) (record { first = 0; last = 0 }) (length edges + incidence_links.offset) w)
 
 module _ (f : ℕ → ℕ) (vertices edges : List ℕ) (v : ℕ) where
   pub along_start : CanWalk vertices edges v → (w : ℕ) → w ≡ vfirst vertices v → Along f vertices edges v w 0

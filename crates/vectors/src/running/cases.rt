@@ -13,7 +13,7 @@ use std::num::wrapping_add_usize;
 
 // What the lines so far say: the lengths that are lent, the words of the start image, the type rows, the words of the
 // calls, the words of the last end image, the bound of the junk words, the place of the next line.
-#[derive(Drop)]
+#[derive(Clone, Copy)]
 pub struct Setting {
     pub lent: Lengths,
     pub start: usize,
@@ -103,24 +103,25 @@ fn append(s: Setting, line: &[u8], calls: &mut [u32]) -> Setting {
 }
 
 // A part of the start words.
-fn show_part(s: Setting, which: u32, start: &[u32]) -> Setting {
-    write_part(which, part(front(start, s.start), which));
+fn show_part(rt: &impl Print, s: Setting, which: u32, start: &[u32]) -> Setting {
+    write_part(rt, which, part(front(start, s.start), which));
     s
 }
 
 // The page of the start words.
-fn page_of(s: Setting, room: u32, start: &[u32]) -> Setting {
-    show_page(front(start, s.start), room as usize);
+fn page_of(rt: &impl Print, s: Setting, room: u32, start: &[u32]) -> Setting {
+    show_page(rt, front(start, s.start), room as usize);
     s
 }
 
 // The start words beside those of the line, whose first number is the tolerance.
-fn compare_with(s: Setting, line: &[u8], start: &[u32]) -> Setting {
+fn compare_with(rt: &impl Print, s: Setting, line: &[u8], start: &[u32]) -> Setting {
     let mut n = [0u64; 400];
     let count = numbers(line, &mut n);
     let mut words = [0u32; 400];
     narrow(&n, count, &mut words, 0);
     show_comparison(
+        rt,
         front(start, s.start),
         rest(front(&words, count), 1),
         word(&words, 0),
@@ -129,12 +130,13 @@ fn compare_with(s: Setting, line: &[u8], start: &[u32]) -> Setting {
 }
 
 // arrange: an order of the start words; kind, vertex, words lent for the calls, wanted words.
-fn order_of(s: Setting, line: &[u8], start: &[u32]) -> Setting {
+fn order_of(rt: &impl Print, s: Setting, line: &[u8], start: &[u32]) -> Setting {
     let mut n = [0u64; 400];
     let count = numbers(line, &mut n);
     let mut given = [0u32; 400];
     narrow(&n, count, &mut given, 0);
     show_order(
+        rt,
         front(start, s.start),
         word(&given, 0),
         word(&given, 1),
@@ -147,6 +149,7 @@ fn order_of(s: Setting, line: &[u8], start: &[u32]) -> Setting {
 
 // A line that is none of these is written as it is.
 fn set_line(
+    rt: &impl Print,
     s: Setting,
     line: &[u8],
     start: &mut [u32],
@@ -170,16 +173,16 @@ fn set_line(
         return type_rows(s, line, rows);
     }
     if leads(line, b"part") {
-        return show_part(s, first(line), start);
+        return show_part(rt, s, first(line), start);
     }
     if leads(line, b"page") {
-        return page_of(s, first(line), start);
+        return page_of(rt, s, first(line), start);
     }
     if leads(line, b"compare") {
-        return compare_with(s, line, start);
+        return compare_with(rt, s, line, start);
     }
     if leads(line, b"arrange") {
-        return order_of(s, line, start);
+        return order_of(rt, s, line, start);
     }
     if leads(line, b"tables") {
         return tables(s, line);
@@ -190,12 +193,13 @@ fn set_line(
     if leads(line, b"junk") {
         return junk(s, line);
     }
-    write_line(line);
+    write_line(rt, line);
     s
 }
 
 // run: the calls so far and those of the line.
 fn run_line(
+    rt: &impl Print,
     s: Setting,
     line: &[u8],
     start: &[u32],
@@ -206,6 +210,7 @@ fn run_line(
     let t = append(s, line, calls);
     let lent = t.lent;
     let words = run_lent(
+        rt,
         front(start, t.start),
         front_wide(rows, t.rows),
         front(calls, t.calls),
@@ -220,6 +225,7 @@ fn run_line(
 }
 
 fn one_line(
+    rt: &impl Print,
     s: Setting,
     line: &[u8],
     start: &mut [u32],
@@ -228,13 +234,14 @@ fn one_line(
     image: &mut [u32],
 ) -> Setting {
     if leads(line, b"run") {
-        return run_line(s, line, start, rows, calls, image);
+        return run_line(rt, s, line, start, rows, calls, image);
     }
-    set_line(s, line, start, rows, calls, image)
+    set_line(rt, s, line, start, rows, calls, image)
 }
 
 // The line that ends at i.
 fn line_to(
+    rt: &impl Print,
     s: Setting,
     bytes: &[u8],
     i: usize,
@@ -246,11 +253,12 @@ fn line_to(
     let line = between(bytes, s.from, i);
     let mut t = s;
     t.from = wrapping_add_usize(i, 1);
-    one_line(t, line, start, rows, calls, image)
+    one_line(rt, t, line, start, rows, calls, image)
 }
 
 // A newline ends a line. How many lines there were.
 fn lines(
+    rt: &impl Print,
     s: Setting,
     bytes: &[u8],
     start: &mut [u32],
@@ -268,14 +276,14 @@ fn lines(
         i += 1;
         if bytes[k] == 10 {
             n += 1;
-            t = line_to(t, bytes, k, start, rows, calls, image);
+            t = line_to(rt, t, bytes, k, start, rows, calls, image);
         }
     }
     n
 }
 
 // Each line in turn: how many there were.
-pub fn cases(bytes: &[u8]) -> usize
+pub fn cases(rt: &impl Print, bytes: &[u8]) -> usize
     ensures { result ≡ count 10 bytes.now }
 {
     let mut start = [0u32; 400];
@@ -297,5 +305,5 @@ pub fn cases(bytes: &[u8]) -> usize
         junk: 4294967295,
         from: 0,
     };
-    lines(s, bytes, &mut start, &mut rows, &mut calls, &mut image)
+    lines(rt, s, bytes, &mut start, &mut rows, &mut calls, &mut image)
 }

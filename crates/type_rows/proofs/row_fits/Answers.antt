@@ -1,0 +1,6 @@
+-- `type_rows::row_fits` meets its contract.
+use Rattle.type_rows.proofs.RowLaws.{shift_fits}
+use Rattle.type_rows.proofs.row_fits.Goals as goal
+
+pub returns : goal.returns
+returns c = shift_fits c.args.n c.args.row
