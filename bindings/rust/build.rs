@@ -1,5 +1,5 @@
 //! Where the archive is: FUTTOCKFIG_LIB_DIR, or lib of the prefix where tools/install put the crate, or
-//! crates/futtockfig/out of the repository, where `rt lib` writes it.
+//! crates/futtockfig/out of the repository, where `tools/built --make futtockfig` writes it.
 
 use std::env;
 use std::path::PathBuf;

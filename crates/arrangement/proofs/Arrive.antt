@@ -121,6 +121,7 @@ module _ (w : Parameters) (m : Machine) (p : InPlace m) (ws wanted list : List �
       (reach_words w m v wanted p (subst WellFormed (sym h) (good ws l.0)) (ap (λ (g : Graph). same_words wanted (list_of g v)) h ∙ a.same) room))
     where
       there : (t : Bool) → has_vertex (load ws) v ≡ t → (t ⇒ arrangement 16 (list_of (load ws) v) wanted list else refusal 4 list).code ≡ 0 →
-          ((arrangement 16 (list_of (load ws) v) wanted list).code ≡ 0) × ((t ⇒ arrangement 16 (list_of (load ws) v) wanted list else refusal 4 list) ≡ arrangement 16 (list_of (load ws) v) wanted list)
+          ((arrangement 16 (list_of (load ws) v) wanted list).code ≡ 0)
+          × ((t ⇒ arrangement 16 (list_of (load ws) v) wanted list else refusal 4 list) ≡ arrangement 16 (list_of (load ws) v) wanted list)
       there true e i = (i, refl)
       there false e i = absurd (omega arith)

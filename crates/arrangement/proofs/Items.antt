@@ -104,7 +104,8 @@ module _ (ws : List ℕ) (z : load_code saved_bounds ws ≡ 0) where
       edge_below n q = counted_all {P = λ k. k ≤ 4000} (all_keys {P = λ k. k ≤ 4000} edge_number (all_imp (λ v f. f.number) facts.1.edges)) n q
 
   edge_most : (n : ℕ) → 1 ≤ count_by_key edge_number n (load ws).eseq → n ≤ 4000
-  edge_most n q = counted_all {P = λ k. k ≤ 4000} (all_keys {P = λ k. k ≤ 4000} edge_number (all_imp (λ v f. f.number) facts.1.edges)) n (omega (arith, q, count_by_key_lem edge_number n (load ws).eseq))
+  edge_most n q = counted_all {P = λ k. k ≤ 4000} (all_keys {P = λ k. k ≤ 4000} edge_number (all_imp (λ v f. f.number) facts.1.edges)) n
+      (omega (arith, q, count_by_key_lem edge_number n (load ws).eseq))
 
   words_count : (v k : ℕ) → count k (words_at (load ws).eseq v) ≡ if_equal (this_in (load ws).eseq k) v (count_by_key edge_number (k / 2) (load ws).eseq) 0
   words_count v k = words_this k v (load ws).eseq (omega (arith, facts.0.eorder (k / 2)))
@@ -155,7 +156,8 @@ module _ (ws : List ℕ) (z : load_code saved_bounds ws ≡ 0) where
   words_missing v wanted list e = sym (rw (zero_sound (verdict saved_bounds ws) z, sym (vertex_found v) ∙ e))
 
   pub words_settled : (v : ℕ) (wanted list : List ℕ) → member v (numbers_in (record_size ws) (vertex_count ws) (part 1 ws)) ≡ true →
-      settled 16 wanted (length (words_at (edges_from (edge_count ws) (part 2 ws)) v)) (marked (words_at (edges_from (edge_count ws) (part 2 ws)) v) (replicate 8002 0)) list ≡ word_order ws v wanted list
+      settled 16 wanted (length (words_at (edges_from (edge_count ws) (part 2 ws)) v)) (marked (words_at (edges_from (edge_count ws) (part 2 ws)) v) (replicate 8002 0)) list
+      ≡ word_order ws v wanted list
   unfolding word_order
   words_settled v wanted list e =
       let items = words_at (load ws).eseq v in

@@ -41,7 +41,8 @@ module _ {A : Type 0} (key : A → ℕ) (d : A) (b a : ℕ) (ws : List ℕ) (l :
   }
 
 -- where the wanted words are the keys, each once
-pub all_wanted : {A : Type 0} (key : A → ℕ) (b : ℕ) (ws : List ℕ) (l : List A) → ((n : ℕ) → indicator 0 n + count_by_key key n l ≤ 1) → ((n : ℕ) → times n (b ∷ ws) ≡ count_by_key key n l) → Wanted key b ws l
+pub all_wanted : {A : Type 0} (key : A → ℕ) (b : ℕ) (ws : List ℕ) (l : List A) → ((n : ℕ) → indicator 0 n + count_by_key key n l ≤ 1) → ((n : ℕ) → times n (b ∷ ws) ≡ count_by_key key n l)
+    → Wanted key b ws l
 all_wanted key b ws l u c = record {
   first = omega (arith, c b, is_yes b b refl);
   apart = omega (arith, c b, u b, is_yes b b refl);

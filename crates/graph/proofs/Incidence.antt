@@ -14,19 +14,22 @@ use Rattle.graph.specs.Changes.{on_list, with_seen, detach}
 use Rattle.graph.specs.Edits.{attach, Placed}
 use Rattle.graph.proofs.Orders.{placed_back, key_find}
 
-pub list_upd : (l : List Vertex) (v u : ℕ) (h : List ℕ → List ℕ) → count_by_key vertex_number v l ≡ 1 → list_in (update_by vertex_number v (on_list h) l) u ≡ if_equal v u (h (list_in l u)) (list_in l u)
+pub list_upd : (l : List Vertex) (v u : ℕ) (h : List ℕ → List ℕ) → count_by_key vertex_number v l ≡ 1 → list_in (update_by vertex_number v (on_list h) l) u
+    ≡ if_equal v u (h (list_in l u)) (list_in l u)
 list_upd l v u h c = elim (same? v u) [
   | same e f ↦ rw (f, pick_self) (ap (λ (x : Vertex). x.incidences) (find_upd vertex_number (on_list h) (λ y. refl) no_vertex v l (omega arith)))
   | differ e f ↦ rw (pick_no v u) (ap (λ (x : Vertex). x.incidences) (find_upd_other vertex_number (on_list h) (λ y. refl) no_vertex v u l e))
 ]
 
-pub count_attach : (l : List Vertex) (v p w u k : ℕ) → count_by_key vertex_number v l ≡ 1 → count_by_key itself k (list_in (attach l v p w) u) ≡ if_equal v u (indicator w k) 0 + count_by_key itself k (list_in l u)
+pub count_attach : (l : List Vertex) (v p w u k : ℕ) → count_by_key vertex_number v l ≡ 1 → count_by_key itself k (list_in (attach l v p w) u)
+    ≡ if_equal v u (indicator w k) 0 + count_by_key itself k (list_in l u)
 count_attach l v p w u k c = ap (count_by_key itself k) (list_upd l v u (insert_after_by itself 0 p w) c) ∙ elim (same? v u) [
   | same e f ↦ simp pick_yes (count_ins itself k 0 p w (list_in l u))
   | differ e f ↦ simp pick_no (omega arith)
 ]
 
-pub count_detach : (l : List Vertex) (v w u k : ℕ) → count_by_key vertex_number v l ≡ 1 → count_by_key itself k (list_in (detach l v w) u) ≡ count_by_key itself k (list_in l u) - if_equal v u (indicator w k) 0
+pub count_detach : (l : List Vertex) (v w u k : ℕ) → count_by_key vertex_number v l ≡ 1 → count_by_key itself k (list_in (detach l v w) u)
+    ≡ count_by_key itself k (list_in l u) - if_equal v u (indicator w k) 0
 count_detach l v w u k c = ap (count_by_key itself k) (list_upd l v u (remove_by itself w) c) ∙ elim (same? v u) [
   | same e f ↦ simp pick_yes (count_rem itself k w (list_in l u))
   | differ e f ↦ simp pick_no (omega arith)
@@ -106,7 +109,8 @@ this_other l x u k c d = elim (same? (x / 2) (k / 2)) [
 pub count_list : (l : List Vertex) (v n : ℕ) (h : List ℕ → List ℕ) → count_by_key vertex_number n (update_by vertex_number v (on_list h) l) ≡ count_by_key vertex_number n l
 count_list l v n h = count_upd vertex_number (on_list h) (λ y. refl) n v l
 
-pub list_ins : (l : List Vertex) (n t v p u : ℕ) → count_by_key vertex_number n l ≡ 0 → list_in (insert_after_by vertex_number 0 p (record { number = n; type = t; value = v; incidences = [] }) l) u ≡ list_in l u
+pub list_ins : (l : List Vertex) (n t v p u : ℕ) → count_by_key vertex_number n l ≡ 0
+    → list_in (insert_after_by vertex_number 0 p (record { number = n; type = t; value = v; incidences = [] }) l) u ≡ list_in l u
 list_ins l n t v p u c =
     let x : Vertex = record { number = n; type = t; value = v; incidences = [] } in
     elim (same? n u) [

@@ -159,7 +159,8 @@ keeps_formed (SetVertex n t v t' v') g h w = record {
   ends = λ k j. count_upd vertex_number (with_vertex t' v') (λ y. refl) (this_in g.eseq k) n g.vseq ∙ w.ends k j;
 }
 keeps_formed (SetEdge n t r t' r') g h w =
-    let c : (k : ℕ) → count_by_key edge_number k (update_by edge_number n (with_edge t' r') g.eseq) ≡ count_by_key edge_number k g.eseq = λ k. count_upd edge_number (with_edge t' r') (λ y. refl) k n g.eseq in
+    let c : (k : ℕ) → count_by_key edge_number k (update_by edge_number n (with_edge t' r') g.eseq) ≡ count_by_key edge_number k g.eseq =
+    λ k. count_upd edge_number (with_edge t' r') (λ y. refl) k n g.eseq in
     let s : (k : ℕ) → this_in (update_by edge_number n (with_edge t' r') g.eseq) k ≡ this_in g.eseq k =
     λ k. find_kept edge_number no_edge (λ (x : Edge). if_equal (k % 2) 0 x.alpha x.omega) (with_edge t' r') (k / 2) n g.eseq (λ y. refl) (λ y. refl) in
     record {
@@ -188,11 +189,13 @@ keeps_formed (MoveEdge n old new) g h w =
       ends = λ k j. rw (s k) (w.ends k (sym (c (k / 2)) ∙ j));
     }
 keeps_formed (MoveWord x v old u new) g h w =
-    let c : (k : ℕ) → count_by_key edge_number k (update_by edge_number (x / 2) (with_seen x u) g.eseq) ≡ count_by_key edge_number k g.eseq = λ k. count_upd edge_number (with_seen x u) (λ y. refl) k (x / 2) g.eseq in
+    let c : (k : ℕ) → count_by_key edge_number k (update_by edge_number (x / 2) (with_seen x u) g.eseq) ≡ count_by_key edge_number k g.eseq =
+    λ k. count_upd edge_number (with_seen x u) (λ y. refl) k (x / 2) g.eseq in
     record {
       vorder = ordered_upd vertex_number (on_list (insert_after_by itself 0 new x)) (detach g.vseq v x) u (λ y. refl)
           (ordered_upd vertex_number (on_list (remove_by itself x)) g.vseq v (λ y. refl) w.vorder);
       eorder = λ k. omega (arith, c k, w.eorder k);
       lists = λ s k. move_lists x v old u new g h w s k (same? x k);
-      ends = λ k j. count_list (detach g.vseq v x) u _ (insert_after_by itself 0 new x) ∙ count_list g.vseq v _ (remove_by itself x) ∙ move_ends x v old u new g h w k (same? x k) (sym (c (k / 2)) ∙ j);
+      ends = λ k j. count_list (detach g.vseq v x) u _ (insert_after_by itself 0 new x) ∙ count_list g.vseq v _ (remove_by itself x) ∙ move_ends x v old u new g h w k (same? x k)
+          (sym (c (k / 2)) ∙ j);
     }

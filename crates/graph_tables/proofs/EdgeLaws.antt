@@ -12,7 +12,8 @@ use Rattle.graph.specs.Edits.{Insertable}
 use Rattle.graph.specs.WellFormed.{Ordered}
 use Rattle.graph.proofs.Orders.{find_kept, find_move, count_move}
 use Rattle.graph.proofs.Incidence.{this_out, this_into, Word, out_word_lem, in_word_lem, other_word, word?}
-use Rattle.graph_tables.specs.Tables.{State, edge_links, edge_place, half_place, EdgeRowIn, edge_list_ends, table_edge_row, table_edge_this, state_set_edge, state_move_edge, state_place_edge, state_drop_edge, CanDropEdge}
+use Rattle.graph_tables.specs.Tables.{State, edge_links, edge_place, half_place, EdgeRowIn, edge_list_ends, table_edge_row, table_edge_this, state_set_edge, state_move_edge}
+use Rattle.graph_tables.specs.Tables.{state_place_edge, state_drop_edge, CanDropEdge}
 use Rattle.graph_tables.specs.Holds.{ERow, ERows, ThisEntries, Lists, Core}
 use Rattle.graph_tables.proofs.Keys.{keys_upd, length_upd, length_ins, length_rem}
 use Rattle.graph_tables.proofs.Sequences.{can_take, held_taken, can_put, held_put, can_move, held_move, move_len, move_e, Anew, anew_put, anew_taken, anew_set}
@@ -81,7 +82,8 @@ module _ (n a z : ℕ) (edges : List ℕ) where
   module _ (i : EdgeRowIn edges n) where
     seen_out : get_or (table_edge_this n a z edges) (half_place 2 (2 * n)) 0 ≡ a
     unfolding table_edge_this
-    seen_out = get_or-set_other (set edges (half_place 2 (2 * n)) a) (half_place 2 (2 * n + 1)) (half_place 2 (2 * n)) z 0 (λ q. omega arith) ∙ get_or-set_same edges (half_place 2 (2 * n)) a 0 (omega arith)
+    seen_out = get_or-set_other (set edges (half_place 2 (2 * n)) a) (half_place 2 (2 * n + 1)) (half_place 2 (2 * n)) z 0 (λ q. omega arith)
+        ∙ get_or-set_same edges (half_place 2 (2 * n)) a 0 (omega arith)
 
     seen_into : get_or (table_edge_this n a z edges) (half_place 2 (2 * n + 1)) 0 ≡ z
     unfolding table_edge_this
@@ -92,7 +94,8 @@ module _ (n a z : ℕ) (edges : List ℕ) where
     seen_other w r p q = get_or-set_other (set edges (half_place 2 (2 * n)) a) (half_place 2 (2 * n + 1)) (half_place 2 w) z 0 (λ e. omega arith) ∙ get_or-set_other edges (half_place 2 (2 * n))
         (half_place 2 w) a 0 (λ e. omega arith)
 
-    pub this_new : (live : ℕ) (y : Edge) (es es' : List Edge) → ThisEntries edges es → Anew edge_number no_edge n live y es es' → y.alpha ≡ a → y.omega ≡ z → ThisEntries (table_edge_this n a z edges) es'
+    pub this_new : (live : ℕ) (y : Edge) (es es' : List Edge) → ThisEntries edges es → Anew edge_number no_edge n live y es es' → y.alpha ≡ a → y.omega ≡ z
+        → ThisEntries (table_edge_this n a z edges) es'
     this_new live y es es' h m ca cz w r = go (word? n w)
       where
         go : Word n w → get_or (table_edge_this n a z edges) (half_place 2 w) 0 ≡ this_in es' w

@@ -174,7 +174,8 @@ count_fresh : (x : ℕ) (l : List ℕ) → Fresh x l → count_by_key itself x l
 count_fresh x [] h = refl
 count_fresh x (y ∷ l) h = omega (arith, count_fresh x l h.1, is_no y x (λ q. h.0 (sym q)))
 
-module _ {A : Type 0} (key : A → ℕ) (layout : LinkLayout) (t : List ℕ) (e : Ends) (xs : List A) (valid : ValidLayout layout) (h : Held layout t e (map key xs)) (n : ℕ) (c : 1 ≤ count_by_key key n xs) where
+module _ {A : Type 0} (key : A → ℕ) (layout : LinkLayout) (t : List ℕ) (e : Ends) (xs : List A) (valid : ValidLayout layout) (h : Held layout t e (map key xs)) (n : ℕ)
+    (c : 1 ≤ count_by_key key n xs) where
   pub real : 1 ≤ n
   real = nonzero n (keys_count key n xs)
     where

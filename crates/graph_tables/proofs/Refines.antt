@@ -13,7 +13,8 @@ use Rattle.graph.specs.Edits.{attach, apply, Applies}
 use Rattle.graph.proofs.Keeps.{keeps_formed}
 use Rattle.graph.proofs.Lists.{held, unheld, gone, ends_at, free_out, out_at, into_at, a_there, z_there}
 use Rattle.graph.proofs.Incidence.{count_list, count_attach_other, count_detach_other, out_half, into_half, apart, apart'}
-use Rattle.graph_tables.specs.Tables.{State, vertex_links, edge_links, vertex_list_ends, edge_list_ends, EdgeRowIn, HalfRowIn, state_detach, state_attach, state_place_edge, state_move_word, CanMoveWord}
+use Rattle.graph_tables.specs.Tables.{State, vertex_links, edge_links, vertex_list_ends, edge_list_ends, EdgeRowIn, HalfRowIn, state_detach, state_attach, state_place_edge, state_move_word}
+use Rattle.graph_tables.specs.Tables.{CanMoveWord}
 use Rattle.graph_tables.specs.Tables.{state_insert_edge, CanInsertEdge, state_remove_edge, CanRemoveEdge}
 use Rattle.graph_tables.specs.Holds.{Core, Holds}
 use Rattle.graph_tables.specs.Edits.{state_apply, Can, Small, Room}

@@ -3,7 +3,8 @@ use Rattle.std.proofs.Common.{◌≡◌, ℕ, ◌+◌, ◌*◌, length, refl, �
 use Rattle.graph.specs.declared.Reading.{Reading}
 use Rattle.graph.specs.declared.Edit.{Edit}
 use Rattle.graph.specs.declared.Edit.TheVariants.{InsertVertex, RemoveVertex, InsertEdge, RemoveEdge, SetVertex, SetEdge, MoveVertex, MoveEdge, MoveWord}
-use Rattle.graph_tables.specs.Tables.{State, vertex_links, edge_links, incidence_links, vertex_list_ends, edge_list_ends, vertex_ends, state_detach, state_attach, state_set_this, state_place_edge, state_drop_edge, state_move_word}
+use Rattle.graph_tables.specs.Tables.{State, vertex_links, edge_links, incidence_links, vertex_list_ends, edge_list_ends, vertex_ends, state_detach, state_attach, state_set_this}
+use Rattle.graph_tables.specs.Tables.{state_place_edge, state_drop_edge, state_move_word}
 use Rattle.graph_tables.specs.Tables.{state_insert_edge, state_remove_edge, state_set_vertex, state_move_vertex, state_insert_vertex, state_remove_vertex, state_set_edge, state_move_edge}
 use Rattle.graph_tables.specs.Edits.{state_apply}
 use Rattle.graph_tables.proofs.Frames.{unlink_len, insert_len, ends_len}

@@ -7,8 +7,10 @@ use Rattle.graph.specs.declared.Reading.TheVariants.{Untested}
 use Rattle.graph.specs.declared.Edit.{Edit}
 use Rattle.graph.specs.Graph.{reading_kind, decimetres}
 use Rattle.graph_tables.specs.declared.Head.{Head}
-use Rattle.graph_tables.specs.Tables.{State, state, vertex_links, edge_links, incidence_links, vertex_list_ends, edge_list_ends, vertex_ends, put_ends, with_vertex_ends, with_edge_ends, head_with_vertices, head_with_edges}
-use Rattle.graph_tables.specs.Tables.{edge_place, table_vertex_row, table_edge_row, table_edge_this, state_detach, CanDetach, state_attach, CanAttach, state_move_vertex, state_move_edge, state_insert_vertex, state_remove_vertex}
+use Rattle.graph_tables.specs.Tables.{State, state, vertex_links, edge_links, incidence_links, vertex_list_ends, edge_list_ends, vertex_ends, put_ends, with_vertex_ends, with_edge_ends}
+use Rattle.graph_tables.specs.Tables.{head_with_vertices, head_with_edges}
+use Rattle.graph_tables.specs.Tables.{edge_place, table_vertex_row, table_edge_row, table_edge_this, state_detach, CanDetach, state_attach, CanAttach, state_move_vertex, state_move_edge}
+use Rattle.graph_tables.specs.Tables.{state_insert_vertex, state_remove_vertex}
 use Rattle.graph_tables.specs.Tables.{state_place_edge, state_drop_edge, CanDropEdge}
 use Rattle.graph_tables.specs.Edits.{state_apply, Can}
 
@@ -58,7 +60,8 @@ module _ (h : Head) (vertices edges : List ℕ) where
       c ∙ (λ i. put_ends v (b.1 i) vertices) ∙ (λ i. put_ends v (ends_insert incidence_links edges (a i) p w) vertices) in
       λ i. state h (y i) (x i)
 
-  pub vertex_moved : (n p : ℕ) {vertices' : List ℕ} {e : Ends} → (vertices' ≡ table_move vertex_links n p vertices (vertex_list_ends h)) × (e ≡ ends_move vertex_links n p vertices (vertex_list_ends h))
+  pub vertex_moved : (n p : ℕ) {vertices' : List ℕ} {e : Ends} → (vertices' ≡ table_move vertex_links n p vertices (vertex_list_ends h))
+      × (e ≡ ends_move vertex_links n p vertices (vertex_list_ends h))
       → state (with_vertex_ends e h) vertices' edges ≡ state_move_vertex n p (state h vertices edges)
   unfolding state_move_vertex
   vertex_moved n p a = λ i. state (with_vertex_ends (a.1 i) h) (a.0 i) edges
@@ -89,7 +92,8 @@ module _ (h : Head) (vertices edges : List ℕ) where
       state (head_with_edges (h.edges + 1) (with_edge_ends e h)) vertices t₃ ≡ state_place_edge n a z t r p (state h vertices edges)
   unfolding state_place_edge
   edge_placed n a z t r p {t₃ = t₃} b c d =
-      let y : t₃ ≡ table_edge_this n a z (table_edge_row n 1 t r (table_insert edge_links edges (edge_list_ends h) p n)) = d ∙ (λ i. table_edge_this n a z (c i)) ∙ (λ i. table_edge_this n a z (table_edge_row n 1 t r (b.0 i))) in
+      let y : t₃ ≡ table_edge_this n a z (table_edge_row n 1 t r (table_insert edge_links edges (edge_list_ends h) p n)) =
+      d ∙ (λ i. table_edge_this n a z (c i)) ∙ (λ i. table_edge_this n a z (table_edge_row n 1 t r (b.0 i))) in
       λ i. state (head_with_edges (h.edges + 1) (with_edge_ends (b.1 i) h)) vertices (y i)
 
   pub edge_dropped : (n : ℕ) {t₁ t₂ t₃ : List ℕ} {e : Ends} →
@@ -97,7 +101,8 @@ module _ (h : Head) (vertices edges : List ℕ) where
       state (head_with_edges (h.edges - 1) (with_edge_ends e h)) vertices t₃ ≡ state_drop_edge n (state h vertices edges)
   unfolding state_drop_edge
   edge_dropped n {t₃ = t₃} b c d =
-      let y : t₃ ≡ table_edge_this n 0 0 (table_edge_row n 0 0 Untested (table_unlink edge_links edges (edge_list_ends h) n)) = d ∙ (λ i. table_edge_this n 0 0 (c i)) ∙ (λ i. table_edge_this n 0 0 (table_edge_row n 0 0 Untested (b.0 i))) in
+      let y : t₃ ≡ table_edge_this n 0 0 (table_edge_row n 0 0 Untested (table_unlink edge_links edges (edge_list_ends h) n)) =
+      d ∙ (λ i. table_edge_this n 0 0 (c i)) ∙ (λ i. table_edge_this n 0 0 (table_edge_row n 0 0 Untested (b.0 i))) in
       λ i. state (head_with_edges (h.edges - 1) (with_edge_ends (b.1 i) h)) vertices (y i)
 
 -- the words of a reading

@@ -10,7 +10,8 @@ use Rattle.graph.specs.Changes.{with_vertex}
 use Rattle.graph.specs.WellFormed.{Ordered}
 use Rattle.graph.proofs.Orders.{find_kept, find_move, count_move}
 use Rattle.graph.proofs.Incidence.{list_ins, list_rem}
-use Rattle.graph_tables.specs.Tables.{State, vertex_links, vertex_place, VertexRowIn, vertex_list_ends, table_vertex_row, state_set_vertex, state_move_vertex, state_insert_vertex, state_remove_vertex, CanRemoveVertex}
+use Rattle.graph_tables.specs.Tables.{State, vertex_links, vertex_place, VertexRowIn, vertex_list_ends, table_vertex_row, state_set_vertex, state_move_vertex, state_insert_vertex}
+use Rattle.graph_tables.specs.Tables.{state_remove_vertex, CanRemoveVertex}
 use Rattle.graph_tables.specs.Holds.{VRows, Lists, DisjointLists, Core}
 use Rattle.graph_tables.proofs.Keys.{keys_upd, length_upd, length_ins, length_rem}
 use Rattle.graph_tables.proofs.Sequences.{can_take, held_taken, can_put, held_put, can_move, held_move, move_v, Anew, anew_put, anew_taken, anew_set}

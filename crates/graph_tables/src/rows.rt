@@ -38,7 +38,7 @@ pub fn half_field(edges: &[u32], w: u32, field: usize) -> u32
     edges[6 * (w as usize) - 12 + field]
 }
 
-// The word after w in its list: the step of a cursor, which is walked by hand and has no field as a parameter.
+// The word after w in its list: a cursor's step.
 pub fn word_next(edges: &[u32], w: u32) -> u32
     requires { HalfRowIn edges.now w }
     ensures { result ≡ wnext edges.now w }

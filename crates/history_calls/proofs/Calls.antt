@@ -31,7 +31,8 @@ use Rattle.history_calls.specs.declared.Called.{Called}
 use Rattle.history_calls.specs.Memory.{Memory, memory, tables_of}
 use Rattle.history_calls.specs.Represents.{Represents, Follows}
 use Rattle.marks.specs.Codes.{no_mark, standing_code, new_code, name_code}
-use Rattle.history_calls.specs.Outcomes.{pair_code, done, mark_set, places_set, mark_dropped, committed, between_marks, marks_standing, changes_free, mark_named, names_set, bench_code, bench_set, made_code}
+use Rattle.history_calls.specs.Outcomes.{pair_code, done, mark_set, places_set, mark_dropped, committed, between_marks, marks_standing, changes_free, mark_named, names_set, bench_code}
+use Rattle.history_calls.specs.Outcomes.{bench_set, made_code}
 use Rattle.marks.proofs.CodeLaws.{Mark, standing_none, new_none, standing_is, new_is, both_is, both_none, name_codes, name_none}
 use Rattle.history_calls.proofs.Following.{refused, accepted, follows_by}
 use Rattle.history_calls.proofs.OutcomeLaws.{with_kept, without_kept}

@@ -9,7 +9,8 @@ use lib.Seq.{get_or-drop, get_or-take, drop-drop, take_at, drop-append-add}
 use Rattle.lists.specs.Lists.{concat_map}
 use Rattle.graph.specs.Graph.{Vertex, Graph, no_vertex}
 use Rattle.graph.specs.WellFormed.{Bounds}
-use Rattle.image.specs.Image.{vertex_size, vertex_record, incidences_of, vertex_offset, incidence_offset, save_as, vertex_count, edge_count, record_size, degree_of, list_offset, ListAt, load, loadable}
+use Rattle.image.specs.Image.{vertex_size, vertex_record, incidences_of, vertex_offset, incidence_offset, save_as, vertex_count, edge_count, record_size, degree_of, list_offset, ListAt}
+use Rattle.image.specs.Image.{load, loadable}
 use Rattle.image.proofs.Sizes.{new, row_in}
 use Rattle.image.proofs.Loads.{vertex_words, incidence_words, loaded}
 
@@ -20,7 +21,8 @@ row_word [] i r h = absurd (omega arith)
 row_word (v ∷ vs) zero r h = let e : vertex_size * 0 + r ≡ r = omega arith in ap (λ (k : ℕ). get_or (concat_map (vertex_record vertex_size) (v ∷ vs)) k 0) e
 row_word (v ∷ vs) (suc i) r h =
     let e : vertex_size * suc i + r ≡ 4 + (vertex_size * i + r) = omega arith in
-    ap (λ (k : ℕ). get_or (concat_map (vertex_record vertex_size) (v ∷ vs)) k 0) e ∙ sym (get_or-drop 4 (concat_map (vertex_record vertex_size) (v ∷ vs)) (vertex_size * i + r) 0) ∙ row_word vs i r (omega arith)
+    ap (λ (k : ℕ). get_or (concat_map (vertex_record vertex_size) (v ∷ vs)) k 0) e ∙ sym (get_or-drop 4 (concat_map (vertex_record vertex_size) (v ∷ vs)) (vertex_size * i + r) 0)
+    ∙ row_word vs i r (omega arith)
 
 -- the words of the first i lists
 total : ℕ → List Vertex → ℕ

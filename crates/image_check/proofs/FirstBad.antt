@@ -13,7 +13,8 @@ use Rattle.lists.specs.Choice.{◌⇒◌else◌}
 use Rattle.lists.specs.Lists.{distinct}
 use Rattle.graph.specs.Graph.{Edge}
 use Rattle.graph.specs.WellFormed.{Bounds, words_at}
-use Rattle.image.specs.Image.{edge_size, vertex_offset, edge_offset, incidence_offset, length_as, vertex_count, edge_count, record_size, sound_header, vertex_part, edge_part, incidence_part, numbers_in}
+use Rattle.image.specs.Image.{edge_size, vertex_offset, edge_offset, incidence_offset, length_as, vertex_count, edge_count, record_size, sound_header, vertex_part, edge_part, incidence_part}
+use Rattle.image.specs.Image.{numbers_in}
 use Rattle.image.specs.Image.{edges_from, loadable}
 use Rattle.image_check.specs.Checks.{good_list, list_walk, sound_counts, numbers_of, edges_of, vertex_verdict, edge_verdict, degree_verdict, list_verdict}
 use Rattle.image_check.proofs.Walks.{vertex_walk, edge_walk, degree_walk}

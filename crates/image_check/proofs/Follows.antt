@@ -15,7 +15,8 @@ use Rattle.lists.specs.Lists.{member, equal_lists}
 use Rattle.lists.proofs.Bools.{and_true, and_both}
 use Rattle.graph.specs.Graph.{Edge}
 use Rattle.graph.specs.WellFormed.{Bounds, words_at}
-use Rattle.image.specs.Image.{edge_size, vertex_offset, edge_offset, incidence_offset, length_as, header_of, vertex_count, edge_count, record_size, header_as, sound_header, vertex_part, edge_part, numbers_in}
+use Rattle.image.specs.Image.{edge_size, vertex_offset, edge_offset, incidence_offset, length_as, header_of, vertex_count, edge_count, record_size, header_as, sound_header, vertex_part}
+use Rattle.image.specs.Image.{edge_part, numbers_in}
 use Rattle.image.specs.Image.{incidence_part, edges_from, loadable}
 use Rattle.image_check.specs.Checks.{list_walk, sound_counts, numbers_of, edges_of, vertex_verdict, edge_verdict, degree_verdict, list_verdict, verdict}
 use Rattle.image_check.proofs.Walks.{vertex_walk, edge_walk, degree_walk}

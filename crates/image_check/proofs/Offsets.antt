@@ -188,7 +188,8 @@ module _ (size : ℕ) (z : Size size) (cap types : ℕ) where
   vertex_same : (seen us ws : List ℕ) → ((i : ℕ) → i < 3 → i ≤ vertex_at cap types seen ws → get_or us i 0 ≡ get_or ws i 0) → vertex_at cap types seen us ≡ vertex_at cap types seen ws
   vertex_same seen us ws a =
       rw (a 0 (omega arith) (omega arith))
-      (vertex_cut (within 1 cap (get_or ws 0 0) && not (member (get_or ws 0 0) seen)) (ltb (get_or ws 1 0) types) (ltb (get_or ws 2 0) (2 ^ 32)) (ltb (get_or us 1 0) types) (ltb (get_or us 2 0) (2 ^ 32))
+      (vertex_cut (within 1 cap (get_or ws 0 0) && not (member (get_or ws 0 0) seen)) (ltb (get_or ws 1 0) types) (ltb (get_or ws 2 0) (2 ^ 32)) (ltb (get_or us 1 0) types)
+      (ltb (get_or us 2 0) (2 ^ 32))
       (λ h. ap (λ (t : ℕ). ltb t types) (a 1 (omega arith) h)) (λ h. ap (λ (x : ℕ). ltb x (2 ^ 32)) (a 2 (omega arith) h)))
 
   vertex_near : (seen : List ℕ) (k : ℕ) (ws : List ℕ) (at m i : ℕ) → vertex_walk size cap types seen (suc k) ws at ≡ BadRecord m → i < 3 → i ≤ vertex_at cap types seen ws → at + i ≤ m
@@ -319,7 +320,8 @@ good_same (suc d) wanted [] (w ∷ ws) e a = absurd (omega arith)
 good_same (suc d) wanted (u ∷ us) [] e a = absurd (omega arith)
 good_same (suc d) wanted (u ∷ us) (w ∷ ws) e a = rw (a 0 (omega arith) (omega arith)) (go (λ k. good_same d (remove_by itself w wanted) us ws (omega arith) k) (member w wanted) refl)
   where
-    go : (((i : ℕ) → i < d → i ≤ good_list d (remove_by itself w wanted) ws → get_or us i 0 ≡ get_or ws i 0) → good_list d (remove_by itself w wanted) us ≡ good_list d (remove_by itself w wanted) ws) →
+    go : (((i : ℕ) → i < d → i ≤ good_list d (remove_by itself w wanted) ws → get_or us i 0 ≡ get_or ws i 0) → good_list d (remove_by itself w wanted) us
+        ≡ good_list d (remove_by itself w wanted) ws) →
         (t : Bool) → member w wanted ≡ t → ◌≡◌ {A = ℕ} (t ⇒ suc (good_list d (remove_by itself w wanted) us) else 0) (t ⇒ suc (good_list d (remove_by itself w wanted) ws) else 0)
     go ih true f = ap suc (ih (λ i l g. a (suc i) (omega arith) (rw f (omega arith))))
     go ih false f = refl

@@ -16,7 +16,8 @@ use Rattle.lists.proofs.Sums.{has_count, Alike, alike_same, alike_length}
 use Rattle.graph.specs.declared.Reading.TheVariants.{Untested, Silent, Heard}
 use Rattle.graph.specs.Graph.{Edge, Graph, vertex_number, edge_number, itself, has_vertex, vertex_numbers, edge_numbers, reading_kind, decimetres, reading_of, is_reading}
 use Rattle.graph.specs.WellFormed.{Bounds, words_at, same_words, sound_vertex, sound_edge, well_formed}
-use Rattle.image.specs.Image.{degree_word, vertex_record, edge_size, edge_record, incidences_of, vertex_offset, edge_offset, incidence_offset, save_as, vertex_count, edge_count, record_size, numbers_in}
+use Rattle.image.specs.Image.{degree_word, vertex_record, edge_size, edge_record, incidences_of, vertex_offset, edge_offset, incidence_offset, save_as, vertex_count, edge_count, record_size}
+use Rattle.image.specs.Image.{numbers_in}
 use Rattle.image.specs.Image.{sound_header, vertex_part, edge_part, incidence_part, edges_from, vertices_from, load, loadable}
 use Rattle.image_check.specs.Checks.{good_list, list_walk, sound_counts, numbers_of, edges_of, vertex_verdict, edge_verdict, degree_verdict, list_verdict, passed, part_limits, edge_by}
 use Rattle.image_check.proofs.Walks.{vertex_walk, edge_walk, degree_walk}

@@ -62,6 +62,7 @@ module _ (p : ℕ → Bool) where
   count_keep k [] = omega arith
   count_keep k (x ∷ xs) = go (p x) (count_keep k xs)
     where
-      go : (t : Bool) → count_by_key (λ w. w) k (filter p xs) ≤ count_by_key (λ w. w) k xs → count_by_key (λ w. w) k (t ⇒ (x ∷ filter p xs) else filter p xs) ≤ indicator x k + count_by_key (λ w. w) k xs
+      go : (t : Bool) → count_by_key (λ w. w) k (filter p xs) ≤ count_by_key (λ w. w) k xs → count_by_key (λ w. w) k (t ⇒ (x ∷ filter p xs) else filter p xs) ≤ indicator x k + count_by_key
+          (λ w. w) k xs
       go true e = omega arith
       go false e = omega arith

@@ -21,7 +21,8 @@ use Rattle.image.specs.Image.{vertex_record, edge_record, record_size, load}
 use Rattle.image.proofs.Sizes.{size_range, record_size_lem}
 use Rattle.image.proofs.RecordWords.{record_length}
 use Rattle.graph_tables.specs.declared.Head.{Head}
-use Rattle.graph_tables.specs.Tables.{State, state, vertex_links, edge_links, vertex_list_ends, edge_list_ends, VertexRowIn, EdgeRowIn, state_insert_vertex, CanInsertVertex, head_with_edges, with_edge_ends, table_edge_row}
+use Rattle.graph_tables.specs.Tables.{State, state, vertex_links, edge_links, vertex_list_ends, edge_list_ends, VertexRowIn, EdgeRowIn, state_insert_vertex, CanInsertVertex, head_with_edges}
+use Rattle.graph_tables.specs.Tables.{with_edge_ends, table_edge_row}
 use Rattle.graph_tables.specs.Tables.{table_edge_this, state_place_edge, CanPlaceEdge}
 use Rattle.graph_tables.proofs.Steps.{edge_placed}
 use Rattle.graph_tables.specs.Holds.{Core}

@@ -13,7 +13,8 @@ use Rattle.lists.specs.Lists.{member}
 use Rattle.linked_lists.specs.declared.LinkLayout.{LinkLayout}
 use Rattle.linked_lists.specs.declared.Ends.{Ends}
 use Rattle.linked_lists.specs.Lists.{Fresh, Every}
-use Rattle.linked_lists.specs.Links.{ValidLayout, Direction, backward, forward, link_address, HasAddress, lacks_address, Inside, link_of, table_put, table_join, Chain, Held, table_unlink, table_insert}
+use Rattle.linked_lists.specs.Links.{ValidLayout, Direction, backward, forward, link_address, HasAddress, lacks_address, Inside, link_of, table_put, table_join, Chain, Held, table_unlink}
+use Rattle.linked_lists.specs.Links.{table_insert}
 use Rattle.linked_lists.proofs.Words.{nodes_apart}
 use Rattle.linked_lists.proofs.HeldLaws.{before_x, after_x, after_last}
 use Rattle.linked_lists.proofs.ListLaws.{Split, split, SplitAfter, split_after, all_left, all_right, all_last, all_head}

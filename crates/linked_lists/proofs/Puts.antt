@@ -11,7 +11,8 @@ use borrow.Author.Tests.{eqb-true, eqb-false, ltb-true, ltb-false}
 use Rattle.linked_lists.specs.declared.LinkLayout.{LinkLayout}
 use Rattle.linked_lists.specs.declared.Ends.{Ends}
 use Rattle.lists.specs.Choice.{◌⇒◌else◌}
-use Rattle.linked_lists.specs.Links.{ValidLayout, Direction, backward, forward, link_address, node_address, HasAddress, lacks_address, Inside, end_of, with_end, link_of, table_put, ends_put, table_join, ends_join}
+use Rattle.linked_lists.specs.Links.{ValidLayout, Direction, backward, forward, link_address, node_address, HasAddress, lacks_address, Inside, end_of, with_end, link_of, table_put, ends_put}
+use Rattle.linked_lists.specs.Links.{table_join, ends_join}
 use Rattle.linked_lists.proofs.Words.{nodes_apart, sides_apart}
 
 pub length_put : (s : Direction) (layout : LinkLayout) (k v : ℕ) (t : List ℕ) → length (table_put s layout k v t) ≡ length t

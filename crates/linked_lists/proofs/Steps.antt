@@ -12,7 +12,8 @@ use borrow.Author.Tests.{eqb-false, ne_eqb, le-ltb}
 use Rattle.lists.specs.Choice.{◌⇒◌else◌}
 use Rattle.linked_lists.specs.declared.LinkLayout.{LinkLayout}
 use Rattle.linked_lists.specs.declared.Ends.{Ends}
-use Rattle.linked_lists.specs.Links.{Direction, backward, forward, node_address, link_address, HasAddress, Inside, link_of, CanUnlink, CanInsert, CanAppend, table_put, ends_put, table_join, ends_join, table_unlink}
+use Rattle.linked_lists.specs.Links.{Direction, backward, forward, node_address, link_address, HasAddress, Inside, link_of, CanUnlink, CanInsert, CanAppend, table_put, ends_put, table_join}
+use Rattle.linked_lists.specs.Links.{ends_join, table_unlink}
 use Rattle.linked_lists.specs.Links.{ends_unlink, table_insert, ends_insert, table_move, ends_move}
 
 pub inside_by : (layout : LinkLayout) {m m' n n' : ℕ} → m ≡ m' → n ≡ n' → Inside layout n' m' → Inside layout n m

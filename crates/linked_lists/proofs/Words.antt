@@ -22,7 +22,8 @@ order : (x y : ℕ) → (x ≡ y → ⊥) → Order x y
 order x y h = elim (dec_lt x y) [ yes l ↦ less l | no g ↦ more (omega arith) ]
 
 -- the words of two nodes on any two sides are apart
-pub nodes_apart : (layout : LinkLayout) (s r : Direction) (x y : ℕ) → ValidLayout layout → HasAddress layout x → HasAddress layout y → (x ≡ y → ⊥) → link_address s layout x ≡ link_address r layout y → ⊥
+pub nodes_apart : (layout : LinkLayout) (s r : Direction) (x y : ℕ) → ValidLayout layout → HasAddress layout x → HasAddress layout y → (x ≡ y → ⊥)
+    → link_address s layout x ≡ link_address r layout y → ⊥
 nodes_apart layout s r x y f hx hy ne = go s r (order x y ne)
   where
     go : (s r : Direction) → Order x y → link_address s layout x ≡ link_address r layout y → ⊥

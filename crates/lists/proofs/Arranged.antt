@@ -28,7 +28,15 @@ module _ {A : Type 0} (key : A → ℕ) (d : A) where
   count_put j a b l h =
       let e = find_key a l h in
       elim (same? a j) [
-        | same u v ↦ omega (arith, count_ins key j 0 b (find_by key d a l) (remove_by key a l), count_rem key j a l, is_yes a j u, ap (λ (z : ℕ). indicator z j) e, ap (λ (z : ℕ). count_by_key key z l) u, h)
+        | same u v ↦ omega (
+          arith,
+          count_ins key j 0 b (find_by key d a l) (remove_by key a l),
+          count_rem key j a l,
+          is_yes a j u,
+          ap (λ (z : ℕ). indicator z j) e,
+          ap (λ (z : ℕ). count_by_key key z l) u,
+          h,
+        )
         | differ u v ↦ omega (arith, count_ins key j 0 b (find_by key d a l) (remove_by key a l), count_rem key j a l, is_no a j u, ap (λ (z : ℕ). indicator z j) e)
       ]
 

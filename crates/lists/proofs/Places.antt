@@ -27,7 +27,8 @@ module _ {A : Type 0} (key : A → ℕ) where
   prev_there q k l h = omega (arith, prev_in key q k l h, count_rem key (prev_by key q k l) k l)
 
   -- after the one before b: before b
-  pub ins_before : (q b : ℕ) (x : A) (l : List A) → 1 ≤ count_by_key key b l → ((n : ℕ) → indicator q n + count_by_key key n l ≤ 1) → insert_after_by key q (prev_by key q b l) x l ≡ insert_before_by key b x l
+  pub ins_before : (q b : ℕ) (x : A) (l : List A) → 1 ≤ count_by_key key b l → ((n : ℕ) → indicator q n + count_by_key key n l ≤ 1) → insert_after_by key q (prev_by key q b l) x l
+      ≡ insert_before_by key b x l
   ins_before q b x [] h u = absurd (omega arith)
   ins_before q b x (y ∷ l) h u = elim (same? (key y) b) [
     | same e f ↦ simp pick_yes

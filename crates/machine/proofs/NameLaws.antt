@@ -330,7 +330,8 @@ step_from w m x k q n a h = go (refusal w m (command_of x) == 0) refl h
     kept f (inr i) = i.0
 
     go : (t : Bool) → (refusal w m (command_of x) == 0) ≡ t → AfterCall w m x k q n → (step w m x).names k ≡ n
-    go true f i = rw (accepted_step w m (command_of x) f) (name_from (deed_of w (command_of x) m).effect m k q n (rw (accepted_step w m (command_of x) f) at a) (one (code_is w m (command_of x) true f) i))
+    go true f i = rw (accepted_step w m (command_of x) f)
+        (name_from (deed_of w (command_of x) m).effect m k q n (rw (accepted_step w m (command_of x) f) at a) (one (code_is w m (command_of x) true f) i))
     go false f i = rw (refused_step w m (command_of x) f) (kept (code_is w m (command_of x) false f) i)
 
 -- a mark that was set among the events was ended by it

@@ -67,7 +67,8 @@ covers_starts w start copies numbers used s e f = record {
   copied = record { count = refl; formed = done; room = rw mul-zero (omega arith); kept = refl };
   places = record {
     in_copies = λ i k. let z : i ≡ 0 = omega arith in subst (λ (j : ℕ). get_or numbers j 0 ≤ 0) (sym z) (omega (arith, zeros_at numbers e));
-    graphs = λ i k. let z : i ≡ 0 = omega arith in subst (λ (j : ℕ). copy_of (load start) [] (get_or numbers j 0) ≡ graph_at j (load start) []) (sym z) (ap (copy_of (load start) []) (zeros_at numbers e));
+    graphs = λ i k. let z : i ≡ 0 =
+        omega arith in subst (λ (j : ℕ). copy_of (load start) [] (get_or numbers j 0) ≡ graph_at j (load start) []) (sym z) (ap (copy_of (load start) []) (zeros_at numbers e));
     rows = λ i k. let z : i ≡ 0 = omega arith in subst (λ (j : ℕ). get_or used j 0 ≡ rows_to 0 j []) (sym z) (zeros_at used f);
     numbers_size = ap length e ∙ length-replicate {A = ℕ} 20001 0;
     used_size = ap length f ∙ length-replicate {A = ℕ} 20001 0;

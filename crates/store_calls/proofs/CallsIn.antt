@@ -187,7 +187,8 @@ module _ (w : Parameters) where
         ap (λ (v : List ℕ). take (2 * k) slice' ++ (v ++ drop (2 * n - 2 * k) (drop (2 * k) slice'))) f
         ∙ ap (λ (v : List ℕ). take (2 * k) v ++ (overwritten B (take (2 * n - 2 * k) (drop (2 * k) v)) ++ drop (2 * n - 2 * k) (drop (2 * k) v))) e
         ∙ over_part A B slice (2 * k) (2 * n) a (omega (arith, b, inside)) long
-        ∙ ap (λ (v : List ℕ). overwritten v slice) (sym (words_append (answers_in w s (take k cs)) (answers_in w (last_in w s (take k cs)) now)) ∙ ap answer_words (sym (answers_append s (take k cs) now)))
+        ∙ ap (λ (v : List ℕ). overwritten v slice) (sym (words_append (answers_in w s (take k cs)) (answers_in w (last_in w s (take k cs)) now))
+        ∙ ap answer_words (sym (answers_append s (take k cs) now)))
         ∙ ap (λ (xs : List StoreCall). overwritten (answer_words (answers_in w s xs)) slice) (sym all_more)
 
 pub all_done : (calls : List ℕ) (k : ℕ) → length calls / 6 ≤ k → take k (store_calls_of calls) ≡ store_calls_of calls

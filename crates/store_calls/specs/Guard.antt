@@ -66,7 +66,7 @@ pub record Taken (w : Parameters) (capacity : ℕ) (m : Machine) (there : Bool) 
 
 -- whatever run stood there
 abbrev pub Takes : Bool → ℕ → Store → Stretch → Memory → Memory → List ℕ → ℕ → List ℕ → List ℕ → List ℕ → Type 0
-Takes there capacity x d mem mem' closed types calls slice slice' =
+Takes there capacity x d mem mem' closed types calls answered answered' =
     (w : Parameters) → (m : Machine)
     → Running w x mem closed types m
-    → Taken w capacity m there (take d.calls (store_calls_of calls)) d.store mem' closed types slice slice'
+    → Taken w capacity m there (take d.calls (store_calls_of calls)) d.store mem' closed types answered answered'

@@ -73,7 +73,7 @@ pub record AfterAll (w : Parameters) (z : Sizes) (s : Stores) (xs : List StoreCa
 
 abbrev pub Served : List Store → List Store → Whole → Whole → List ℕ → ℕ → List ℕ → List ℕ → List ℕ
     → ℕ → ℕ → ℕ → ℕ → ℕ → Type 0
-Served first all mem mem' closed types calls slice slice' stores room v e t =
+Served first all mem mem' closed types calls answers answers' stores room v e t =
     (w : Parameters) → (s : Stores) → s.count ≡ stores → room ≡ joint_room s
     → Serving w (sizes v e t) first mem closed types s
-    → AfterAll w (sizes v e t) s (store_calls_of calls) all mem' closed types slice slice'
+    → AfterAll w (sizes v e t) s (store_calls_of calls) all mem' closed types answers answers'

@@ -35,7 +35,7 @@ fn at_place(position: Position, head: Head, place: u32, used: u32) -> Current
     }
 }
 
-// The record after a step that left this head. Proved by hand.
+// The record after a step that left this head.
 fn put_step(current: &mut Current, head: Head, rows: u32)
     requires { (current.old.position.place + 1 < 2 ^ 32) × (current.old.position.used + rows < 2 ^ 32) }
     ensures { current.new ≡ after_step current.old.position head rows }
@@ -43,15 +43,15 @@ fn put_step(current: &mut Current, head: Head, rows: u32)
     *current = after_step(current.position, head, rows);
 }
 
-// The record at another place, with this head. Proved by hand.
+// The record at another place, with this head.
 fn put_place(current: &mut Current, head: Head, place: u32, used: u32)
     ensures { current.new ≡ at_place current.old.position head place used }
 {
     *current = at_place(current.position, head, place, used);
 }
 
-// Lends a copy of the record to put_step. Proved by hand; whoever calls it needs no such proof. A caller has a place
-// and rows that stay words of 32 bits after the step, as those of a journal within the limits do.
+// Lends a copy of the record to put_step. A caller has a place and rows that stay words of 32 bits after the step, as
+// those of a journal within the limits do.
 pub fn stepped(current: Current, head: Head, rows: u32) -> Current
     requires { (current.position.place + 1 < 2 ^ 32) × (current.position.used + rows < 2 ^ 32) }
     ensures { result ≡ after_step current.position head rows }

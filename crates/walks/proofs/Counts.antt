@@ -78,7 +78,8 @@ module _ (e : ℕ) where
   ]
 
   -- a share of 1 where the edge has a word in the list, else 0
-  share_is : (x : ℕ) (l : List ℕ) → x ≤ 1 → (x ≡ 0 → count_by_key itself (out_word e) l + count_by_key itself (in_word e) l ≡ 0) → (1 ≤ x → 1 ≤ count_by_key itself (out_word e) l + count_by_key itself (in_word e) l) →
+  share_is : (x : ℕ) (l : List ℕ) → x ≤ 1 → (x ≡ 0 → count_by_key itself (out_word e) l + count_by_key itself (in_word e) l ≡ 0)
+      → (1 ≤ x → 1 ≤ count_by_key itself (out_word e) l + count_by_key itself (in_word e) l) →
       x ≡ to_bit (member e (map edge_of l))
   share_is zero l m a b = sym (ap to_bit (edge_none l (a refl)))
   share_is (suc x) l m a b = let z : suc x ≡ 1 = omega arith in z ∙ sym (ap to_bit (edge_some l (b (omega arith))))
@@ -125,7 +126,8 @@ module _ (s : State) (g : Graph) (h : Holds s g) (v : ℕ) (c : VertexThere g v)
     | differ i j ↦ elim (same? (edge g e).alpha (edge g e).omega) [
       | same p q ↦
           let x = words_share e f 0 (out_one e) (loop? e (omega arith) ∙ pick_yes _ _ _ _ p) (list_of g v) in
-          let w : count_by_key itself (in_word e) (list_of g v) ≡ count_by_key itself (out_word e) (list_of g v) = at_in e ∙ ap (λ (k : ℕ). if_equal k v (count_by_key edge_number e g.eseq) 0) q ∙ sym (at_out e) in
+          let w : count_by_key itself (in_word e) (list_of g v) ≡ count_by_key itself (out_word e) (list_of g v) =
+          at_in e ∙ ap (λ (k : ℕ). if_equal k v (count_by_key edge_number e g.eseq) 0) q ∙ sym (at_out e) in
           share_is e (share f edge_of e (list_of g v)) (list_of g v)
           (omega (arith, x, none_added e (list_of g v), ordered_list g h.sound v (out_word e)))
           (λ z. omega (arith, x, w, none_added e (list_of g v))) (λ z. omega (arith, x, w, none_added e (list_of g v)))

@@ -149,7 +149,8 @@ module _ (layout : LinkLayout) (t : List ℕ) (e e' : Ends) where
   nodes_any (suc f) k = go (λ j. nodes_any f j) (k == 0) refl
     where
       go : ((j : ℕ) → nodes_from (link_of forward layout t e) f j ≡ nodes_from (link_of forward layout t e') f j) → (b : Bool) → (k == 0) ≡ b
-          → (b ⇒ [] else (k ∷ nodes_from (link_of forward layout t e) f (link_of forward layout t e k))) ≡ (b ⇒ [] else (k ∷ nodes_from (link_of forward layout t e') f (link_of forward layout t e' k)))
+          → (b ⇒ [] else (k ∷ nodes_from (link_of forward layout t e) f (link_of forward layout t e k)))
+          ≡ (b ⇒ [] else (k ∷ nodes_from (link_of forward layout t e') f (link_of forward layout t e' k)))
       go ih true q = refl
       go ih false q = ap (λ (l : List ℕ). k ∷ l) (ih (link_of forward layout t e k) ∙ ap (nodes_from (link_of forward layout t e') f) (link_any k q))
 

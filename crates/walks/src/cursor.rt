@@ -1,6 +1,5 @@
 // A cursor in a vertex's incidence list, thin over `graph_tables::rows::word_next`.
-// A function over a struct that holds a reference is proved by a walk by hand. `following` has plain parameters, so its
-// callers are not.
+// `following` has plain parameters, for callers that hold no cursor.
 // A caller has a word whose half is in the table.
 ghost use Rattle.std.specs.Prelude.{◌≡◌};
 ghost use Rattle.graph_tables.specs.Tables.{HalfRowIn, wnext};
@@ -8,7 +7,7 @@ ghost use Rattle.graph_tables.specs.Tables.{HalfRowIn, wnext};
 use graph_tables::rows::word_next;
 
 // The edge table, and the present oriented word; 0 after the last.
-#[derive(Drop)]
+#[derive(Clone, Copy)]
 pub struct Cursor<'a> {
     pub edges: &'a [u32],
     pub word: u32,

@@ -3,7 +3,8 @@ use Rattle.change_codes.proofs.Meanings.{with_meaning, first_fails, first_passes
 use Rattle.change_codes.proofs.create_vertex.Goals as goal
 
 pub returns-then-code-ne0 : goal.returns-then-code-ne0
-returns-then-code-ne0 c = let a = c.args in let all = with_meaning (first_fails _ _ _ c.number_code-code.ensures c.if-code-ne0.true) (λ g h. create_vertex_means _ g h a.types a.n a.t) in record { value = all.0; value_2 = all.1 }
+returns-then-code-ne0 c = let a = c.args in let all =
+    with_meaning (first_fails _ _ _ c.number_code-code.ensures c.if-code-ne0.true) (λ g h. create_vertex_means _ g h a.types a.n a.t) in record { value = all.0; value_2 = all.1 }
 
 pub returns-in_default : goal.returns-in_default
 returns-in_default c =

@@ -38,4 +38,7 @@ returns-in-8 c = rw c.in-8.is
 
 pub returns-in_default : goal.returns-in_default
 unfolding edit_of
-returns-in_default c = let a = c.args in sym (ninth a.f a.g a.h a.i {k = a.k} ((((((((tt, λ e. omega (arith, e)), λ e. omega (arith, e)), λ e. omega (arith, e)), λ e. omega (arith, e)), λ e. omega (arith, e)), λ e. omega (arith, e)), λ e. omega (arith, e)), λ e. omega (arith, e)))
+returns-in_default c = let a = c.args in sym (ninth a.f a.g a.h a.i {k = a.k} (
+  (((((((tt, λ e. omega (arith, e)), λ e. omega (arith, e)), λ e. omega (arith, e)), λ e. omega (arith, e)), λ e. omega (arith, e)), λ e. omega (arith, e)), λ e. omega (arith, e)),
+  λ e. omega (arith, e),
+))

@@ -51,4 +51,5 @@ pub returns : goal.returns
 returns c =
     let l = c.loop-left in
     let a = c.args in
-    let e = cut_end a.set l.left l.a a.p l.s a.places.now l.invariant.0 c.loop-left-test.false l.invariant.1 in record { value = e; by_index = λ ms h. subst (λ (n : ℕ). Marked (cut_marks a.p ms) n a.places.now) (sym e) (cut_marked ms a.set a.p a.places.now h) }
+    let e = cut_end a.set l.left l.a a.p l.s a.places.now l.invariant.0 c.loop-left-test.false l.invariant.1 in
+    record { value = e; by_index = λ ms h. subst (λ (n : ℕ). Marked (cut_marks a.p ms) n a.places.now) (sym e) (cut_marked ms a.set a.p a.places.now h) }

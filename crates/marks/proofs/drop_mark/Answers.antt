@@ -7,4 +7,8 @@ pub returns : goal.returns
 returns c =
     let a = c.args in
     let yes = sym c.stands.ensures ∙ not-false _ c.if-not-stands.false-raw in
-    let w = in_range a.set a.a yes in record { value = without_is a.set a.a _ yes refl; by_index = λ places ms y h. mark_gone ms a.set places h a.a w.0 w.1 _ (sym (in_set_lem ms a.set places h a.a w.0 w.1) ∙ yes) refl }
+    let w = in_range a.set a.a yes in record {
+      value = without_is a.set a.a _ yes refl;
+      by_index =
+          λ places ms y h. mark_gone ms a.set places h a.a w.0 w.1 _ (sym (in_set_lem ms a.set places h a.a w.0 w.1) ∙ yes) refl;
+    }

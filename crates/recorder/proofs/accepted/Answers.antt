@@ -50,7 +50,12 @@ record_all-y-requires c =
     let x = begun a.start.now a.rows.now a.calls.now a.vertices.now a.edges.now a.journal.now a.answers.now a.image.now s.requires.image_value
     closure.result _ closed refl begin.result _ _ _ begin.auto.vertices begin.auto.edges refl begin.ensures in
     let f = covers_starts (parameters_of (given s)) a.start.now a.copies.now _ _
-    (past a.start.now a.rows.now a.calls.now a.vertices.now a.edges.now a.journal.now a.answers.now a.image.now s.requires.image_value).start_loads refl refl in record { can_begin = (parameters_of (given s), _, x, f, s.requires.size_value.0); calls_in_bounds = ((past a.start.now a.rows.now a.calls.now a.vertices.now a.edges.now a.journal.now a.answers.now a.image.now s.requires.image_value).answers_room, s.requires.size_value.1) }
+    (past a.start.now a.rows.now a.calls.now a.vertices.now a.edges.now a.journal.now a.answers.now a.image.now s.requires.image_value).start_loads refl refl in
+    record {
+      can_begin = (parameters_of (given s), _, x, f, s.requires.size_value.0);
+      calls_in_bounds =
+          ((past a.start.now a.rows.now a.calls.now a.vertices.now a.edges.now a.journal.now a.answers.now a.image.now s.requires.image_value).answers_room, s.requires.size_value.1);
+    }
 
 pub save-words-requires : goal.save-words-requires
 save-words-requires c =

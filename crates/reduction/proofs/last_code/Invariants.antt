@@ -11,7 +11,8 @@ use Rattle.reduction.proofs.last_code.Given as goal
 
 abbrev pub invariant-loop-i : goal.invariant-loop-i
 invariant-loop-i l =
-    (l.i ≤ l.n) × (length l.vertices ≡ length l.initial.vertices) × (length l.edges ≡ length l.initial.edges) × (length l.journal ≡ length l.initial.journal) × (length l.marks ≡ length l.initial.marks)
+    (l.i ≤ l.n) × (length l.vertices ≡ length l.initial.vertices) × (length l.edges ≡ length l.initial.edges) × (length l.journal ≡ length l.initial.journal)
+    × (length l.marks ≡ length l.initial.marks)
     × ((w : Parameters) → (m : Machine) → Running w l.initial.y (memory l.initial.vertices l.initial.edges l.initial.journal l.initial.marks) l.closed l.types m
     → Tried w m (calls_at l.calls (tried l.kept l.skip l.i)) l.y (memory l.vertices l.edges l.journal l.marks) l.closed l.types l.code)
 

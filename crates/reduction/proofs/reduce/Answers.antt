@@ -26,7 +26,8 @@ given-at-Then-calls-gt20000 c =
     let a = c.args in
     lent a.start.now a.rows.now a.calls.now a.vertices.now a.edges.now a.journal.now a.answers.now a.image.now
 
-told_at_Then_calls_gt20000 : (c : goal.Then-calls-gt20000) → (c.refusal-refused.result.code ≡ list_refusal (given-at-Then-calls-gt20000 c)) × (c.refusal-refused.result.number ≡ list_number (given-at-Then-calls-gt20000 c))
+told_at_Then_calls_gt20000 : (c : goal.Then-calls-gt20000) → (c.refusal-refused.result.code ≡ list_refusal (given-at-Then-calls-gt20000 c))
+    × (c.refusal-refused.result.number ≡ list_number (given-at-Then-calls-gt20000 c))
 told_at_Then_calls_gt20000 c =
     let a = c.args in
     c.refusal-refused.ensures (given-at-Then-calls-gt20000 c) (lends a.start.now a.rows.now a.calls.now a.vertices.now a.edges.now a.journal.now a.answers.now a.image.now)
@@ -36,7 +37,8 @@ given-at-Then-list-calls c =
     let a = c.args in
     lent a.start.now a.rows.now a.calls.now a.vertices.now a.edges.now a.journal.now a.answers.now a.image.now
 
-told_at_Then_list_calls : (c : goal.Then-list-calls) → (c.refusal-refused.result.code ≡ list_refusal (given-at-Then-list-calls c)) × (c.refusal-refused.result.number ≡ list_number (given-at-Then-list-calls c))
+told_at_Then_list_calls : (c : goal.Then-list-calls) → (c.refusal-refused.result.code ≡ list_refusal (given-at-Then-list-calls c))
+    × (c.refusal-refused.result.number ≡ list_number (given-at-Then-list-calls c))
 told_at_Then_list_calls c =
     let a = c.args in
     c.refusal-refused.ensures (given-at-Then-list-calls c) (lends a.start.now a.rows.now a.calls.now a.vertices.now a.edges.now a.journal.now a.answers.now a.image.now)
@@ -46,7 +48,8 @@ given-at-After-reduced-arg-5-1 c =
     let a = c.args in
     lent a.start.now a.rows.now a.calls.now a.vertices.now a.edges.now a.journal.now a.answers.now a.image.now
 
-told_at_After_reduced_arg_5_1 : (c : goal.After-reduced-arg-5-1) → (c.refusal-refused.result.code ≡ list_refusal (given-at-After-reduced-arg-5-1 c)) × (c.refusal-refused.result.number ≡ list_number (given-at-After-reduced-arg-5-1 c))
+told_at_After_reduced_arg_5_1 : (c : goal.After-reduced-arg-5-1) → (c.refusal-refused.result.code ≡ list_refusal (given-at-After-reduced-arg-5-1 c))
+    × (c.refusal-refused.result.number ≡ list_number (given-at-After-reduced-arg-5-1 c))
 told_at_After_reduced_arg_5_1 c =
     let a = c.args in
     c.refusal-refused.ensures (given-at-After-reduced-arg-5-1 c) (lends a.start.now a.rows.now a.calls.now a.vertices.now a.edges.now a.journal.now a.answers.now a.image.now)
@@ -56,7 +59,8 @@ given-at-After-slice_known-10-1 c =
     let a = c.args in
     lent a.start.now a.rows.now a.calls.now a.vertices.now a.edges.now a.journal.now a.answers.now a.image.now
 
-told_at_After_slice_known_10_1 : (c : goal.After-slice_known-10-1) → (c.refusal-refused.result.code ≡ list_refusal (given-at-After-slice_known-10-1 c)) × (c.refusal-refused.result.number ≡ list_number (given-at-After-slice_known-10-1 c))
+told_at_After_slice_known_10_1 : (c : goal.After-slice_known-10-1) → (c.refusal-refused.result.code ≡ list_refusal (given-at-After-slice_known-10-1 c))
+    × (c.refusal-refused.result.number ≡ list_number (given-at-After-slice_known-10-1 c))
 told_at_After_slice_known_10_1 c =
     let a = c.args in
     c.refusal-refused.ensures (given-at-After-slice_known-10-1 c) (lends a.start.now a.rows.now a.calls.now a.vertices.now a.edges.now a.journal.now a.answers.now a.image.now)
@@ -71,14 +75,17 @@ pub returns-then-calls-gt20000 : goal.returns-then-calls-gt20000
 returns-then-calls-gt20000 c =
     let d = c in
     let a = c.args in
-    let e = too_long_lem (given-at-Then-calls-gt20000 d) a.list.now (sym (told_at_Then_calls_gt20000 d).0 ∙ c.if-refused-ne0.false) (rw (lt-ltb 20000 (length a.calls.now / 5) c.if-calls-gt20000.true)) in record { list_after = e; untouched = λ z y. (refl, refl, refl, refl); least = is_least (given-at-Then-calls-gt20000 d) _ _ _ e }
+    let e = too_long_lem (given-at-Then-calls-gt20000 d) a.list.now (sym (told_at_Then_calls_gt20000 d).0 ∙ c.if-refused-ne0.false)
+    (rw (lt-ltb 20000 (length a.calls.now / 5) c.if-calls-gt20000.true)) in
+    record { list_after = e; untouched = λ z y. (refl, refl, refl, refl); least = is_least (given-at-Then-calls-gt20000 d) _ _ _ e }
 
 pub returns-then-list-calls : goal.returns-then-list-calls
 returns-then-list-calls c =
     let d = c in
     let a = c.args in
     let e = too_long_lem (given-at-Then-list-calls d) a.list.now (sym (told_at_Then_list_calls d).0 ∙ c.if-refused-ne0.false)
-    (rw (le-ltb 20000 (length a.calls.now / 5) c.if-calls-gt20000.false, lt-ltb (length a.list.now) (length a.calls.now) c.if-list-calls.true)) in record { list_after = e; untouched = λ z y. (refl, refl, refl, refl); least = is_least (given-at-Then-list-calls d) _ _ _ e }
+    (rw (le-ltb 20000 (length a.calls.now / 5) c.if-calls-gt20000.false, lt-ltb (length a.list.now) (length a.calls.now) c.if-list-calls.true)) in
+    record { list_after = e; untouched = λ z y. (refl, refl, refl, refl); least = is_least (given-at-Then-list-calls d) _ _ _ e }
 
 pub reduced-requires : goal.reduced-requires
 reduced-requires c =

@@ -29,7 +29,11 @@ pub trial-code-requires : goal.trial-code-requires
 trial-code-requires c =
     let s = c in
     let p = s.requires.can_try in
-    let l = c.loop-s in record { can_try = (p.0, ready_again p.0 _ _ _ _ _ _ p.1 _ _ _ l.invariant.2 l.invariant.3 l.invariant.4); tries = tries_without s.args.calls.now l.kept l.s.count l.invariant.6 l.s.at l.s.count (omega arith) c.loop-s-test.true }
+    let l = c.loop-s in record {
+      can_try = (p.0, ready_again p.0 _ _ _ _ _ _ p.1 _ _ _ l.invariant.2 l.invariant.3 l.invariant.4);
+      tries =
+          tries_without s.args.calls.now l.kept l.s.count l.invariant.6 l.s.at l.s.count (omega arith) c.loop-s-test.true;
+    }
 
 pub next_search-s-requires : goal.next_search-s-requires
 next_search-s-requires c = (

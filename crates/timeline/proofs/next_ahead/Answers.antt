@@ -40,4 +40,5 @@ returns c =
     let a = s.args in
     let e = c.if-u-a.false in
     let n = s.requires.3 e in
-    let w = c.cost_at-cost.ensures ∙ ap (λ (i : ℕ). (step_at a.journal.now i).cost) c.row_crossed-i.ensures in record { by_index = λ g ss q k. aims_next a.journal.now g ss q a.u a.a a.back k e n _ _ _ w c.shifted_by-end.ensures refl; advances = (λ z. omega (arith, n), λ z. absurd (z e)) }
+    let w = c.cost_at-cost.ensures ∙ ap (λ (i : ℕ). (step_at a.journal.now i).cost) c.row_crossed-i.ensures in
+    record { by_index = λ g ss q k. aims_next a.journal.now g ss q a.u a.a a.back k e n _ _ _ w c.shifted_by-end.ensures refl; advances = (λ z. omega (arith, n), λ z. absurd (z e)) }

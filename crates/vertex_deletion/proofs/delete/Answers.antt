@@ -29,7 +29,8 @@ abbrev tables-at-After-unchanged-then-free-cost : goal.After-unchanged-then-free
 tables-at-After-unchanged-then-free-cost s = state s.args.current.head s.args.vertices.now s.args.edges.now
 
 refused_at_After_unchanged_then_free_cost : (s : goal.After-unchanged-then-free-cost) (r : Made) (code : ℕ) → r ≡ record { head = s.args.current.head; code = code; cost = 0 }
-    → Deletes s.args.vertex s.args.free s.args.current.position (tables-at-After-unchanged-then-free-cost s) s.args.journal.now (outcome code 0 (tables-at-After-unchanged-then-free-cost s) s.args.journal.now)
+    → Deletes s.args.vertex s.args.free s.args.current.position (tables-at-After-unchanged-then-free-cost s) s.args.journal.now
+    (outcome code 0 (tables-at-After-unchanged-then-free-cost s) s.args.journal.now)
     → Deletes s.args.vertex s.args.free s.args.current.position (tables-at-After-unchanged-then-free-cost s) s.args.journal.now
     (outcome r.code r.cost (state r.head s.args.vertices.now s.args.edges.now) s.args.journal.now)
 refused_at_After_unchanged_then_free_cost s r code e d =

@@ -10,7 +10,11 @@ overflow_cast-capacity c = let p = c.requires.runs in omega (arith, p.2.represen
 pub carry_out-requires : goal.carry_out-requires
 carry_out-requires c =
     let s = c in
-    let p = s.requires.runs in record { running = (p.0, p.1, calls_of s.args.calls.now, p.2, reads_five s.args.calls.now, own_calls p.0 p.1 _ _ _ _ p.2 _ refl (calls_of s.args.calls.now)); granted = (used_fits p.0 p.1 _ _ _ _ p.2 _ refl, omega arith); count_in_bounds = (s.requires.calls_in_bounds, omega arith) }
+    let p = s.requires.runs in record {
+      running = (p.0, p.1, calls_of s.args.calls.now, p.2, reads_five s.args.calls.now, own_calls p.0 p.1 _ _ _ _ p.2 _ refl (calls_of s.args.calls.now));
+      granted = (used_fits p.0 p.1 _ _ _ _ p.2 _ refl, omega arith);
+      count_in_bounds = (s.requires.calls_in_bounds, omega arith);
+    }
 
 pub returns : goal.returns
 returns c =

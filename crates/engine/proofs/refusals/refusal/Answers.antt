@@ -111,7 +111,8 @@ returns-then-image-length c =
     let f = c in
     let e = f in
     λ l h.
-    image_refused l _ _ _ _ _ _ _ _ h (lengths_pass_at_Then_image_length e) (rows_good_at_Then_image_length e) f.check-found.result (found_at_Then_image_length f) (sym f.code_of-bad.ensures ∙ c.if-bad-ne0.false)
+    image_refused l _ _ _ _ _ _ _ _ h (lengths_pass_at_Then_image_length e) (rows_good_at_Then_image_length e) f.check-found.result (found_at_Then_image_length f)
+    (sym f.code_of-bad.ensures ∙ c.if-bad-ne0.false)
     (omega (arith, c.if-image-length.true, c.length.ensures))
 
 pub returns : goal.returns
@@ -119,7 +120,8 @@ returns c =
     let f = c in
     let e = f in
     λ l h.
-    none_refused l _ _ _ _ _ _ _ _ h (lengths_pass_at_Else_image_length e) (rows_good_at_Else_image_length e) f.check-found.result (found_at_Else_image_length f) (sym f.code_of-bad.ensures ∙ c.if-bad-ne0.false)
+    none_refused l _ _ _ _ _ _ _ _ h (lengths_pass_at_Else_image_length e) (rows_good_at_Else_image_length e) f.check-found.result (found_at_Else_image_length f)
+    (sym f.code_of-bad.ensures ∙ c.if-bad-ne0.false)
     (omega (arith, c.if-image-length.false, c.length.ensures))
 
 pub overflow_cast-v : goal.overflow_cast-v

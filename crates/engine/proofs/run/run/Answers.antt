@@ -28,7 +28,8 @@ given-at-After-accepted-arg-5-1 c =
     let a = c.args in
     lent a.start.now a.rows.now a.calls.now a.vertices.now a.edges.now a.journal.now a.answers.now a.image.now
 
-told_at_After_accepted_arg_5_1 : (c : goal.After-accepted-arg-5-1) → (c.refusal-refused.result.code ≡ list_refusal (given-at-After-accepted-arg-5-1 c)) × (c.refusal-refused.result.number ≡ list_number (given-at-After-accepted-arg-5-1 c))
+told_at_After_accepted_arg_5_1 : (c : goal.After-accepted-arg-5-1) → (c.refusal-refused.result.code ≡ list_refusal (given-at-After-accepted-arg-5-1 c))
+    × (c.refusal-refused.result.number ≡ list_number (given-at-After-accepted-arg-5-1 c))
 told_at_After_accepted_arg_5_1 c =
     let a = c.args in
     c.refusal-refused.ensures (given-at-After-accepted-arg-5-1 c) (lends a.start.now a.rows.now a.calls.now a.vertices.now a.edges.now a.journal.now a.answers.now a.image.now)
@@ -38,7 +39,8 @@ given-at-After-slice_known-10-1 c =
     let a = c.args in
     lent a.start.now a.rows.now a.calls.now a.vertices.now a.edges.now a.journal.now a.answers.now a.image.now
 
-told_at_After_slice_known_10_1 : (c : goal.After-slice_known-10-1) → (c.refusal-refused.result.code ≡ list_refusal (given-at-After-slice_known-10-1 c)) × (c.refusal-refused.result.number ≡ list_number (given-at-After-slice_known-10-1 c))
+told_at_After_slice_known_10_1 : (c : goal.After-slice_known-10-1) → (c.refusal-refused.result.code ≡ list_refusal (given-at-After-slice_known-10-1 c))
+    × (c.refusal-refused.result.number ≡ list_number (given-at-After-slice_known-10-1 c))
 told_at_After_slice_known_10_1 c =
     let a = c.args in
     c.refusal-refused.ensures (given-at-After-slice_known-10-1 c) (lends a.start.now a.rows.now a.calls.now a.vertices.now a.edges.now a.journal.now a.answers.now a.image.now)
@@ -51,7 +53,14 @@ returns-then-refused-ne0 c =
     let d = c in
     let t = told d in
     let n = c.if-refused-ne0.true in
-    let ran_as = run_refused (given d) _ _ t.0 t.1 n in record { image_value = ran_as; untouched = λ z. (refl, refl, refl); meets_demand1 = meets_demand_1 (given d) _ _ _ ran_as _ (λ z. (refl, refl, refl)); demand2 = meets_demand_2 (given d) _ _ _ ran_as (words d); meets_demand3 = λ z. absurd (n z) }
+    let ran_as = run_refused (given d) _ _ t.0 t.1 n in record {
+      image_value = ran_as;
+      untouched = λ z. (refl, refl, refl);
+      meets_demand1 =
+          meets_demand_1 (given d) _ _ _ ran_as _ (λ z. (refl, refl, refl));
+      demand2 = meets_demand_2 (given d) _ _ _ ran_as (words d);
+      meets_demand3 = λ z. absurd (n z);
+    }
 
 pub accepted-requires : goal.accepted-requires
 accepted-requires c = sym (told_at_After_accepted_arg_5_1 c).0 ∙ c.if-refused-ne0.false
@@ -60,4 +69,13 @@ pub returns : goal.returns
 returns c =
     let d = c in
     let e = sym (told_at_After_slice_known_10_1 d).0 ∙ c.if-refused-ne0.false in
-    let ran_as = run_accepted (given-at-After-slice_known-10-1 d) _ e c.accepted.ensures in record { image_value = ran_as; untouched = λ n. absurd (n e); meets_demand1 = meets_demand_1 (given-at-After-slice_known-10-1 d) _ _ _ ran_as _ (λ n. absurd (n e)); demand2 = meets_demand_2 (given-at-After-slice_known-10-1 d) _ _ _ ran_as (words_at_After_slice_known_10_1 d); meets_demand3 = λ z. meets_demand_3 (given-at-After-slice_known-10-1 d) _ _ _ ran_as e }
+    let ran_as = run_accepted (given-at-After-slice_known-10-1 d) _ e c.accepted.ensures in
+    record {
+      image_value = ran_as;
+      untouched = λ n. absurd (n e);
+      meets_demand1 = meets_demand_1 (given-at-After-slice_known-10-1 d) _ _ _ ran_as _ (λ n. absurd (n e));
+      demand2 =
+          meets_demand_2 (given-at-After-slice_known-10-1 d) _ _ _ ran_as (words_at_After_slice_known_10_1 d);
+      meets_demand3 =
+          λ z. meets_demand_3 (given-at-After-slice_known-10-1 d) _ _ _ ran_as e;
+    }

@@ -17,4 +17,8 @@ returns c =
     let e = c.new_code-code.ensures in
     let z = c.if-code-ne0.false in
     let d = c.set_mark-set.ensures in
-    let n = new_none a.store.set a.a _ e z in record { value = λ i. done (record { current = a.store.current; set = d.value i; bench = a.store.bench }) ((sym z ∙ e) i) 0; marks_after = places_put a.store a.a _ a.marks.now _ e z (in_marks a.a n.low n.high) d.places_after }
+    let n = new_none a.store.set a.a _ e z in record {
+      value = λ i. done (record { current = a.store.current; set = d.value i; bench = a.store.bench }) ((sym z ∙ e) i) 0;
+      marks_after =
+          places_put a.store a.a _ a.marks.now _ e z (in_marks a.a n.low n.high) d.places_after;
+    }

@@ -10,7 +10,11 @@ pub returns-then-q-place : goal.returns-then-q-place
 returns-then-q-place c = λ vertices edges b m capacity h f. no_farther b _ _ m h capacity (call_at c.args.call.now) _ c.place_ahead-q.ensures c.if-q-place.true
 
 pub too_far-requires : goal.too_far-requires
-too_far-requires c = let p = c.requires in record { steps_bound = reach_ahead p.2.0 _ _ p.2.1 p.2.2 0 (call_at c.args.call.now) _ c.place_ahead-q.ensures (omega (arith, c.if-q-place)); journal = (p.2.0, _, p.2.1.line, p.2.2.journal) }
+too_far-requires c = let p = c.requires in record {
+  steps_bound = reach_ahead p.2.0 _ _ p.2.1 p.2.2 0 (call_at c.args.call.now) _ c.place_ahead-q.ensures
+      (omega (arith, c.if-q-place));
+  journal = (p.2.0, _, p.2.1.line, p.2.2.journal);
+}
 
 pub returns : goal.returns
 returns c =

@@ -9,8 +9,10 @@ use Rattle.store_calls.proofs.serving.serve.Given as goal
 
 abbrev pub invariant-loop-k : goal.invariant-loop-k
 invariant-loop-k l =
-    (l.k ≤ l.n) × (length l.vertices ≡ length l.initial.vertices) × (length l.edges ≡ length l.initial.edges) × (length l.journal ≡ length l.initial.journal) × (length l.answers ≡ length l.initial.answers)
-    × ((w : Parameters) → (s : Stores) → s.count ≡ l.stores → l.initial.room ≡ joint_room s → Serving w (sizes l.v l.e l.t) l.initial.all (whole l.initial.vertices l.initial.edges l.initial.journal l.initial.marks) l.closed l.types s
+    (l.k ≤ l.n) × (length l.vertices ≡ length l.initial.vertices) × (length l.edges ≡ length l.initial.edges) × (length l.journal ≡ length l.initial.journal)
+    × (length l.answers ≡ length l.initial.answers)
+    × ((w : Parameters) → (s : Stores) → s.count ≡ l.stores → l.initial.room ≡ joint_room s
+    → Serving w (sizes l.v l.e l.t) l.initial.all (whole l.initial.vertices l.initial.edges l.initial.journal l.initial.marks) l.closed l.types s
     → AfterAll w (sizes l.v l.e l.t) s (take l.k (store_calls_of l.calls)) l.all (whole l.vertices l.edges l.journal l.marks) l.closed l.types l.initial.answers l.answers
     × (l.room ≡ joint_room (last_in w s (take l.k (store_calls_of l.calls)))))
     × RestStays l.stores l.v l.initial.vertices l.vertices × RestStays l.stores l.e l.initial.edges l.edges × RestStays l.stores l.t l.initial.journal l.journal

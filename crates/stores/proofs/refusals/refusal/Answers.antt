@@ -68,7 +68,8 @@ pub returns-then-found-ne0 : goal.returns-then-found-ne0
 returns-then-found-ne0 c =
     let s = c in
     let e = s in
-    λ l h. start_refused l _ _ _ _ _ _ _ _ _ h (lengths_pass_at_Then_found_ne0 e) (rows_good_at_Then_found_ne0 e) _ _ s.starts-found.ensures.code_value s.starts-found.ensures.number_value c.if-found-ne0.true
+    λ l h. start_refused l _ _ _ _ _ _ _ _ _ h (lengths_pass_at_Then_found_ne0 e) (rows_good_at_Then_found_ne0 e) _ _ s.starts-found.ensures.code_value s.starts-found.ensures.number_value
+    c.if-found-ne0.true
 
 pub returns-then-image-stores : goal.returns-then-image-stores
 returns-then-image-stores c =

@@ -71,7 +71,11 @@ returns-then-code-ne0 c =
     let e = l.invariant.2 ∙ code_here a.start.now l.at n (is_first c) b bad a.stores l.k
     c.loop-k-test.true in
     let o = l.invariant.3 ∙ offset_here a.start.now l.at n (is_first c) b bad a.stores l.k
-    c.loop-k-test.true in record { code_value = code ∙ sym e; number_value = c.number_at.ensures ∙ number_is l.at c.check-found.result ∙ (λ i. number_beside (code_of (f i)) (l.at + offset_of (f i))) ∙ (λ i. number_beside (sym e i) (sym o i)) }
+    c.loop-k-test.true in record {
+      code_value = code ∙ sym e;
+      number_value = c.number_at.ensures ∙ number_is l.at c.check-found.result
+          ∙ (λ i. number_beside (code_of (f i)) (l.at + offset_of (f i))) ∙ (λ i. number_beside (sym e i) (sym o i));
+    }
 
 pub overflow_add-at-in-loop-k : goal.overflow_add-at-in-loop-k
 overflow_add-at-in-loop-k c = omega (arith, image_end c, c.well_formed)
@@ -100,7 +104,8 @@ returns-then-at-start c =
     let b = bounds a.vertices a.edges a.types in
     let z : a.stores - l.k ≡ 0 = omega (arith, c.loop-k-test.false) in
     let e = l.invariant.2 ∙ code_over b (a.stores - l.k) l.at a.start.now z c.if-at-start.true in
-    let o = l.invariant.3 ∙ offset_end b (a.stores - l.k) l.at (drop l.at a.start.now) z in record { code_value = sym e; number_value = beside_none (starts_code b a.stores a.start.now) ∙ ap (λ (k : ℕ). number_beside (starts_code b a.stores a.start.now) k) (sym o) }
+    let o = l.invariant.3 ∙ offset_end b (a.stores - l.k) l.at (drop l.at a.start.now) z in
+    record { code_value = sym e; number_value = beside_none (starts_code b a.stores a.start.now) ∙ ap (λ (k : ℕ). number_beside (starts_code b a.stores a.start.now) k) (sym o) }
 
 pub returns : goal.returns
 returns c =
@@ -109,7 +114,8 @@ returns c =
     let b = bounds a.vertices a.edges a.types in
     let z : a.stores - l.k ≡ 0 = omega (arith, c.loop-k-test.false) in
     let e = l.invariant.2 ∙ code_end b (a.stores - l.k) l.at a.start.now z c.if-at-start.false in
-    let o = l.invariant.3 ∙ offset_end b (a.stores - l.k) l.at (drop l.at a.start.now) z in record { code_value = sym e; number_value = beside_none (starts_code b a.stores a.start.now) ∙ ap (λ (k : ℕ). number_beside (starts_code b a.stores a.start.now) k) (sym o) }
+    let o = l.invariant.3 ∙ offset_end b (a.stores - l.k) l.at (drop l.at a.start.now) z in
+    record { code_value = sym e; number_value = beside_none (starts_code b a.stores a.start.now) ∙ ap (λ (k : ℕ). number_beside (starts_code b a.stores a.start.now) k) (sym o) }
 
 pub offset_bounds-start-at : goal.offset_bounds-start-at
 offset_bounds-start-at c = omega arith

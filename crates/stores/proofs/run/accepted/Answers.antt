@@ -46,7 +46,8 @@ begun c =
     let s = c in
     let d = c in
     let x = c.open_all-all in
-    serving (given-at-After-serve-arg-4-1 s) s.requires d.closure-closed.result (length s.args.rows.now) (closed d) refl (omega (arith, s.ranges.limit)) x.result x.new.vertices x.new.edges s.args.journal.now
+    serving (given-at-After-serve-arg-4-1 s) s.requires d.closure-closed.result (length s.args.rows.now) (closed d) refl (omega (arith, s.ranges.limit)) x.result x.new.vertices x.new.edges
+    s.args.journal.now
     x.auto.vertices x.auto.edges refl x.ensures.many x.ensures.begun
 
 abbrev given-at-After-save_all-arg-1 : goal.After-save_all-arg-1 → LentStores
@@ -68,7 +69,8 @@ begun_at_After_save_all_arg_1 c =
     let s = c in
     let d = c in
     let x = c.open_all-all in
-    serving (given-at-After-save_all-arg-1 s) s.requires d.closure-closed.result (length s.args.rows.now) (closed_at_After_save_all_arg_1 d) refl (omega (arith, s.ranges.limit)) x.result x.new.vertices x.new.edges s.args.journal.now
+    serving (given-at-After-save_all-arg-1 s) s.requires d.closure-closed.result (length s.args.rows.now) (closed_at_After_save_all_arg_1 d) refl (omega (arith, s.ranges.limit)) x.result
+    x.new.vertices x.new.edges s.args.journal.now
     x.auto.vertices x.auto.edges refl x.ensures.many x.ensures.begun
 
 abbrev given-at-After-slice_known-12-1 : goal.After-slice_known-12-1 → LentStores
@@ -90,7 +92,8 @@ begun_at_After_slice_known_12_1 c =
     let s = c in
     let d = c in
     let x = c.open_all-all in
-    serving (given-at-After-slice_known-12-1 s) s.requires d.closure-closed.result (length s.args.rows.now) (closed_at_After_slice_known_12_1 d) refl (omega (arith, s.ranges.limit)) x.result x.new.vertices x.new.edges s.args.journal.now
+    serving (given-at-After-slice_known-12-1 s) s.requires d.closure-closed.result (length s.args.rows.now) (closed_at_After_slice_known_12_1 d) refl (omega (arith, s.ranges.limit)) x.result
+    x.new.vertices x.new.edges s.args.journal.now
     x.auto.vertices x.auto.edges refl x.ensures.many x.ensures.begun
 
 pub overflow_cast-types : goal.overflow_cast-types
@@ -138,4 +141,9 @@ returns c =
     let o = c in
     let k = c.serve-last in
     let all = k.ensures.served _ _ refl (room_is (given-at-After-slice_known-12-1 s) s.requires) (begun_at_After_slice_known_12_1 o) in
-    let behind = k.ensures.rest_stays in record { image_after = ends (given-at-After-slice_known-12-1 s) s.requires d.closure-closed.result _ (closed_at_After_slice_known_12_1 d) refl k.result _ _ all _ c.save_all-words.result c.save_all-words.ensures; behind_stays = (behind.0 ∙ o.open_all-all.ensures.behind_vertices, behind.1 ∙ o.open_all-all.ensures.behind_edges, behind.2) }
+    let behind = k.ensures.rest_stays in record {
+      image_after = ends (given-at-After-slice_known-12-1 s) s.requires d.closure-closed.result _ (closed_at_After_slice_known_12_1 d) refl
+          k.result _ _ all _ c.save_all-words.result c.save_all-words.ensures;
+      behind_stays =
+          (behind.0 ∙ o.open_all-all.ensures.behind_vertices, behind.1 ∙ o.open_all-all.ensures.behind_edges, behind.2);
+    }

@@ -83,7 +83,15 @@ returns-then-refused-ne0 c =
     let l = given c in
     let t = told c in
     let n = c.if-refused-ne0.true in
-    let ran_as = run_refused l _ _ t.0 t.1 n in record { image_value = ran_as; untouched_in = λ z. (refl, refl, refl); behind_stays = (refl, refl, refl); meets_demand1in = meets_1 l _ ran_as _ (λ z. (refl, refl, refl)); demand2in = meets_2 l _ ran_as (words c); meets_demand3in = λ z. absurd (n z) }
+    let ran_as = run_refused l _ _ t.0 t.1 n in record {
+      image_value = ran_as;
+      untouched_in = λ z. (refl, refl, refl);
+      behind_stays = (refl, refl, refl);
+      meets_demand1in =
+          meets_1 l _ ran_as _ (λ z. (refl, refl, refl));
+      demand2in = meets_2 l _ ran_as (words c);
+      meets_demand3in = λ z. absurd (n z);
+    }
 
 pub accepted-requires : goal.accepted-requires
 accepted-requires c = sym (told_at_After_accepted_arg_5_1 c).0 ∙ c.if-refused-ne0.false
@@ -93,4 +101,13 @@ returns c =
     let l = given-at-After-slice_known-10-1 c in
     let e = sym (told_at_After_slice_known_10_1 c).0
     ∙ c.if-refused-ne0.false in
-    let ran_as = run_accepted l _ e c.accepted.ensures.image_after in record { image_value = ran_as; untouched_in = λ n. absurd (n e); behind_stays = c.accepted.ensures.behind_stays; meets_demand1in = meets_1 l _ ran_as _ (λ n. absurd (n e)); demand2in = meets_2 l _ ran_as (words_at_After_slice_known_10_1 c); meets_demand3in = λ z. meets_3 l _ ran_as e }
+    let ran_as = run_accepted l _ e c.accepted.ensures.image_after in record {
+      image_value = ran_as;
+      untouched_in = λ n. absurd (n e);
+      behind_stays =
+          c.accepted.ensures.behind_stays;
+      meets_demand1in = meets_1 l _ ran_as _ (λ n. absurd (n e));
+      demand2in = meets_2 l _ ran_as (words_at_After_slice_known_10_1 c);
+      meets_demand3in =
+          λ z. meets_3 l _ ran_as e;
+    }

@@ -104,7 +104,8 @@ returns-then-not-begins c =
     (unnamed_other a.bytes.now (sym (not-true c.begins.result c.if-not-begins.true-raw) ∙ c.begins.ensures)) in record { verdict = all.0; words = all.1 }
 
 pub returns-then-bytes-len-ne10 : goal.returns-then-bytes-len-ne10
-returns-then-bytes-len-ne10 c = let a = c.args in let all = line_other (read_image a.bytes.now) a.out.now (unended_other a.bytes.now c.if-bytes-len-ne10.true) in record { verdict = all.0; words = all.1 }
+returns-then-bytes-len-ne10 c = let a = c.args in let all =
+    line_other (read_image a.bytes.now) a.out.now (unended_other a.bytes.now c.if-bytes-len-ne10.true) in record { verdict = all.0; words = all.1 }
 
 pub returns-then-len-eq6 : goal.returns-then-len-eq6
 returns-then-len-eq6 c =
