@@ -5,7 +5,7 @@ usage: respell.py [--dry] [--pages] [--table FILE] [--show FILE]
 
 Run at the top of a checkout, after the kit's port.py and before any edit by hand. A second run changes nothing.
 
-A word that begins with a small letter gets underscores, as sum_of and sum-of become sum_of. A word that begins with a
+A word that begins with a small letter gets underscores, as sumOf and sum-of become sum_of. A word that begins with a
 capital is a fact, a type or a module and keeps its letters: All-append becomes All_append. OTHER below has the names
 that get another spelling.
 What stays: names of Rust items, names from the kit's libraries, names that Rattle makes (a goal of a function's proof
@@ -13,7 +13,7 @@ that stands in its file as 'NAME : tie...', a step, a statement, a label), strin
 
 It prints a row for each name that changed, old and new, and the number of places. --dry writes no file.
 --pages also turns names in backquotes and in camel case in the pages (*.md, *.txt of the top, docs/, tests/, tools/,
-  bindings/) and in the tests' and the tools' own files, and names behind a module, as 'graph/specs/Graph: edge_of, ..'.
+  bindings/) and in the tests' and the tools' own files, and names behind a module, as 'graph/specs/Graph: edgeOf, ..'.
 --table FILE writes JSON: {module: {old: new}} of the names that each module declares, and under "" those of all.
 --show FILE writes those rows there in place of the output.
 
@@ -34,8 +34,8 @@ import sys
 # The same idea for several types has the type first: a state of the tables, a table's words, the ends of a list.
 OTHER = {}
 for _it in (
-    "apply attach detach dropEdge insertEdge insertVertex moveEdge moveVertex move_word placeEdge plan removeEdge "
-    "removeVertex set_edge set_this set_vertex"
+    "apply attach detach dropEdge insertEdge insertVertex moveEdge moveVertex moveWord placeEdge plan removeEdge "
+    "removeVertex setEdge setThis setVertex"
 ).split():
     OTHER[_it + "S"] = "state_" + re.sub("[A-Z]", lambda m: "_" + m[0].lower(), _it)
 for _it in "insert join move put unlink".split():
@@ -43,20 +43,20 @@ for _it in "insert join move put unlink".split():
     OTHER[_it + "E"] = "ends_" + _it
 
 OTHER.update(
-    state_add_vertex="state_add_vertex", state_add_edge="state_add_edge", state_add_word="state_add_word",
-    table_vertex_row="table_vertex_row", table_edge_row="table_edge_row", table_edge_this="table_edge_this",
-    head_with_vertices="head_with_vertices", head_with_edges="head_with_edges", lookup_vertex="lookup_vertex", lookup_edge="lookup_edge",
+    vertexS="state_add_vertex", edgeS="state_add_edge", wordS="state_add_word",
+    rowVT="table_vertex_row", rowET="table_edge_row", thisET="table_edge_this",
+    countV="head_with_vertices", countE="head_with_edges", foundV="lookup_vertex", foundE="lookup_edge",
 )
 # The function is get_or, no longer getD.
-OTHER["get_or_above"], OTHER["get_or_below"] = "get_or_above", "get_or_below"
+OTHER["getD-above"], OTHER["getD-below"] = "get_or_above", "get_or_below"
 
 # A field or a definition that would meet a function, a field or a library's name beside it.
 OTHER["edge-numbers"] = "distinct_edge_numbers"
 OTHER["vertex-numbers"] = "distinct_vertex_numbers"
 OTHER["call-words"] = "length_calls"
-OTHER["end_line"] = "end_line"
-OTHER["count_by_key"] = "count_by_key"  # std's Prelude has a count_by
-OTHER["vertex_ends"] = "vertex_ends"
+OTHER["lastLine"] = "end_line"
+OTHER["countBy"] = "count_by_key"  # std's Prelude has a count_by
+OTHER["endsAt"] = "vertex_ends"
 
 # Names that one module declares. Most are a lemma that would have its function's name, which gets '_lem'.
 OTHER_IN = {
@@ -64,7 +64,7 @@ OTHER_IN = {
     "Rattle.lists.proofs.Counts": {"count_by": "count_by_key_lem"},
     "Rattle.timeline.proofs.lent.put_place.Proof": {"at_place": "at_place_fn"},
     "Rattle.timeline.proofs.lent.put_step.Proof": {"after-step": "after_step_fn"},
-    "Rattle.recorder.proofs.OutcomeLaws": {"too_few": "too_few_copies"},
+    "Rattle.recorder.proofs.OutcomeLaws": {"tooFew": "too_few_copies"},
     "Rattle.store_calls.proofs.GuardLaws": {"mark-place": "mark_place_lem", "place-in": "place_in_steps"},
 }
 for _module, _names in {
@@ -595,6 +595,9 @@ class Repository:
             for path in files(top, ""):
                 name = os.path.basename(path)
                 script = top in ("tests", "tools") and "." not in name
+                # this script says old names beside new ones
+                if name == "respell.py":
+                    continue
                 if script or name.endswith((".md", ".py", ".sh", ".rs", ".c", ".cpp", ".h")):
                     yield path
         for path in files("crates", (".md",)):
