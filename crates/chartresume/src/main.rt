@@ -28,6 +28,6 @@ fn respond(rt: &impl Print, input: &[u8]) {
 // 400,000 bytes for the image's line, 60,000 for the calls and one more, so a longer input is seen to be too long.
 fn main(rt: HostRuntime) {
     let mut input = [0u8; 460001];
-    let count = read_whole(&mut rt.stdin(), &mut input);
+    let (Ok(count) | Err(count)) = read_whole(&mut rt.stdin(), &mut input);
     respond(&rt, front(&input, count));
 }

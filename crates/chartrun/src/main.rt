@@ -32,6 +32,6 @@ fn respond_to(rt: &impl Print, bytes: &[u8], count: usize) {
 // The buffer has room for more than 60,000 bytes, so a longer input is seen to be too long.
 fn main(rt: HostRuntime) {
     let mut bytes = [0u8; 65536];
-    let count = read_whole(&mut rt.stdin(), &mut bytes);
+    let (Ok(count) | Err(count)) = read_whole(&mut rt.stdin(), &mut bytes);
     respond_to(&rt, &bytes, count);
 }

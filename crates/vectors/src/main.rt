@@ -246,6 +246,6 @@ fn room() -> [u8; 100000] {
 
 fn main(rt: HostRuntime) {
     let mut bytes = room();
-    let count = read_whole(&mut rt.stdin(), &mut bytes);
+    let (Ok(count) | Err(count)) = read_whole(&mut rt.stdin(), &mut bytes);
     cases(&rt, between(&bytes, 0, count));
 }
