@@ -1,4 +1,5 @@
 pub mod JournalRowLaws
 pub mod Steps
 pub mod Going
+pub mod Cells
 pub mod Counting

@@ -1,3 +1,4 @@
+pub mod ByHand
 pub mod ListWalks
 pub mod Walkable
 pub mod DistinctSums
