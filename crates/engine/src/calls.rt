@@ -107,7 +107,9 @@ pub fn one(
 ) -> Called
     requires runs { Runs store vertices.old edges.old journal.old marks.old closed.now types }
     requires call_len { length call.now ≡ 5 }
-    ensures { Answers (command_of (call_at call.now)) (length journal.old / 12) store result (memory vertices.old edges.old journal.old marks.old) (memory vertices.new edges.new journal.new marks.new) closed.now types }
+    ensures { Answers (command_of (call_at call.now)) (length journal.old / 12) store result
+        (memory vertices.old edges.old journal.old marks.old) (memory vertices.new edges.new journal.new marks.new)
+        closed.now types }
 {
     let mut answer = [0u32; 2];
     let y = each(

@@ -66,10 +66,16 @@ pub fn run(
     answers: &mut [u32],
     image: &mut [u32],
 ) -> RunResult
-    ensures image_value { run_result result answers.new image.new ≡ run_of (lent start.now rows.now calls.now vertices.old edges.old journal.old answers.old image.old) }
-    ensures untouched { Untouched (lent start.now rows.now calls.now vertices.old edges.old journal.old answers.old image.old) (slice vertices.old vertices.new) (slice edges.old edges.new) (slice journal.old journal.new) }
-    ensures meets_demand1 { MeetsDemand1 (lent start.now rows.now calls.now vertices.old edges.old journal.old answers.old image.old) (run_result result answers.new image.new) (slice vertices.old vertices.new) (slice edges.old edges.new) (slice journal.old journal.new) }
-    ensures demand2 { Demand2 (lent start.now rows.now calls.now vertices.old edges.old journal.old answers.old image.old) (run_result result answers.new image.new) }
+    ensures image_value { run_result result answers.new image.new
+        ≡ run_of (lent start.now rows.now calls.now vertices.old edges.old journal.old answers.old image.old) }
+    ensures untouched { Untouched (lent start.now rows.now calls.now vertices.old edges.old journal.old answers.old image.old)
+        (slice vertices.old vertices.new) (slice edges.old edges.new) (slice journal.old journal.new) }
+    ensures meets_demand1 { MeetsDemand1
+        (lent start.now rows.now calls.now vertices.old edges.old journal.old answers.old image.old)
+        (run_result result answers.new image.new) (slice vertices.old vertices.new) (slice edges.old edges.new)
+        (slice journal.old journal.new) }
+    ensures demand2 { Demand2 (lent start.now rows.now calls.now vertices.old edges.old journal.old answers.old image.old)
+        (run_result result answers.new image.new) }
     ensures meets_demand3 { MeetsDemand3 (lent start.now rows.now calls.now vertices.old edges.old journal.old answers.old image.old)
         (run_result result answers.new image.new) }
 {

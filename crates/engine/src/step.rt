@@ -23,7 +23,8 @@ pub fn step(
     command: Command,
 ) -> Called
     requires { Runs store vertices.old edges.old journal.old marks.old closed.now types × Granted capacity store journal.old }
-    ensures answers_near { AnswersNear command capacity store result (memory vertices.old edges.old journal.old marks.old) (memory vertices.new edges.new journal.new marks.new) closed.now types }
+    ensures answers_near { AnswersNear command capacity store result (memory vertices.old edges.old journal.old marks.old)
+        (memory vertices.new edges.new journal.new marks.new) closed.now types }
     ensures leaves { Leaves store (memory vertices.old edges.old journal.old marks.old) result (memory vertices.new edges.new journal.new marks.new) }
 {
     match command {

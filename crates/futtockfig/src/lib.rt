@@ -48,10 +48,16 @@ pub extern "C" fn futtockfig_run(
     answers: &mut [u32],
     image: &mut [u32],
 ) -> RunResult
-    ensures image_value { run_result result answers.new image.new ≡ run_of (lent start.now rows.now calls.now vertices.old edges.old journal.old answers.old image.old) }
-    ensures untouched { Untouched (lent start.now rows.now calls.now vertices.old edges.old journal.old answers.old image.old) (slice vertices.old vertices.new) (slice edges.old edges.new) (slice journal.old journal.new) }
-    ensures meets_demand1 { MeetsDemand1 (lent start.now rows.now calls.now vertices.old edges.old journal.old answers.old image.old) (run_result result answers.new image.new) (slice vertices.old vertices.new) (slice edges.old edges.new) (slice journal.old journal.new) }
-    ensures demand2 { Demand2 (lent start.now rows.now calls.now vertices.old edges.old journal.old answers.old image.old) (run_result result answers.new image.new) }
+    ensures image_value { run_result result answers.new image.new
+        ≡ run_of (lent start.now rows.now calls.now vertices.old edges.old journal.old answers.old image.old) }
+    ensures untouched { Untouched (lent start.now rows.now calls.now vertices.old edges.old journal.old answers.old image.old)
+        (slice vertices.old vertices.new) (slice edges.old edges.new) (slice journal.old journal.new) }
+    ensures meets_demand1 { MeetsDemand1
+        (lent start.now rows.now calls.now vertices.old edges.old journal.old answers.old image.old)
+        (run_result result answers.new image.new) (slice vertices.old vertices.new) (slice edges.old edges.new)
+        (slice journal.old journal.new) }
+    ensures demand2 { Demand2 (lent start.now rows.now calls.now vertices.old edges.old journal.old answers.old image.old)
+        (run_result result answers.new image.new) }
     ensures meets_demand3 { MeetsDemand3 (lent start.now rows.now calls.now vertices.old edges.old journal.old answers.old image.old)
         (run_result result answers.new image.new) }
 {
@@ -75,12 +81,18 @@ pub extern "C" fn futtockfig_run_stores(
 ) -> RunResult
     ensures image_value { run_result result answers.new image.new
         ≡ run_in (several (lent start.now rows.now calls.now vertices.old edges.old journal.old answers.old image.old) stores limit) }
-    ensures untouched_in { UntouchedIn (several (lent start.now rows.now calls.now vertices.old edges.old journal.old answers.old image.old) stores limit) (slice vertices.old vertices.new) (slice edges.old edges.new) (slice journal.old journal.new) }
+    ensures untouched_in { UntouchedIn
+        (several (lent start.now rows.now calls.now vertices.old edges.old journal.old answers.old image.old) stores limit)
+        (slice vertices.old vertices.new) (slice edges.old edges.new) (slice journal.old journal.new) }
     ensures behind_stays { BehindStays stores (slice vertices.old vertices.new) (slice edges.old edges.new) (slice journal.old journal.new) }
-    ensures meets_demand1in { MeetsDemand1In (several (lent start.now rows.now calls.now vertices.old edges.old journal.old answers.old image.old) stores limit) (run_result result answers.new image.new) (slice vertices.old vertices.new) (slice edges.old edges.new) (slice journal.old journal.new) }
+    ensures meets_demand1in { MeetsDemand1In
+        (several (lent start.now rows.now calls.now vertices.old edges.old journal.old answers.old image.old) stores limit)
+        (run_result result answers.new image.new) (slice vertices.old vertices.new) (slice edges.old edges.new)
+        (slice journal.old journal.new) }
     ensures demand2in { Demand2In (several (lent start.now rows.now calls.now vertices.old edges.old journal.old answers.old image.old) stores limit)
         (run_result result answers.new image.new) }
-    ensures meets_demand3in { MeetsDemand3In (several (lent start.now rows.now calls.now vertices.old edges.old journal.old answers.old image.old) stores limit)
+    ensures meets_demand3in { MeetsDemand3In
+        (several (lent start.now rows.now calls.now vertices.old edges.old journal.old answers.old image.old) stores limit)
         (run_result result answers.new image.new) }
 {
     run_stores(
@@ -177,9 +189,14 @@ pub extern "C" fn futtockfig_record(
 ) -> RunResult
     ensures copies_after { after_recording (run_result result answers.new image.new) copies.new
         ≡ recording (lent start.now rows.now calls.now vertices.old edges.old journal.old answers.old image.old) copies.old }
-    ensures leaves_tables { LeavesTables (lent start.now rows.now calls.now vertices.old edges.old journal.old answers.old image.old) (length copies.old) (slice vertices.old vertices.new) (slice edges.old edges.new) (slice journal.old journal.new) }
-    ensures records1 { Records1 (lent start.now rows.now calls.now vertices.old edges.old journal.old answers.old image.old) (run_result result answers.new image.new) (slice vertices.old vertices.new) (slice edges.old edges.new) (slice journal.old journal.new) }
-    ensures records2 { Records2 (lent start.now rows.now calls.now vertices.old edges.old journal.old answers.old image.old) (run_result result answers.new image.new) }
+    ensures leaves_tables { LeavesTables
+        (lent start.now rows.now calls.now vertices.old edges.old journal.old answers.old image.old) (length copies.old)
+        (slice vertices.old vertices.new) (slice edges.old edges.new) (slice journal.old journal.new) }
+    ensures records1 { Records1 (lent start.now rows.now calls.now vertices.old edges.old journal.old answers.old image.old)
+        (run_result result answers.new image.new) (slice vertices.old vertices.new) (slice edges.old edges.new)
+        (slice journal.old journal.new) }
+    ensures records2 { Records2 (lent start.now rows.now calls.now vertices.old edges.old journal.old answers.old image.old)
+        (run_result result answers.new image.new) }
     ensures meets_demand3 { MeetsDemand3 (lent start.now rows.now calls.now vertices.old edges.old journal.old answers.old image.old)
         (run_result result answers.new image.new) }
 {
@@ -203,7 +220,8 @@ pub extern "C" fn futtockfig_reduce(
 ) -> Reduction
     ensures list_after { after_reduction result list.new
         ≡ reduction_of (lent start.now rows.now calls.now vertices.old edges.old journal.old answers.old image.now) list.old }
-    ensures leaves_all { LeavesAll result (slice vertices.old vertices.new) (slice edges.old edges.new) (slice journal.old journal.new) (slice answers.old answers.new) }
+    ensures leaves_all { LeavesAll result (slice vertices.old vertices.new) (slice edges.old edges.new)
+        (slice journal.old journal.new) (slice answers.old answers.new) }
     ensures least { IsLeast (lent start.now rows.now calls.now vertices.old edges.old journal.old answers.old image.now) result list.new }
 {
     reduce(

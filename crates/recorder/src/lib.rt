@@ -111,7 +111,8 @@ fn performed(
     role: Role,
 ) -> Called
     requires call_len { (length call.now ≡ 5) × (role ≡ role_of (command_of (call_at call.now))) }
-    requires can_record { CanRecord store start.now vertices.old edges.old journal.old marks.old closed.now types copies.now size numbers.now used.now }
+    requires can_record { CanRecord store start.now vertices.old edges.old journal.old marks.old closed.now types copies.now size
+        numbers.now used.now }
     ensures { (w : Parameters) → (m : Machine) → (lent : List ℕ) → (gs : List Graph) → (n : ℕ)
         → Running w store (memory vertices.old edges.old journal.old marks.old) closed.now types m
         → Covers w start.now lent copies.now numbers.now used.now gs n m
@@ -145,7 +146,8 @@ fn record_call(
     used: &mut [u32; PLACES],
 ) -> Progress
     requires call_len { (length call.now ≡ 5) × HasStretch call.now size count (length copies.old) }
-    requires can_add { CanAdd store start.now vertices.old edges.old journal.old marks.old closed.now types copies.old size numbers.old used.old count }
+    requires can_add { CanAdd store start.now vertices.old edges.old journal.old marks.old closed.now types copies.old size
+        numbers.old used.old count }
     ensures { (w : Parameters) → (m : Machine) → (lent : List ℕ) → (gs : List Graph)
         → Running w store (memory vertices.old edges.old journal.old marks.old) closed.now types m
         → Covers w start.now lent copies.old numbers.old used.old gs count m
@@ -260,7 +262,8 @@ fn accepted(
         vertices.old edges.old journal.old answers.old image.old) ≡ 0 }
     requires size_value { (size ≡ image_length (length vertices.old / 8) (length edges.old / 12))
         × (size * changes_in (calls_of calls.now) ≤ length copies.old) }
-    ensures { (run_result result answers.new image.new ≡ accepted_of (lent start.now rows.now calls.now vertices.old edges.old journal.old answers.old image.old))
+    ensures { (run_result result answers.new image.new ≡ accepted_of
+        (lent start.now rows.now calls.now vertices.old edges.old journal.old answers.old image.old))
         × (copies.new ≡ recorded size (made_in (lent start.now rows.now calls.now vertices.old edges.old journal.old answers.old image.old))
         copies.old) }
 {
@@ -310,8 +313,12 @@ pub fn record_run(
 ) -> RunResult
     ensures copies_after { after_recording (run_result result answers.new image.new) copies.new
         ≡ recording (lent start.now rows.now calls.now vertices.old edges.old journal.old answers.old image.old) copies.old }
-    ensures untouched { Untouched (lent start.now rows.now calls.now vertices.old edges.old journal.old answers.old image.old) (length copies.old) (slice vertices.old vertices.new) (slice edges.old edges.new) (slice journal.old journal.new) }
-    ensures meets_demand1 { MeetsDemand1 (lent start.now rows.now calls.now vertices.old edges.old journal.old answers.old image.old) (run_result result answers.new image.new) (slice vertices.old vertices.new) (slice edges.old edges.new) (slice journal.old journal.new) }
+    ensures untouched { Untouched (lent start.now rows.now calls.now vertices.old edges.old journal.old answers.old image.old)
+        (length copies.old) (slice vertices.old vertices.new) (slice edges.old edges.new) (slice journal.old journal.new) }
+    ensures meets_demand1 { MeetsDemand1
+        (lent start.now rows.now calls.now vertices.old edges.old journal.old answers.old image.old)
+        (run_result result answers.new image.new) (slice vertices.old vertices.new) (slice edges.old edges.new)
+        (slice journal.old journal.new) }
     ensures meets_demand2 { MeetsDemand2 (lent start.now rows.now calls.now vertices.old edges.old journal.old answers.old image.old)
         (run_result result answers.new image.new) }
     ensures meets_demand3 { MeetsDemand3 (lent start.now rows.now calls.now vertices.old edges.old journal.old answers.old image.old)

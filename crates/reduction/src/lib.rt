@@ -294,7 +294,8 @@ pub fn reduce(
 ) -> Reduction
     ensures list_after { after_reduction result list.new
         ≡ reduction (lent start.now rows.now calls.now vertices.old edges.old journal.old answers.old image.now) list.old }
-    ensures untouched { Untouched result (slice vertices.old vertices.new) (slice edges.old edges.new) (slice journal.old journal.new) (slice answers.old answers.new) }
+    ensures untouched { Untouched result (slice vertices.old vertices.new) (slice edges.old edges.new)
+        (slice journal.old journal.new) (slice answers.old answers.new) }
     ensures least { IsLeast (lent start.now rows.now calls.now vertices.old edges.old journal.old answers.old image.now) result list.new }
 {
     let refused = refusal(

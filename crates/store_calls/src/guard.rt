@@ -157,7 +157,8 @@ pub fn answer(
     requires in_bounds { 6 ≤ length calls.now }
     requires calls_in_bounds { 2 * (length calls.now / 6) ≤ length answers.old }
     ensures alike { Alike result.calls calls.now }
-    ensures takes { Takes there capacity store result (memory vertices.old edges.old journal.old marks.old) (memory vertices.new edges.new journal.new marks.new) closed.now types calls.now answers.old answers.new }
+    ensures takes { Takes there capacity store result (memory vertices.old edges.old journal.old marks.old)
+        (memory vertices.new edges.new journal.new marks.new) closed.now types calls.now answers.old answers.new }
 {
     if !there {
         refuse(answers, 21);

@@ -50,7 +50,8 @@ pub fn serve(
 ) -> [Store; 8]
     requires serves { Serves first vertices.old edges.old journal.old marks.old closed.now types stores joint v e t }
     requires calls_in_bounds { 2 * (length calls.now / 6) ≤ length answers.old }
-    ensures served { Served first result (whole vertices.old edges.old journal.old marks.old) (whole vertices.new edges.new journal.new marks.new) closed.now types calls.now answers.old answers.new stores joint v e t }
+    ensures served { Served first result (whole vertices.old edges.old journal.old marks.old)
+        (whole vertices.new edges.new journal.new marks.new) closed.now types calls.now answers.old answers.new stores joint v e t }
     ensures rest_stays { RestStays stores v vertices.old vertices.new
         × RestStays stores e edges.old edges.new
         × RestStays stores t journal.old journal.new }

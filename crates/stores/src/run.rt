@@ -69,12 +69,18 @@ pub fn run(
 ) -> RunResult
     ensures image_value { run_result result answers.new image.new
         ≡ run_in (several (lent start.now rows.now calls.now vertices.old edges.old journal.old answers.old image.old) stores limit) }
-    ensures untouched_in { UntouchedIn (several (lent start.now rows.now calls.now vertices.old edges.old journal.old answers.old image.old) stores limit) (slice vertices.old vertices.new) (slice edges.old edges.new) (slice journal.old journal.new) }
+    ensures untouched_in { UntouchedIn
+        (several (lent start.now rows.now calls.now vertices.old edges.old journal.old answers.old image.old) stores limit)
+        (slice vertices.old vertices.new) (slice edges.old edges.new) (slice journal.old journal.new) }
     ensures behind_stays { BehindStays stores (slice vertices.old vertices.new) (slice edges.old edges.new) (slice journal.old journal.new) }
-    ensures meets_demand1in { MeetsDemand1In (several (lent start.now rows.now calls.now vertices.old edges.old journal.old answers.old image.old) stores limit) (run_result result answers.new image.new) (slice vertices.old vertices.new) (slice edges.old edges.new) (slice journal.old journal.new) }
+    ensures meets_demand1in { MeetsDemand1In
+        (several (lent start.now rows.now calls.now vertices.old edges.old journal.old answers.old image.old) stores limit)
+        (run_result result answers.new image.new) (slice vertices.old vertices.new) (slice edges.old edges.new)
+        (slice journal.old journal.new) }
     ensures demand2in { Demand2In (several (lent start.now rows.now calls.now vertices.old edges.old journal.old answers.old image.old) stores limit)
         (run_result result answers.new image.new) }
-    ensures meets_demand3in { MeetsDemand3In (several (lent start.now rows.now calls.now vertices.old edges.old journal.old answers.old image.old) stores limit)
+    ensures meets_demand3in { MeetsDemand3In
+        (several (lent start.now rows.now calls.now vertices.old edges.old journal.old answers.old image.old) stores limit)
         (run_result result answers.new image.new) }
 {
     let k = stores as usize;

@@ -1,4 +1,4 @@
--- A `Current` in memory: its cell beside what it owns. What lends a local of this type cites it.
+-- A `Current` in memory: its cell beside what it owns. It serves a proof by hand of what lends a local of this type; there is none today.
 use Prim.Native.Nat.{ℕ}
 use mathlib.Core.List.{[], ◌∷◌, List}
 use seplogic.Ra.Ura.{Ura}

@@ -1,4 +1,4 @@
--- What the walks by hand share: the type of `Cursor` over a signature's one lifetime, and what a callee's `ensures` tells.
+-- What walks by hand share, of which there is none today: the type of `Cursor` over a signature's one lifetime, and what a callee's `ensures` tells.
 use seplogic.Ra.Ura.{Ura}
 use base.Logic.{ent, via, snd∗, ex_e}
 use types.Logic.{Logic, sem}
