@@ -5,7 +5,6 @@ use mathlib.Core.Logic.{◌≢◌}
 use mathlib.Core.Bool.{true}
 use mathlib.Core.List.{List, [], ◌∷◌, map}
 use native.Mathlib.Omega.{arith}
-use Rattle.lists.specs.Lists.{count}
 use Rattle.lists.specs.Keyed.{count_by_key, update_by}
 use Rattle.lists.specs.Arranged.{in_order}
 use Rattle.lists.proofs.Arranged.{times, order_keys, order_finds}

@@ -21,7 +21,7 @@ use Rattle.image.specs.Image.{load}
 use Rattle.image_check.specs.Checks.{saved_bounds, load_code}
 use Rattle.image_check.proofs.LoadCodes.{code_loads}
 use Rattle.image.proofs.Loads.{loaded}
-use Rattle.history.specs.Machine.{Machine, fresh, present}
+use Rattle.history.specs.Machine.{Machine, present}
 use Rattle.commands.specs.Calls.{Call, five, calls_of}
 use Rattle.machine.specs.Calls.{Parameters, bounds_in}
 use Rattle.machine.specs.Codes.{free}

@@ -19,10 +19,10 @@ use Rattle.history_calls.specs.Outcomes.{done}
 use Rattle.history_calls.proofs.Present.{holds_present, sized_present}
 use Rattle.history.specs.Machine.{Machine, free_of, present}
 use Rattle.timeline.proofs.Steps.{journal_free}
-use Rattle.machine.specs.Rules.{nothing, effected, deed, Rule, answered, followed, change_rule, history_rule}
+use Rattle.machine.specs.Rules.{nothing, effected, Rule, answered, followed, change_rule, history_rule}
 use Rattle.machine.specs.HistoryCodes.{out_of_reach}
 use Rattle.machine.specs.Calls.{Parameters, bounds_in}
-use Rattle.commands.specs.Commands.{history_call, call_of}
+use Rattle.commands.specs.Commands.{history_call}
 use Rattle.commands.specs.declared.HistoryCall.{HistoryCall}
 use Rattle.commands.specs.declared.Question.{Question}
 use Rattle.commands.specs.declared.PriceCall.{PriceCall}

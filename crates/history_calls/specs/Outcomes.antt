@@ -1,5 +1,5 @@
 -- What the history calls return, where nothing is left open, and what a refused one leaves.
-use Rattle.std.specs.Prelude.{ℕ, ◌-◌, ◌≡◌, true, false, ◌≢◌, List, ltb, ◌==◌}
+use Rattle.std.specs.Prelude.{ℕ, ◌≡◌, true, false, ◌≢◌, List, ltb, ◌==◌}
 use Rattle.std.specs.Int.Count.{ones}
 use Rattle.lists.specs.Choice.{◌⇒◌else◌}
 use Rattle.commands.specs.declared.HistoryCall.{HistoryCall}

@@ -5,7 +5,7 @@ use mathlib.Core.List.{List}
 use native.Mathlib.Omega.{arith}
 use lib.ListN.{get_or, set}
 use lib.Seq.{get_or-set_other}
-use Rattle.journal.specs.Rows.{row_at, step_at, costing, edit_of}
+use Rattle.journal.specs.Rows.{row_at, step_at}
 
 module _ (t : List ℕ) (i j x : ℕ) where
   other : (k : ℕ) → k < 11 → get_or (set t (12 * i + 11) x) (12 * j + k) 0 ≡ get_or t (12 * j + k) 0

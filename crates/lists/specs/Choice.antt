@@ -1,5 +1,5 @@
 -- Choices by a test, and by equality of two numbers.
-use Rattle.std.specs.Prelude.{ℕ, Bool, true, false, ◌&&◌, eqb, leb, ◌==◌}
+use Rattle.std.specs.Prelude.{ℕ, Bool, true, false, ◌&&◌, leb, ◌==◌}
 
 infixr 5 ◌⇒◌else◌
 -- the first value where the test holds, else the second

@@ -1,5 +1,4 @@
 -- A price is read off the present graph alone, so it comes back with the graph of a mark; where code 17 is given.
-use Rattle.std.specs.Prelude.{◌==◌}
 use Prim.Native.Nat.{ℕ, ◌<◌}
 use mathlib.Core.Path.{◌≡◌, refl, sym, ap, ◌∙◌}
 use mathlib.Core.Logic.{◌↔◌}
@@ -21,7 +20,6 @@ use Rattle.commands.specs.Commands.{command_of}
 use Rattle.machine.specs.Calls.{Parameters}
 use Rattle.prices.specs.Prices.{nothing_heard}
 use Rattle.machine.specs.Codes.{lacks_vertex, price_code}
-use Rattle.commands.specs.declared.Answer.{Answer}
 use Rattle.machine.specs.Machine.{price_on, answer_to, answer, step, last}
 use Rattle.machine.specs.Marks.{event_of, events, sets_mark, ends_mark, Kept, set_here, set_later, go_to}
 use Rattle.machine.specs.Names.{HasName, go_by}

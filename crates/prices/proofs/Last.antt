@@ -5,7 +5,7 @@ use mathlib.Core.Bool.{true, false}
 use mathlib.Core.List.{List, [], ◌∷◌, ◌++◌}
 use Rattle.lists.specs.Lists.{All, done, more}
 use Rattle.graph.specs.declared.Reading.{Reading}
-use Rattle.graph.specs.declared.Reading.TheVariants.{Untested, Silent, Heard}
+use Rattle.graph.specs.declared.Reading.TheVariants.{Untested, Heard}
 use Rattle.graph.specs.Graph.{Graph, list_of}
 use Rattle.prices.specs.Prices.{reading_out, Tested, silent, heard, later, last_tested, way, is_heard, one_way, nothing_heard}
 

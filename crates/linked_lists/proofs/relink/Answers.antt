@@ -1,5 +1,5 @@
 -- `linked_lists::relink` meets its contract.
-use Rattle.linked_lists.proofs.Steps.{moved, insert_by}
+use Rattle.linked_lists.proofs.Steps.{moved}
 use Rattle.linked_lists.proofs.relink.Goals as goal
 
 pub returns : goal.returns

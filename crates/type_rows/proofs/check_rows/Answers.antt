@@ -1,7 +1,6 @@
 -- `type_rows::check_rows` meets its contract.
 use mathlib.Core.Path.{sym, ◌∙◌}
 use native.Mathlib.Omega.{arith}
-use borrow.Author.Tests.{not-true}
 use Rattle.type_rows.proofs.RowLaws.{no_row, over_64, high_bit, all_fitted}
 use Rattle.type_rows.proofs.check_rows.Goals as goal
 

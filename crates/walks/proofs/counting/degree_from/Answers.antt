@@ -1,5 +1,5 @@
 -- `walks::counting::degree_from` meets its contract.
-use Prim.Native.Nat.{ℕ, ◌+◌, ◌%◌}
+use Prim.Native.Nat.{ℕ, ◌%◌}
 use mathlib.Core.Path.{refl, sym, ap, ◌∙◌, subst, ◌≡◌}
 use mathlib.Core.List.{List}
 use native.Mathlib.Omega.{arith}
