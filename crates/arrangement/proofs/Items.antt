@@ -1,5 +1,5 @@
 -- The items of words that load: numbers and words as the code reads them off the parts.
-use Prim.Native.Nat.{ℕ, zero, suc, ◌/◌, ◌≤◌}
+use Prim.Native.Nat.{ℕ, zero, suc, ◌*◌, ◌/◌, ◌≤◌}
 use mathlib.Core.Path.{◌≡◌, refl, sym, ap, ◌∙◌}
 use mathlib.Core.Bool.{true, false}
 use mathlib.Core.List.{List, ◌∷◌, map}
@@ -18,10 +18,12 @@ use Rattle.graph.proofs.Facts.{to_facts}
 use Rattle.graph.proofs.Incidence.{pick_le}
 use Rattle.graph.proofs.Lists.{ordered_list}
 use Rattle.graph.proofs.Words.{words_this}
-use Rattle.image.specs.Image.{record_size, part, vertex_count, edge_count, vertex_part, edge_part, edges_from, vertices_from, load, loadable, numbers_in}
+use Rattle.image.specs.Image.{record_size, sound_header, part, vertex_count, edge_count, vertex_part, edge_part, edges_from, vertices_from, load, loadable, numbers_in}
 use Rattle.image_check.specs.Checks.{saved_bounds, load_code, verdict}
 use Rattle.image_check.proofs.Verdicts.{zero_sound}
 use Rattle.image_check.proofs.LoadCodes.{code_loads}
+use Rattle.image_check.proofs.ScratchPass.{vertices_all, edges_all}
+use Rattle.image.proofs.Sizes.{size_range, record_size_lem}
 use Rattle.image.proofs.Loads.{loaded}
 use Rattle.image.proofs.Formed.{formed}
 use Rattle.image.proofs.Ends.{has_number}
@@ -46,6 +48,21 @@ edges_read : (k : ℕ) (ws : List ℕ) → map edge_number (edges_from k ws) ≡
 unfolding edges_from numbers_in
 edges_read zero ws = refl
 edges_read (suc k) ws = ap (λ (l : List ℕ). get_or ws 0 0 ∷ l) (edges_read k (drop 6 ws))
+
+-- ---- the records of words that load
+
+pub size_least : (ws : List ℕ) (size : ℕ) → size ≡ record_size ws → 3 ≤ size
+size_least ws size e = omega (arith, e, (size_range (record_size ws) (record_size_lem ws)).0)
+
+module _ (ws : List ℕ) (z : load_code saved_bounds ws ≡ 0) where
+  header : sound_header ws ≡ true
+  header = (loaded saved_bounds ws ((code_loads saved_bounds ws).0 z)).header
+
+  pub vertices_whole : (size v : ℕ) → size ≡ record_size ws → v ≡ vertex_count ws → (vs : List ℕ) → vs ≡ part 1 ws → size * v ≡ length vs
+  vertices_whole = vertices_all ws header
+
+  pub edges_whole : (e : ℕ) → e ≡ edge_count ws → (es : List ℕ) → es ≡ part 2 ws → 6 * e ≡ length es
+  edges_whole = edges_all ws header
 
 -- ---- refusals
 

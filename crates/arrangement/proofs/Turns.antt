@@ -4,83 +4,80 @@ use mathlib.Core.Path.{◌≡◌, refl, sym, ap, ◌∙◌}
 use mathlib.Core.Bool.{true, false}
 use mathlib.Core.List.{List, [], ◌∷◌, ◌++◌}
 use native.Mathlib.Omega.{arith}
-use lib.ListN.{length, get_or, set, drop, length-append, drop_of_length-le}
-use lib.Seq.{sets, drop-drop}
+use lib.ListN.{length, get_or, set, drop, length-append, get_or-append, drop_of_length-le}
+use lib.Seq.{sets, drop-append_seam}
 use borrow.Author.Tests.{eq-eqb, ne_eqb}
 use Rattle.lists.specs.Lists.{member}
 use Rattle.lists.proofs.Stores.{sets_append}
-use Rattle.lists.proofs.WordLaws.{word_at, first_at, one_drop}
+use Rattle.lists.proofs.WordLaws.{one_drop}
 use Rattle.graph.specs.WellFormed.{words_at}
 use Rattle.image.specs.Image.{edges_from, numbers_in}
 use Rattle.arrangement.specs.Orders.{words_from, call_words}
 use Rattle.arrangement.specs.Scratch.{marked, seen_from, taken}
 use Rattle.arrangement.proofs.Taking.{marked_append}
 
--- ---- records
+-- ---- records: x is the next of n of size words, and rest has the m behind it
 
-module _ (size : ℕ) (ws : List ℕ) (count i at : ℕ) where
-  numbers_turn : i < count → numbers_in size (count - i) (drop at ws) ≡ get_or ws at 0 ∷ numbers_in size (count - (i + 1)) (drop (at + size) ws)
+module _ (size n m : ℕ) (x rest ws : List ℕ) (three : 3 ≤ size) (more : n ≡ suc m) (cut : ws ≡ x ++ rest) (long : length x ≡ size) where
+  behind : drop size ws ≡ rest
+  behind = rw (cut, ← long) (drop-append_seam x rest)
+
+  word : (j : ℕ) → j < size → get_or ws j 0 ≡ get_or x j 0
+  word j h = rw cut (get_or-append x rest 0 j (omega (arith, h, long)))
+
+  numbers_turn : numbers_in size n ws ≡ get_or x 0 0 ∷ numbers_in size m rest
   unfolding numbers_in
-  numbers_turn h =
-      let e : count - i ≡ suc (count - (i + 1)) = omega arith in
-      ap (λ (k : ℕ). numbers_in size k (drop at ws)) e
-      ∙ ap (λ (x : ℕ). x ∷ numbers_in size (count - (i + 1)) (drop size (drop at ws))) (first_at ws at)
-      ∙ ap (λ (l : List ℕ). get_or ws at 0 ∷ numbers_in size (count - (i + 1)) l) (drop-drop size at ws)
+  numbers_turn = rw (more, word 0 (omega arith), behind)
 
-  pub marks_turn : i < count → (s s' : List ℕ) (n : ℕ) → n ≡ get_or ws at 0 → s' ≡ set s n 1 →
-      marked (numbers_in size (count - (i + 1)) (drop (at + size) ws)) s' ≡ marked (numbers_in size (count - i) (drop at ws)) s
-  marks_turn h s s' n e f =
-      ap (marked (numbers_in size (count - (i + 1)) (drop (at + size) ws))) (f ∙ ap (λ (k : ℕ). set s k 1) e)
-      ∙ ap (λ (l : List ℕ). marked l s) (sym (numbers_turn h))
+  pub marks_turn : (s : List ℕ) → marked (numbers_in size m rest) (set s (get_or x 0 0) 1) ≡ marked (numbers_in size n ws) s
+  marks_turn s = sym (ap (λ (l : List ℕ). marked l s) numbers_turn)
 
-  pub none_left : count ≤ i → numbers_in size (count - i) (drop at ws) ≡ []
-  unfolding numbers_in
-  none_left h = let e : count - i ≡ 0 = omega arith in ap (λ (k : ℕ). numbers_in size k (drop at ws)) e
+  pub has_here : (n' : ℕ) → get_or x 0 0 ≡ n' → true ≡ member n' (numbers_in size n ws)
+  has_here n' f = sym (ap (member n') numbers_turn ∙ rw (eq-eqb (get_or x 0 0) n' f))
 
-  pub has_here : i < count → (n x : ℕ) → x ≡ get_or ws at 0 → x ≡ n → true ≡ member n (numbers_in size (count - i) (drop at ws))
-  has_here h n x e f = sym (ap (member n) (numbers_turn h) ∙ rw (eq-eqb (get_or ws at 0) n (sym e ∙ f)))
+  pub has_turn : (n' : ℕ) → (get_or x 0 0 ≡ n' → ⊥) → member n' (numbers_in size m rest) ≡ member n' (numbers_in size n ws)
+  has_turn n' f = sym (ap (member n') numbers_turn ∙ rw (ne_eqb (get_or x 0 0) n' f))
 
-  pub has_turn : i < count → (n x : ℕ) → x ≡ get_or ws at 0 → (x ≡ n → ⊥) →
-      member n (numbers_in size (count - (i + 1)) (drop (at + size) ws)) ≡ member n (numbers_in size (count - i) (drop at ws))
-  has_turn h n x e f = sym (ap (member n) (numbers_turn h) ∙ rw (ne_eqb (get_or ws at 0) n (λ q. f (e ∙ q))))
+pub no_numbers : (size n : ℕ) (ws : List ℕ) → n ≡ 0 → numbers_in size n ws ≡ []
+unfolding numbers_in
+no_numbers size n ws e = rw e
 
 -- ---- words seen from a vertex
 
-module _ (v : ℕ) (ws : List ℕ) (count i at : ℕ) where
-  words_turn : i < count → words_at (edges_from (count - i) (drop at ws)) v
-      ≡ (seen_from v (get_or ws (at + 1) 0) (2 * get_or ws at 0) ++ seen_from v (get_or ws (at + 2) 0) (2 * get_or ws at 0 + 1)) ++ words_at (edges_from (count - (i + 1)) (drop (at + 6) ws)) v
+module _ (v n m : ℕ) (x rest ws : List ℕ) (more : n ≡ suc m) (cut : ws ≡ x ++ rest) (long : length x ≡ 6) where
+  six : (j : ℕ) → j < 6 → get_or ws j 0 ≡ get_or x j 0
+  six j h = word 6 n m x rest ws (omega arith) more cut long j h
+
+  words_turn : words_at (edges_from n ws) v
+      ≡ (seen_from v (get_or x 1 0) (2 * get_or x 0 0) ++ seen_from v (get_or x 2 0) (2 * get_or x 0 0 + 1)) ++ words_at (edges_from m rest) v
   unfolding edges_from words_at
-  words_turn h =
-      let e : count - i ≡ suc (count - (i + 1)) = omega arith in
-      ap (λ (k : ℕ). words_at (edges_from k (drop at ws)) v) e
-      ∙ (λ j. (seen_from v (word_at ws at 1 j) (2 * first_at ws at j) ++ seen_from v (word_at ws at 2 j) (2 * first_at ws at j + 1)) ++ words_at (edges_from (count - (i + 1)) (drop-drop 6 at ws j)) v)
+  words_turn =
+      ap (λ (k : ℕ). words_at (edges_from k ws) v) more
+      ∙ (λ j. (seen_from v (six 1 (omega arith) j) (2 * six 0 (omega arith) j) ++ seen_from v (six 2 (omega arith) j) (2 * six 0 (omega arith) j + 1)) ++ words_at (edges_from m (behind 6 n m x rest ws (omega arith) more cut long j)) v)
 
-  pub ends_turn : i < count → (s s' s'' : List ℕ) (n a o : ℕ) → n ≡ 2 * get_or ws at 0 → a ≡ get_or ws (at + 1) 0 → o ≡ get_or ws (at + 2) 0 →
-      s' ≡ marked (seen_from v a n) s → s'' ≡ marked (seen_from v o (n + 1)) s' →
-      marked (words_at (edges_from (count - (i + 1)) (drop (at + 6) ws)) v) s'' ≡ marked (words_at (edges_from (count - i) (drop at ws)) v) s
-  ends_turn h s s' s'' n a o p q r f g =
-      let xs = seen_from v (get_or ws (at + 1) 0) (2 * get_or ws at 0) in
-      let ys = seen_from v (get_or ws (at + 2) 0) (2 * get_or ws at 0 + 1) in
-      let rest = words_at (edges_from (count - (i + 1)) (drop (at + 6) ws)) v in
-      ap (marked rest) (g ∙ (λ j. marked (seen_from v (r j) (p j + 1)) ((f ∙ (λ k. marked (seen_from v (q k) (p k)) s)) j)))
-      ∙ ap (marked rest) (sym (marked_append xs ys s))
-      ∙ sym (marked_append (xs ++ ys) rest s)
-      ∙ ap (λ (l : List ℕ). marked l s) (sym (words_turn h))
+  pub ends_turn : (s s' s'' : List ℕ) → s' ≡ marked (seen_from v (get_or x 1 0) (2 * get_or x 0 0)) s →
+      s'' ≡ marked (seen_from v (get_or x 2 0) (2 * get_or x 0 0 + 1)) s' →
+      marked (words_at (edges_from m rest) v) s'' ≡ marked (words_at (edges_from n ws) v) s
+  ends_turn s s' s'' f g =
+      let us = seen_from v (get_or x 1 0) (2 * get_or x 0 0) in
+      let vs = seen_from v (get_or x 2 0) (2 * get_or x 0 0 + 1) in
+      let tail = words_at (edges_from m rest) v in
+      ap (marked tail) (g ∙ ap (marked vs) f)
+      ∙ ap (marked tail) (sym (marked_append us vs s))
+      ∙ sym (marked_append (us ++ vs) tail s)
+      ∙ ap (λ (l : List ℕ). marked l s) (sym words_turn)
 
-  pub ends_count : i < count → (n a o x y : ℕ) → n ≡ 2 * get_or ws at 0 → a ≡ get_or ws (at + 1) 0 → o ≡ get_or ws (at + 2) 0 →
-      x ≡ length (seen_from v a n) → y ≡ length (seen_from v o (n + 1)) →
-      (x + y) + length (words_at (edges_from (count - (i + 1)) (drop (at + 6) ws)) v) ≡ length (words_at (edges_from (count - i) (drop at ws)) v)
-  ends_count h n a o x y p q r f g =
-      let xs = seen_from v (get_or ws (at + 1) 0) (2 * get_or ws at 0) in
-      let ys = seen_from v (get_or ws (at + 2) 0) (2 * get_or ws at 0 + 1) in
-      let rest = words_at (edges_from (count - (i + 1)) (drop (at + 6) ws)) v in
-      let f' : x ≡ length xs = f ∙ (λ k. length (seen_from v (q k) (p k))) in
-      let g' : y ≡ length ys = g ∙ (λ k. length (seen_from v (r k) (p k + 1))) in
-      omega (arith, f', g', length-append (xs ++ ys) rest, length-append xs ys, ap length (words_turn h))
+  pub ends_count : (i j : ℕ) → i ≡ length (seen_from v (get_or x 1 0) (2 * get_or x 0 0)) → j ≡ length (seen_from v (get_or x 2 0) (2 * get_or x 0 0 + 1)) →
+      (i + j) + length (words_at (edges_from m rest) v) ≡ length (words_at (edges_from n ws) v)
+  ends_count i j f g =
+      let us = seen_from v (get_or x 1 0) (2 * get_or x 0 0) in
+      let vs = seen_from v (get_or x 2 0) (2 * get_or x 0 0 + 1) in
+      let tail = words_at (edges_from m rest) v in
+      omega (arith, f, g, length-append (us ++ vs) tail, length-append us vs, ap length words_turn)
 
-  pub no_words : count ≤ i → words_at (edges_from (count - i) (drop at ws)) v ≡ []
-  unfolding edges_from words_at
-  no_words h = let e : count - i ≡ 0 = omega arith in ap (λ (k : ℕ). words_at (edges_from k (drop at ws)) v) e
+pub no_words : (v n : ℕ) (ws : List ℕ) → n ≡ 0 → words_at (edges_from n ws) v ≡ []
+unfolding edges_from words_at
+no_words v n ws e = ap (λ (k : ℕ). words_at (edges_from k ws) v) e
 
 -- ---- taking off
 

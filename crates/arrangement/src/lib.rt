@@ -1,7 +1,7 @@
 // Any order wanted of an image's vertices, of its edges or of one vertex's list, as a list of calls.
 #![tactic(auto)]
 
-ghost use Rattle.std.specs.Prelude.{◌≡◌, [], ◌∷◌, ◌+◌, ◌*◌, ◌-◌, ◌≤◌, ◌<◌, ◌^◌, length, get_or, set};
+ghost use Rattle.std.specs.Prelude.{◌≡◌, [], ◌∷◌, ◌+◌, ◌*◌, ◌-◌, ◌≤◌, ◌<◌, ◌^◌, ℕ, length, get_or, set};
 ghost use Rattle.std.proofs.lemmas.List.Edits.{sets};
 ghost use Rattle.lists.specs.Lists.{member};
 ghost use Rattle.graph.specs.WellFormed.{words_at};
@@ -12,13 +12,12 @@ ghost use Rattle.arrangement.specs.Scratch.{marked, seen_from, taken, settled};
 use graph::MOST_EDGES;
 use image::layout::{EDGE, record_size};
 use image::part;
-use image_check::{check_saved, code_of};
+use image_check::check_saved;
 use lists::get;
-use lists::numbers::wide;
 
-// A code, and how many calls were written: with a code none.
+/// A code, and how many calls were written: with a code none.
 #[repr(C)]
-#[derive(Clone, Copy)]
+#[derive(Clone, Copy, Debug, PartialEq, Eq)]
 pub struct Arrangement {
     pub code: u32,
     pub calls: usize,
@@ -33,17 +32,14 @@ fn refused(code: u32) -> Arrangement
     Arrangement { code, calls: 0 }
 }
 
-// Past the end it is 0.
+/// The byte at a place; past the end it is 0.
 fn look(items: &[u8], i: usize) -> u8
     ensures { result ≡ get_or items.now i 0 }
 {
-    if i < items.len() {
-        return items[i];
-    }
-    0
+    items.get(i).copied().unwrap_or(0)
 }
 
-// A write past the end is nothing.
+/// A write past the end is nothing.
 fn put(items: &mut [u8], i: usize, value: u8)
     ensures { items.new ≡ set items.old i value }
 {
@@ -54,22 +50,17 @@ fn put(items: &mut [u8], i: usize, value: u8)
 
 // ---- the items
 
-// Marks the numbers of count records of size words.
-fn mark_numbers(part: &[u32], size: usize, count: u32, items: &mut [u8])
-    requires { size ≤ 6 }
-    ensures { items.new ≡ marked (numbers_in size count part.now) items.old }
+/// Marks the numbers of records of size words.
+fn mark_numbers(part: &[u32], size: usize, items: &mut [u8])
+    requires { 3 ≤ size }
+    ensures { (count : ℕ) → size * count ≡ length part.now → items.new ≡ marked (numbers_in size count part.now) items.old }
 {
-    let mut i: u32 = 0;
-    let mut at = 0;
-    while i < count {
-        let n = wide(get(part, at));
-        put(items, n, 1);
-        at += size;
-        i += 1;
+    for record in part.chunks_exact(size) {
+        put(items, record[0] as usize, 1);
     }
 }
 
-// Marks the word of an end that is seen from the vertex; how many words that are.
+/// Marks the word of an end that is seen from the vertex; how many words that are.
 fn mark_end(vertex: u32, end: u32, word: usize, items: &mut [u8]) -> usize
     ensures { (result ≡ length (seen_from vertex end word)) × (result ≤ 1)
         × (items.new ≡ marked (seen_from vertex end word) items.old) }
@@ -81,62 +72,54 @@ fn mark_end(vertex: u32, end: u32, word: usize, items: &mut [u8]) -> usize
     0
 }
 
-// Marks the words of count edge records that are seen from the vertex; how many they are.
-fn mark_words(part: &[u32], count: u32, vertex: u32, items: &mut [u8]) -> usize
-    ensures { (result ≡ length (words_at (edges_from count part.now) vertex))
-        × (result ≤ 2 * count)
-        × (items.new ≡ marked (words_at (edges_from count part.now) vertex) items.old) }
+/// Marks the words of edge records that are seen from the vertex; how many they are.
+fn mark_words(part: &[u32], vertex: u32, items: &mut [u8]) -> usize
+    ensures few { result ≤ length part.now }
+    ensures value { (count : ℕ) → 6 * count ≡ length part.now
+        → result ≡ length (words_at (edges_from count part.now) vertex) }
+    ensures marked { (count : ℕ) → 6 * count ≡ length part.now
+        → items.new ≡ marked (words_at (edges_from count part.now) vertex) items.old }
 {
-    let mut i: u32 = 0;
-    let mut at = 0;
     let mut found = 0;
-    while i < count {
-        let word = 2 * wide(get(part, at));
-        let out = mark_end(vertex, get(part, at + 1), word, items);
-        let back = mark_end(vertex, get(part, at + 2), word + 1, items);
+    for record in part.chunks_exact(EDGE) {
+        let word = 2 * record[0] as usize;
+        let out = mark_end(vertex, record[1], word, items);
+        let back = mark_end(vertex, record[2], word + 1, items);
         found += out + back;
-        at += EDGE;
-        i += 1;
     }
     found
 }
 
-// Whether one of count records of size words has the number.
-fn has_number(part: &[u32], size: usize, count: u32, number: u32) -> bool
-    requires { size ≤ 6 }
-    ensures { result ≡ member number (numbers_in size count part.now) }
+/// Whether one of the records of size words has the number.
+fn has_number(part: &[u32], size: usize, number: u32) -> bool
+    requires { 3 ≤ size }
+    ensures { (count : ℕ) → size * count ≡ length part.now → result ≡ member number (numbers_in size count part.now) }
 {
-    let mut i: u32 = 0;
-    let mut at = 0;
-    while i < count {
-        if get(part, at) == number {
+    for record in part.chunks_exact(size) {
+        if record[0] == number {
             return true;
         }
-        at += size;
-        i += 1;
     }
     false
 }
 
 // ---- the wanted words
 
-// Whether each wanted word in turn is marked; it is then no more.
+/// Whether each wanted word in turn is marked; it is then no more.
 fn take_off(wanted: &[u32], items: &mut [u8]) -> bool
     ensures { result ≡ taken wanted.now items.old }
 {
-    let mut i = 0;
-    while i < wanted.len() {
-        let w = wide(get(wanted, i));
+    for &number in wanted {
+        let w = number as usize;
         if look(items, w) != 1 {
             return false;
         }
         put(items, w, 0);
-        i += 1;
     }
     true
 }
 
-// One call: a is put directly after b.
+/// One call: a is put directly after b.
 fn write_call(list: &mut [u32], at: usize, kind: u32, a: u32, b: u32)
     requires { at + 5 ≤ length list.old }
     ensures { list.new ≡ sets list.old at (kind ∷ a ∷ b ∷ 0 ∷ 0 ∷ []) }
@@ -148,7 +131,7 @@ fn write_call(list: &mut [u32], at: usize, kind: u32, a: u32, b: u32)
     list[at + 4] = 0;
 }
 
-// A call for each wanted word but the first.
+/// A call for each wanted word but the first.
 fn write_calls(kind: u32, wanted: &[u32], list: &mut [u32])
     requires { 5 * (length wanted.now - 1) ≤ length list.old }
     ensures { list.new ≡ sets list.old 0 (call_words kind wanted.now) }
@@ -165,16 +148,7 @@ fn write_calls(kind: u32, wanted: &[u32], list: &mut [u32])
     }
 }
 
-fn one_less(n: usize) -> usize
-    ensures { result ≡ n - 1 }
-{
-    if n == 0 {
-        return 0;
-    }
-    n - 1
-}
-
-// The order of so many items, which are marked.
+/// The order of so many items, which are marked.
 fn settle(
     kind: u32,
     wanted: &[u32],
@@ -182,7 +156,7 @@ fn settle(
     items: &mut [u8],
     list: &mut [u32],
 ) -> Arrangement
-    requires { count < 2 ^ 33 }
+    requires { count < 2 ^ 61 }
     ensures { outcome result list.new
         ≡ settled kind wanted.now count items.old list.old }
 {
@@ -192,7 +166,7 @@ fn settle(
     if !take_off(wanted, items) {
         return refused(111);
     }
-    let calls = one_less(count);
+    let calls = count.saturating_sub(1);
     if list.len() < 5 * calls {
         return refused(112);
     }
@@ -202,7 +176,7 @@ fn settle(
 
 // ---- the three
 
-// Items that are the numbers of records.
+/// Items that are the numbers of records.
 fn order_numbers(
     kind: u32,
     part: &[u32],
@@ -212,40 +186,39 @@ fn order_numbers(
     items: &mut [u8],
     list: &mut [u32],
 ) -> Arrangement
-    requires { size ≤ 6 }
+    requires size { 3 ≤ size }
+    requires whole { size * count ≡ length part.now }
     ensures { outcome result list.new ≡ settled kind wanted.now count
         (marked (numbers_in size count part.now) items.old) list.old }
 {
-    mark_numbers(part, size, count, items);
-    settle(kind, wanted, wide(count), items, list)
+    mark_numbers(part, size, items);
+    settle(kind, wanted, count as usize, items, list)
 }
 
-// Items that are the words seen from a vertex.
+/// Items that are the words seen from a vertex.
 fn order_words(
     part: &[u32],
-    count: u32,
     vertex: u32,
     wanted: &[u32],
     items: &mut [u8],
     list: &mut [u32],
 ) -> Arrangement
-    ensures { outcome result list.new ≡ settled 16 wanted.now
+    ensures { (count : ℕ) → 6 * count ≡ length part.now → outcome result list.new ≡ settled 16 wanted.now
         (length (words_at (edges_from count part.now) vertex))
         (marked (words_at (edges_from count part.now) vertex) items.old) list.old }
 {
-    let found = mark_words(part, count, vertex, items);
+    let found = mark_words(part, vertex, items);
     settle(16, wanted, found, items, list)
 }
 
-// Vseq in the order wanted, by calls of kind 12: 105, 108 or 109 where the words do not load; 111 where those wanted
-// are not the vertices each once; 112 where the list is too short. With a code no call is told and nothing written.
+/// Vseq in the order wanted, by calls of kind 12: 105, 108 or 109 where the words do not load; 111 where those wanted
+/// are not the vertices each once; 112 where the list is too short. With a code no call is told and nothing written.
 pub fn arrange_vertices(words: &[u32], wanted: &[u32], list: &mut [u32]) -> Arrangement
     ensures { outcome result list.new
         ≡ vertex_order words.now wanted.now list.old }
 {
-    let code = code_of(check_saved(words));
-    if code != 0 {
-        return refused(code);
+    if let Err(bad) = check_saved(words) {
+        return refused(bad.code());
     }
     let mut items = [0u8; ITEMS];
     order_numbers(
@@ -259,14 +232,13 @@ pub fn arrange_vertices(words: &[u32], wanted: &[u32], list: &mut [u32]) -> Arra
     )
 }
 
-// Eseq, by calls of kind 14.
+/// Eseq, by calls of kind 14.
 pub fn arrange_edges(words: &[u32], wanted: &[u32], list: &mut [u32]) -> Arrangement
     ensures { outcome result list.new
         ≡ edge_order words.now wanted.now list.old }
 {
-    let code = code_of(check_saved(words));
-    if code != 0 {
-        return refused(code);
+    if let Err(bad) = check_saved(words) {
+        return refused(bad.code());
     }
     let mut items = [0u8; ITEMS];
     order_numbers(
@@ -280,25 +252,17 @@ pub fn arrange_edges(words: &[u32], wanted: &[u32], list: &mut [u32]) -> Arrange
     )
 }
 
-// The list of a vertex, by calls of kind 16; 4 where the vertex is missing, before 111.
+/// The list of a vertex, by calls of kind 16; 4 where the vertex is missing, before 111.
 pub fn arrange_words(words: &[u32], vertex: u32, wanted: &[u32], list: &mut [u32]) -> Arrangement
     ensures { outcome result list.new
         ≡ word_order words.now vertex wanted.now list.old }
 {
-    let code = code_of(check_saved(words));
-    if code != 0 {
-        return refused(code);
+    if let Err(bad) = check_saved(words) {
+        return refused(bad.code());
     }
-    if !has_number(part(words, 1), record_size(words), get(words, 0), vertex) {
+    if !has_number(part(words, 1), record_size(words), vertex) {
         return refused(4);
     }
     let mut items = [0u8; ITEMS];
-    order_words(
-        part(words, 2),
-        get(words, 1),
-        vertex,
-        wanted,
-        &mut items,
-        list,
-    )
+    order_words(part(words, 2), vertex, wanted, &mut items, list)
 }

@@ -1,4 +1,3 @@
-pub mod Bits
 pub mod PairLaws
 pub mod Turns
 pub mod Notes

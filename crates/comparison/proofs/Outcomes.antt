@@ -77,6 +77,9 @@ module _ (ws : List ℕ) (z : load_code saved_bounds ws ≡ 0) where
   long : length (part 2 ws) ≡ 6 * edge_count ws
   long = ap length records ∙ long_edges ws (loaded saved_bounds ws good).header
 
+  pub edges_of : (n : ℕ) → n ≡ edge_count ws → (es : List ℕ) → es ≡ part 2 ws → 6 * n ≡ length es
+  edges_of n f es p = rw (f, p) (sym long)
+
   read : edges_from (edge_count ws) (part 2 ws) ≡ (load ws).eseq
   read = ap (edges_from (edge_count ws)) records ∙ sym (load_edges ws)
 

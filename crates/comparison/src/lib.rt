@@ -2,86 +2,57 @@
 // one has.
 #![tactic(auto)]
 
-ghost use Rattle.std.specs.Prelude.{◌≡◌, ◌≤◌, ◌^◌};
-ghost use Rattle.lists.specs.Choice.{to_bit};
+ghost use Rattle.std.specs.Prelude.{◌≡◌, ◌≤◌, ◌*◌, ◌^◌, ℕ, length};
 ghost use Rattle.graph.specs.Limits.{most_edges};
-ghost use Rattle.image_check.specs.Checks.{saved_bounds, load_code};
-ghost use Rattle.comparison.specs.Comparison.{matches, apart, agrees, alike, refused, comparison};
+ghost use Rattle.comparison.specs.Comparison.{matches, agrees, alike, refused, comparison};
 ghost use Rattle.comparison.specs.Walks.{edge_at, noted, places_of, paired_from};
 
 use graph::{MOST_EDGES, Reading};
 use graph_tables::rows::reading_of;
 use image::layout::EDGE;
 use image::part;
-use image_check::{check_saved, code_of};
+use image_check::check_saved;
 use lists::get;
-use lists::words::{put, word};
+use lists::words::put;
 
-// A code and four counts; with a code all four are 0.
+/// A code and four counts; with a code all four are 0.
 #[repr(C)]
-#[derive(Clone, Copy)]
+#[derive(Clone, Copy, Debug, PartialEq, Eq)]
 pub struct Compared {
     pub code: u32,
     pub matched: u32,
     pub agreeing: u32,
-    // edges that only the one has
+    /// Edges that only the first has.
     pub first: u32,
+    /// Edges that only the second has.
     pub second: u32,
 }
 
 // Scratch: a word for each edge number from 0 on.
 const PLACES: usize = MOST_EDGES as usize + 1;
 
-// 1 where the records at i and at j have one number and the same ends, else 0.
-fn match_bit(a: &[u32], i: usize, b: &[u32], j: usize) -> u32
-    requires { (i ≤ 2 ^ 40) × (j ≤ 2 ^ 40) }
-    ensures { (result ≡ to_bit (matches (edge_at a.now i) (edge_at b.now j))) × (result ≤ 1) }
+/// Whether an edge record and the one at j have one number and the same ends.
+fn is_match(record: &[u32], b: &[u32], j: usize) -> bool
+    requires six { length record.now ≡ 6 }
+    requires near { j ≤ 2 ^ 40 }
+    ensures { result ≡ matches (edge_at record.now 0) (edge_at b.now j) }
 {
-    if get(a, i) != get(b, j) {
-        return 0;
-    }
-    if get(a, i + 1) != get(b, j + 1) {
-        return 0;
-    }
-    if get(a, i + 2) != get(b, j + 2) {
-        return 0;
-    }
-    1
+    record[0] == get(b, j) && record[1] == get(b, j + 1) && record[2] == get(b, j + 2)
 }
 
-fn apart(x: u32, y: u32) -> u32
-    ensures { result ≡ apart x y }
-{
-    if x < y {
-        return y - x;
-    }
-    x - y
-}
-
-// Whether two readings agree.
+/// Whether two readings agree: both heard and at most the tolerance apart, or neither heard and of one kind.
 fn agree(tolerance: u32, x: Reading, y: Reading) -> bool
     ensures { result ≡ agrees tolerance x y }
 {
-    match x {
-        Reading::Untested => match y {
-            Reading::Untested => true,
-            Reading::Silent => false,
-            Reading::Heard(_) => false,
-        },
-        Reading::Silent => match y {
-            Reading::Untested => false,
-            Reading::Silent => true,
-            Reading::Heard(_) => false,
-        },
-        Reading::Heard(d) => match y {
-            Reading::Untested => false,
-            Reading::Silent => false,
-            Reading::Heard(e) => apart(d, e) <= tolerance,
-        },
+    match (x, y) {
+        (Reading::Heard(d), Reading::Heard(e)) => d.abs_diff(e) <= tolerance,
+        (Reading::Untested, Reading::Untested) => true,
+        (Reading::Silent, Reading::Silent) => true,
+        _ => false,
     }
 }
 
-// The reading of the record at a place.
+/// The reading of the record at a place.
 fn reading_at(words: &[u32], at: usize) -> Reading
     requires { at ≤ 2 ^ 40 }
     ensures { result ≡ (edge_at words.now at).reading }
@@ -89,79 +60,64 @@ fn reading_at(words: &[u32], at: usize) -> Reading
     reading_of(get(words, at + 4), get(words, at + 5))
 }
 
-// 1 where they match and their readings agree, else 0.
-fn agree_bit(a: &[u32], i: usize, b: &[u32], j: usize, tolerance: u32) -> u32
-    requires { (i ≤ 2 ^ 40) × (j ≤ 2 ^ 40) }
-    ensures { (result ≡ to_bit (alike tolerance (edge_at a.now i) (edge_at b.now j))) × (result ≤ 1) }
+/// Whether they match and their readings agree.
+fn is_alike(record: &[u32], b: &[u32], j: usize, tolerance: u32) -> bool
+    requires six { length record.now ≡ 6 }
+    requires near { j ≤ 2 ^ 40 }
+    ensures { result ≡ alike tolerance (edge_at record.now 0) (edge_at b.now j) }
 {
-    if match_bit(a, i, b, j) == 0 {
-        return 0;
-    }
-    if agree(tolerance, reading_at(a, i), reading_at(b, j)) {
-        return 1;
-    }
-    0
+    is_match(record, b, j) && agree(tolerance, reading_at(record, 0), reading_at(b, j))
 }
 
-// Notes under the number of each of count records which record it is, from 0.
-fn note(part: &[u32], count: u32, places: &mut [u32])
-    requires { count ≤ most_edges }
-    ensures { places.new ≡ noted places.old 0 count part.now }
+/// Notes under the number of each record which record it is, from 0.
+fn note(part: &[u32], places: &mut [u32])
+    requires { length part.now ≤ 6 * most_edges }
+    ensures { (count : ℕ) → 6 * count ≡ length part.now → places.new ≡ noted places.old 0 count part.now }
 {
-    let mut i: u32 = 0;
-    let mut at = 0;
-    while i < count {
-        put(places, word(part, at), i);
-        at += EDGE;
-        i += 1;
+    for (i, record) in part.chunks_exact(EDGE).enumerate() {
+        put(places, record[0] as usize, i as u32);
     }
 }
 
-#[derive(Clone, Copy)]
+#[derive(Clone, Copy, Debug, PartialEq, Eq)]
 struct Tally {
     matched: u32,
     agreeing: u32,
 }
 
-// Each of count records of a beside the one of b that is noted for its number.
-fn counts(a: &[u32], count: u32, b: &[u32], places: &[u32], tolerance: u32) -> Tally
-    requires { count ≤ most_edges }
-    ensures { (result.matched ≡ paired_from matches places.now b.now count a.now)
-        × (result.agreeing ≡ paired_from (alike tolerance) places.now b.now count a.now) }
+/// Each record of a beside the one of b that is noted for its number.
+fn counts(a: &[u32], b: &[u32], places: &[u32], tolerance: u32) -> Tally
+    requires { length a.now ≤ 6 * most_edges }
+    ensures matched { (count : ℕ) → 6 * count ≡ length a.now
+        → result.matched ≡ paired_from matches places.now b.now count a.now }
+    ensures agreeing { (count : ℕ) → 6 * count ≡ length a.now
+        → result.agreeing ≡ paired_from (alike tolerance) places.now b.now count a.now }
 {
     let mut matched: u32 = 0;
     let mut agreeing: u32 = 0;
-    let mut i: u32 = 0;
-    let mut at = 0;
-    while i < count {
-        let j = EDGE * word(places, word(a, at));
-        matched += match_bit(a, at, b, j);
-        agreeing += agree_bit(a, at, b, j, tolerance);
-        at += EDGE;
-        i += 1;
+    for record in a.chunks_exact(EDGE) {
+        let j = EDGE * get(places, record[0] as usize) as usize;
+        matched += u32::from(is_match(record, b, j));
+        agreeing += u32::from(is_alike(record, b, j, tolerance));
     }
     Tally { matched, agreeing }
 }
 
-// m records of a beside n of b.
-fn walked(a: &[u32], m: u32, b: &[u32], n: u32, tolerance: u32) -> Tally
-    requires { (m ≤ most_edges) × (n ≤ most_edges) }
-    ensures { (result.matched ≡ paired_from matches (places_of n b.now) b.now m a.now)
-        × (result.agreeing
-        ≡ paired_from (alike tolerance) (places_of n b.now) b.now m a.now) }
+/// The records of a beside those of b.
+fn walked(a: &[u32], b: &[u32], tolerance: u32) -> Tally
+    requires first { length a.now ≤ 6 * most_edges }
+    requires second { length b.now ≤ 6 * most_edges }
+    ensures matched { (m n : ℕ) → 6 * m ≡ length a.now → 6 * n ≡ length b.now
+        → result.matched ≡ paired_from matches (places_of n b.now) b.now m a.now }
+    ensures agreeing { (m n : ℕ) → 6 * m ≡ length a.now → 6 * n ≡ length b.now
+        → result.agreeing ≡ paired_from (alike tolerance) (places_of n b.now) b.now m a.now }
 {
     let mut places = [0u32; PLACES];
-    note(b, n, &mut places);
-    counts(a, m, b, &places, tolerance)
+    note(b, &mut places);
+    counts(a, b, &places, tolerance)
 }
 
-// The code of an image, loaded as for a page.
-fn saved_code(words: &[u32]) -> u32
-    ensures { result ≡ load_code saved_bounds words.now }
-{
-    code_of(check_saved(words))
-}
-
+/// A code, and nothing counted.
 fn refused(code: u32) -> Compared
     ensures { result ≡ refused code }
 {
@@ -174,21 +130,20 @@ fn refused(code: u32) -> Compared
     }
 }
 
-// Two images, held against each other: 105, 108 or 109 where the first does not load; only then 110, where the second
-// does not.
+/// Two images, held against each other: 105, 108 or 109 where the first does not load; only then 110, where the second
+/// does not.
 pub fn compare(first: &[u32], second: &[u32], tolerance: u32) -> Compared
     ensures { result ≡ comparison first.now second.now tolerance }
 {
-    let code = saved_code(first);
-    if code != 0 {
-        return refused(code);
+    if let Err(bad) = check_saved(first) {
+        return refused(bad.code());
     }
-    if saved_code(second) != 0 {
+    if check_saved(second).is_err() {
         return refused(110);
     }
     let m = get(first, 1);
     let n = get(second, 1);
-    let c = walked(part(first, 2), m, part(second, 2), n, tolerance);
+    let c = walked(part(first, 2), part(second, 2), tolerance);
     Compared {
         code: 0,
         matched: c.matched,

@@ -1,11 +1,12 @@
 -- Stores one after another, and what stands from a place on.
 use Prim.Native.Nat.{ℕ, ◌+◌, ◌-◌, ◌≤◌, ◌<◌}
 use mathlib.Core.Path.{◌≡◌, refl, sym, ap, ◌∙◌, subst}
-use mathlib.Core.List.{List, [], ◌∷◌, ◌++◌}
+use mathlib.Core.List.{List, [], ◌∷◌, ◌++◌, append_assoc}
 use native.Mathlib.Omega.{arith}
 use lib.ListN.{length, set, take, drop, length-append, length-drop}
-use lib.Seq.{sets, take_all}
+use lib.Seq.{sets, sets-eq, take_all, drop-drop}
 use store.Seg.{take-pre}
+use borrow.Rule.Slice.PartMut.{put_mid}
 use borrow.Author.Tests.{le-leb, lt-leb}
 use Rattle.lists.specs.Lists.{overwritten}
 use Rattle.decimal.specs.Stored.{Stored, WrittenAt, fitting}
@@ -28,6 +29,17 @@ then l l' xs ys zs at at' p q r =
 
 pub stored_byte : (l l' : List ℕ) (at x k : ℕ) → l' ≡ set l at x → k ≡ at + 1 → Stored (x ∷ []) at l l' k
 stored_byte l l' at x k p q = record { place = q; stores = p }
+
+-- a text of n bytes copied over a part of as many
+pub stored_part : (l text : List ℕ) (at n k : ℕ) → at + n ≤ length l → n ≡ length text → k ≡ length text → Stored text at l (put_mid at k l text) (at + n)
+stored_part l text at n k h e f = record {
+  place = omega (arith, e);
+  stores = rw f (
+      ap (λ (t : List ℕ). take at l ++ (text ++ t)) (drop-drop (length text) at l)
+      ∙ sym (append_assoc (take at l) text (drop (at + length text) l))
+      ∙ sym (sets-eq text l at (omega (arith, h, e)))
+      );
+}
 
 pub stored_then : {xs ys : List ℕ} {at m k : ℕ} {l l' l'' : List ℕ} →
     Stored xs at l l' m → Stored ys m l' l'' k → Stored (xs ++ ys) at l l'' k

@@ -13,12 +13,13 @@ use Rattle.lists.proofs.Bools.{and_true, within_range}
 use Rattle.type_rows.specs.Rows.{good_rows}
 use Rattle.image.specs.Image.{image_length}
 use Rattle.image_check.specs.Checks.{bounds, verdict, code_of, offset_of, load_offset}
-use Rattle.image_check.specs.declared.Verdict.{Verdict}
-use Rattle.image_check.specs.declared.Verdict.TheVariants.{Sound, BadHeader, BadRecord, BadIncidence}
 use Rattle.machine.specs.Calls.{bounds_in}
 use Rattle.machine.specs.Run.{Lent, parameters_of, list_refusal, number_beside, list_number}
 use Rattle.machine.proofs.ListRows.{start_rows}
 use Rattle.engine.specs.Refusals.{in_limits, lengths_code, Lends}
+use Rattle.std.specs.Prelude.{Ok, Err}
+use Rattle.image_check.specs.declared.BadImage.TheVariants.{Header, Record, Incidence}
+use Rattle.image_check.specs.Checks.{Verdict}
 
 -- ---- three tests first
 
@@ -87,17 +88,17 @@ Refuses l c n = (c ≡ list_refusal l) × (n ≡ list_number l)
 
 sound_start : (v : Verdict) (r : ℕ) → code_of v ≡ 0 → start_rows v r ≡ r
 unfolding start_rows
-sound_start Sound r e = refl
-sound_start BadHeader r e = absurd (omega arith)
-sound_start (BadRecord at) r e = absurd (omega arith)
-sound_start (BadIncidence at) r e = absurd (omega arith)
+sound_start (Ok tt) r e = refl
+sound_start (Err Header) r e = absurd (omega arith)
+sound_start (Err (Record at)) r e = absurd (omega arith)
+sound_start (Err (Incidence at)) r e = absurd (omega arith)
 
 bad_start : (v : Verdict) (r : ℕ) → (code_of v ≡ 0 → ⊥) → (code_of v ≡ start_rows v r) × (offset_of v ≡ number_beside (code_of v) (offset_of v))
 unfolding start_rows
-bad_start Sound r n = absurd (n refl)
-bad_start BadHeader r n = (refl, refl)
-bad_start (BadRecord at) r n = (refl, refl)
-bad_start (BadIncidence at) r n = (refl, refl)
+bad_start (Ok tt) r n = absurd (n refl)
+bad_start (Err Header) r n = (refl, refl)
+bad_start (Err (Record at)) r n = (refl, refl)
+bad_start (Err (Incidence at)) r n = (refl, refl)
 
 module _ (l : Lent) (start rows : List ℕ) (calls vertices edges journal answers image : ℕ) (h : Lends l start rows calls vertices edges journal answers image) where
   lengths_are : lengths_code calls answers vertices edges journal ≡ lengths_of l

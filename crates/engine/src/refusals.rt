@@ -6,8 +6,8 @@ ghost use Rattle.engine.specs.Refusals.{in_limits, lengths_code, Lends};
 
 use graph::{MOST_CHANGES, MOST_EDGES, MOST_VERTICES};
 use image::layout::length;
-use image_check::{check, code_of, offset_of};
-use type_rows::{RowsVerdict, check_rows};
+use image_check::check;
+use type_rows::are_good;
 
 // The code of a list and the number beside it: with 108 and 109 the offset of the first bad word of the start, else 0.
 #[derive(Clone, Copy)]
@@ -72,20 +72,18 @@ pub fn refusal(
     if code != 0 {
         return Refused { code, number: 0 };
     }
-    let RowsVerdict::Good = check_rows(rows) else {
+    if !are_good(rows) {
         return Refused {
             code: 104,
             number: 0,
         };
-    };
+    }
     let v = (vertices / 8) as u32;
     let e = (edges / 12) as u32;
-    let found = check(start, v, e, rows.len() as u32);
-    let bad = code_of(found);
-    if bad != 0 {
+    if let Err(bad) = check(start, v, e, rows.len() as u32) {
         return Refused {
-            code: bad,
-            number: offset_of(found),
+            code: bad.code(),
+            number: bad.offset(),
         };
     }
     if image < length(v, e) {

@@ -7,38 +7,26 @@ use crate::by_size::{edge_offset, incidence_offset, length};
 use crate::layout::{HEADER, record_size};
 use lists::words::word;
 
-// Length, offsets and total fit the counts, in records of one size.
+/// Whether length, offsets and total fit the counts, in records of one size.
+#[tactic(auto, unfolding(crate::specs::Image::sound_header))]
 pub fn sound(words: &[u32]) -> bool
     ensures { result ≡ sound_header words.now }
 {
     let size = record_size(words);
     let v = word(words, 0);
     let e = word(words, 1);
-    if word(words, 2) != HEADER {
-        return false;
-    }
-    if word(words, 3) != edge_offset(size, v) {
-        return false;
-    }
-    if word(words, 4) != incidence_offset(size, v, e) {
-        return false;
-    }
     let total = length(size, v, e);
-    if word(words, 5) != total {
-        return false;
-    }
-    words.len() == total
+    word(words, 2) == HEADER
+        && word(words, 3) == edge_offset(size, v)
+        && word(words, 4) == incidence_offset(size, v, e)
+        && word(words, 5) == total
+        && words.len() == total
 }
 
-// Whether the words have this part: 1, 2 or 3 of a sound header.
+/// Whether the words have this part: 1, 2 or 3 of a sound header.
+#[tactic(auto, unfolding(crate::specs::Parts::has_part))]
 pub fn has_part(words: &[u32], which: u32) -> bool
     ensures { result ≡ has_part which words.now }
 {
-    if !sound(words) {
-        return false;
-    }
-    if which < 1 {
-        return false;
-    }
-    which <= 3
+    sound(words) && 1 <= which && which <= 3
 }

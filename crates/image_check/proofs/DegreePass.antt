@@ -14,10 +14,10 @@ use Rattle.image.specs.Image.{vertex_size, degree_word, numbers_in}
 use Rattle.image_check.specs.Checks.{walk, passed}
 use Rattle.image_check.proofs.Walks.{good_degree, degree_walk}
 use Rattle.image_check.specs.Scratch.{degree_run}
-use Rattle.image_check.specs.declared.Verdict.TheVariants.{Sound}
 use Rattle.image.proofs.Sizes.{Size, old, new}
 use Rattle.image_check.proofs.Verdicts.{record_same, record_sound}
 use Rattle.lists.proofs.Members.{has_self, has_later}
+use Rattle.std.specs.Prelude.{Ok}
 
 pub good_range : (degree d : ℕ) → (3 ≤ good_degree degree d) × (good_degree degree d ≤ 4)
 good_range degree d = go (d == degree)
@@ -47,7 +47,7 @@ degree_good size old degree d h = refl
 degree_good size new degree d h = ap (degree_word vertex_size) (four_good degree d h)
 
 -- records of three words have no degree
-pub old_run : (size : ℕ) (deg : List ℕ) (k : ℕ) (ws : List ℕ) (at : ℕ) → size ≤ 3 → degree_run size deg k ws at ≡ Sound
+pub old_run : (size : ℕ) (deg : List ℕ) (k : ℕ) (ws : List ℕ) (at : ℕ) → size ≤ 3 → degree_run size deg k ws at ≡ Ok tt
 unfolding degree_run
 old_run size deg zero ws at h = refl
 old_run size deg (suc k) ws at h =
@@ -66,8 +66,8 @@ degree_agrees size es deg (suc k) ws at h =
     degree_agrees size es deg k (drop size ws) (at + size) (λ v m. h v (has_later v n ns m)))
 
 -- a sound walk of one record more: its degree, and the rest
-pub degree_step : (size : ℕ) → Size size → (es : List Edge) (k : ℕ) (ws : List ℕ) (at : ℕ) → degree_walk size es (suc k) ws at ≡ Sound →
-    (degree_word size (get_or ws 3 0) ≡ degree_word size (length (words_at es (get_or ws 0 0)))) × (degree_walk size es k (drop size ws) (at + size) ≡ Sound)
+pub degree_step : (size : ℕ) → Size size → (es : List Edge) (k : ℕ) (ws : List ℕ) (at : ℕ) → degree_walk size es (suc k) ws at ≡ Ok tt →
+    (degree_word size (get_or ws 3 0) ≡ degree_word size (length (words_at es (get_or ws 0 0)))) × (degree_walk size es k (drop size ws) (at + size) ≡ Ok tt)
 unfolding walk
 degree_step size z es k ws at s =
     let d = length (words_at es (get_or ws 0 0)) in

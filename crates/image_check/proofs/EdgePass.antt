@@ -18,12 +18,12 @@ use Rattle.image.specs.Image.{edge_size, edges_from}
 use Rattle.image_check.specs.Checks.{walk, part_limits}
 use Rattle.image_check.proofs.Walks.{good_edge, edge_walk}
 use Rattle.image_check.specs.Scratch.{bumped, with_ends, owned, edge_run, edge_degrees, edge_owners}
-use Rattle.image_check.specs.declared.Verdict.TheVariants.{Sound}
 use Rattle.lists.proofs.Bools.{within_range}
 use Rattle.lists.proofs.WordLaws.{inside}
 use Rattle.image.proofs.Ends.{words_length}
 use Rattle.image_check.proofs.Verdicts.{record_same, record_sound, EdgeOk, edge_ok}
 use Rattle.image_check.proofs.VertexPass.{Indicator}
+use Rattle.std.specs.Prelude.{Ok}
 
 -- ---- the tables
 
@@ -164,9 +164,9 @@ module _ (cap types : ℕ) (vs : List ℕ) where
   pub record EdgeStep (seen : List ℕ) (k : ℕ) (ws : List ℕ) (at : ℕ) : Type 0 where
     pub ok : EdgeOk cap types (not (member (get_or ws 0 0) seen)) (member (get_or ws 1 0) vs) (member (get_or ws 2 0) vs) (get_or ws 0 0) (get_or ws 3 0) (get_or ws 4 0) (get_or ws 5 0)
     pub high : get_or ws 0 0 ≤ cap
-    pub rest : edge_walk cap types vs (get_or ws 0 0 ∷ seen) k (drop edge_size ws) (at + edge_size) ≡ Sound
+    pub rest : edge_walk cap types vs (get_or ws 0 0 ∷ seen) k (drop edge_size ws) (at + edge_size) ≡ Ok tt
 
-  pub edge_step : (seen : List ℕ) (k : ℕ) (ws : List ℕ) (at : ℕ) → edge_walk cap types vs seen (suc k) ws at ≡ Sound → EdgeStep seen k ws at
+  pub edge_step : (seen : List ℕ) (k : ℕ) (ws : List ℕ) (at : ℕ) → edge_walk cap types vs seen (suc k) ws at ≡ Ok tt → EdgeStep seen k ws at
   unfolding walk
   edge_step seen k ws at s =
       let n = get_or ws 0 0 in
@@ -198,7 +198,7 @@ module _ (cap types : ℕ) (vs : List ℕ) where
         (marked_ends vs deg a o ok.starts ok.stops m)
         (seen_owned own n a o seen (omega arith) (not_zero a ok.starts) s))
 
-    pub degrees_agree : (deg seen : List ℕ) (k : ℕ) (ws : List ℕ) (at : ℕ) → Marked vs deg → edge_walk cap types vs seen k ws at ≡ Sound →
+    pub degrees_agree : (deg seen : List ℕ) (k : ℕ) (ws : List ℕ) (at : ℕ) → Marked vs deg → edge_walk cap types vs seen k ws at ≡ Ok tt →
         (v : ℕ) → get_or (edge_degrees deg k ws) v 0 ≡ get_or deg v 0 + length (words_at (edges_from k ws) v)
     unfolding edge_degrees edges_from words_at
     degrees_agree deg seen zero ws at m s v = omega arith
@@ -218,7 +218,7 @@ module _ (cap types : ℕ) (vs : List ℕ) where
           ap to_bit (eqb_sym v o),
         )
 
-    pub owners_agree : (own seen : List ℕ) (k : ℕ) (ws : List ℕ) (at : ℕ) → 2 * cap + 1 < length own → Seen seen own → Paired own → edge_walk cap types vs seen k ws at ≡ Sound →
+    pub owners_agree : (own seen : List ℕ) (k : ℕ) (ws : List ℕ) (at : ℕ) → 2 * cap + 1 < length own → Seen seen own → Paired own → edge_walk cap types vs seen k ws at ≡ Ok tt →
         (v : ℕ) → 1 ≤ v → (w : ℕ) → to_bit (get_or (edge_owners own k ws) w 0 == v) ≡ to_bit (get_or own w 0 == v) + count w (words_at (edges_from k ws) v)
     unfolding edge_owners edges_from words_at
     owners_agree own seen zero ws at h u p s v l w = omega arith

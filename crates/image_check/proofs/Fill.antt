@@ -21,8 +21,6 @@ use Rattle.graph.specs.WellFormed.{words_at}
 use Rattle.image.specs.Image.{degree_word}
 use Rattle.image_check.specs.Checks.{walk, good_list, list_walk, passed}
 use Rattle.image_check.proofs.Walks.{vertex_walk, edge_walk}
-use Rattle.image_check.specs.declared.Verdict.{Verdict}
-use Rattle.image_check.specs.declared.Verdict.TheVariants.{Sound, BadRecord, BadIncidence}
 use Rattle.image.proofs.Sizes.{Size, degree_length}
 use Rattle.image.proofs.Counts.{rem_count, rem_length}
 use Rattle.image.proofs.Ends.{ends}
@@ -30,6 +28,9 @@ use Rattle.image_check.proofs.Verdicts.{VertexOk, vertex_ok, EdgeOk, edge_ok}
 use Rattle.image_check.proofs.SoundLoads.{good_alike, reading_known, cut_vertex, cut6}
 use Rattle.image_check.proofs.SavedSound.{kind_le, alike_good}
 use Rattle.image_check.proofs.Offsets.{sound_record, sound_incidence, record_bad, list_bad, vertex_at, vertex_range, edge_at, edge_range, list_from}
+use Rattle.std.specs.Prelude.{Ok, Err}
+use Rattle.image_check.specs.declared.BadImage.TheVariants.{Record, Incidence}
+use Rattle.image_check.specs.Checks.{Verdict}
 
 -- ---- a number that is not used
 
@@ -64,7 +65,7 @@ free (suc cap) seen h = go (λ l q. free cap l q) (member (suc cap) seen) refl
 pub record Filled (walk : List ℕ → Verdict) (n j : ℕ) (ws : List ℕ) : Type 0 where
   pub words : List ℕ
   pub long : length words ≡ n
-  pub sound : walk words ≡ Sound
+  pub sound : walk words ≡ Ok tt
   pub begin : take j words ≡ take j ws
 
 -- the same words in front
@@ -88,8 +89,8 @@ module _ (size : ℕ) (z : Size size) (cap types : ℕ) (some : 1 ≤ types) whe
   row_length : (n t x d : ℕ) (us : List ℕ) → length (row n t x d us) ≡ size + length us
   row_length n t x d us = omega (arith, length-append (degree_word size d) us, degree_length size z d)
 
-  vertex_cons : (seen : List ℕ) (k at n t x d : ℕ) (us : List ℕ) → VertexOk cap types (not (member n seen)) n t x → vwalk (n ∷ seen) k (at + size) us ≡ Sound →
-      vwalk seen (suc k) at (row n t x d us) ≡ Sound
+  vertex_cons : (seen : List ℕ) (k at n t x d : ℕ) (us : List ℕ) → VertexOk cap types (not (member n seen)) n t x → vwalk (n ∷ seen) k (at + size) us ≡ Ok tt →
+      vwalk seen (suc k) at (row n t x d us) ≡ Ok tt
   unfolding walk
   vertex_cons seen k at n t x d us o s =
       rw (o.number, o.new, o.type, o.value, drop_at (n ∷ t ∷ x ∷ degree_word size d) us size (omega (arith, degree_length size z d))) s
@@ -158,7 +159,7 @@ module _ (size : ℕ) (z : Size size) (cap types : ℕ) (some : 1 ≤ types) whe
             ∙ ap (take j) cut;
       }
 
-  pub vertex_fit : (seen : List ℕ) (k : ℕ) (ws : List ℕ) (at m j : ℕ) → vertex_walk size cap types seen k ws at ≡ BadRecord m → at + j ≡ m → length ws ≡ size * k →
+  pub vertex_fit : (seen : List ℕ) (k : ℕ) (ws : List ℕ) (at m j : ℕ) → vertex_walk size cap types seen k ws at ≡ Err (Record m) → at + j ≡ m → length ws ≡ size * k →
       length seen + k ≤ cap → Filled (vwalk seen k at) (size * k) j ws
   unfolding walk
   vertex_fit seen zero ws at m j h q e l = absurd (sound_record h)
@@ -191,11 +192,11 @@ module _ (cap types : ℕ) (some : 1 ≤ types) (ns : List ℕ) where
   abbrev ewalk : List ℕ → ℕ → ℕ → List ℕ → Verdict
   ewalk seen k at us = edge_walk cap types ns seen k us at
 
-  abbrev Ok : List ℕ → ℕ → ℕ → ℕ → ℕ → ℕ → ℕ → Type 0
-  Ok seen n a o t c d = EdgeOk cap types (not (member n seen)) (member a ns) (member o ns) n t c d
+  abbrev EdgeAt : List ℕ → ℕ → ℕ → ℕ → ℕ → ℕ → ℕ → Type 0
+  EdgeAt seen n a o t c d = EdgeOk cap types (not (member n seen)) (member a ns) (member o ns) n t c d
 
-  edge_cons : (seen : List ℕ) (k at n a o t c d : ℕ) (us : List ℕ) → Ok seen n a o t c d → ewalk (n ∷ seen) k (at + 6) us ≡ Sound →
-      ewalk seen (suc k) at (n ∷ a ∷ o ∷ t ∷ c ∷ d ∷ us) ≡ Sound
+  edge_cons : (seen : List ℕ) (k at n a o t c d : ℕ) (us : List ℕ) → EdgeAt seen n a o t c d → ewalk (n ∷ seen) k (at + 6) us ≡ Ok tt →
+      ewalk seen (suc k) at (n ∷ a ∷ o ∷ t ∷ c ∷ d ∷ us) ≡ Ok tt
   unfolding walk
   edge_cons seen k at n a o t c d us x s = rw (x.number, x.new, x.starts, x.stops, x.type, reading_kind c d x.reading, x.reading) s
 
@@ -216,7 +217,7 @@ module _ (cap types : ℕ) (some : 1 ≤ types) (ns : List ℕ) where
           begin = refl;
         }
 
-    edge_then : (seen : List ℕ) (k at j n a o t c d : ℕ) (ws : List ℕ) → length seen + suc k ≤ cap → Ok seen n a o t c d →
+    edge_then : (seen : List ℕ) (k at j n a o t c d : ℕ) (ws : List ℕ) → length seen + suc k ≤ cap → EdgeAt seen n a o t c d →
         ((us : List ℕ) → take j (n ∷ a ∷ o ∷ t ∷ c ∷ d ∷ us) ≡ take j ws) → Filled (ewalk seen (suc k) at) (6 * suc k) j ws
     edge_then seen k at j n a o t c d ws h x q =
         let r = edge_fill (n ∷ seen) k (at + 6) ws (omega arith) in
@@ -267,7 +268,7 @@ module _ (cap types : ℕ) (some : 1 ≤ types) (ns : List ℕ) where
         go true false f g z u r e1 e2 e3 e4 e5 e6 e7 q = subst (λ (i : ℕ). Filled (ewalk seen (suc k) at) (6 * suc k) i ws) (sym q) (edge_fill seen (suc k) at ws h)
         go false y f g z u r e1 e2 e3 e4 e5 e6 e7 q = subst (λ (i : ℕ). Filled (ewalk seen (suc k) at) (6 * suc k) i ws) (sym q) (edge_fill seen (suc k) at ws h)
 
-    edge_more : (seen : List ℕ) (k at n a o t c d : ℕ) (ws : List ℕ) {i j : ℕ} → Ok seen n a o t c d → Filled (ewalk (n ∷ seen) k (at + 6)) (6 * k) i (drop 6 ws) →
+    edge_more : (seen : List ℕ) (k at n a o t c d : ℕ) (ws : List ℕ) {i j : ℕ} → EdgeAt seen n a o t c d → Filled (ewalk (n ∷ seen) k (at + 6)) (6 * k) i (drop 6 ws) →
         j ≡ suc (suc (suc (suc (suc (suc i))))) → n ∷ a ∷ o ∷ t ∷ c ∷ d ∷ drop 6 ws ≡ ws → Filled (ewalk seen (suc k) at) (6 * suc k) j ws
     edge_more seen k at n a o t c d ws {i} {j} x r e cut =
         record {
@@ -277,7 +278,7 @@ module _ (cap types : ℕ) (some : 1 ≤ types) (ns : List ℕ) where
           begin = rw e (ap (λ (z : List ℕ). n ∷ a ∷ o ∷ t ∷ c ∷ d ∷ z) r.begin ∙ ap (take (suc (suc (suc (suc (suc (suc i))))))) cut);
         }
 
-    pub edge_fit : (seen : List ℕ) (k : ℕ) (ws : List ℕ) (at m j : ℕ) → edge_walk cap types ns seen k ws at ≡ BadRecord m → at + j ≡ m → length ws ≡ 6 * k →
+    pub edge_fit : (seen : List ℕ) (k : ℕ) (ws : List ℕ) (at m j : ℕ) → edge_walk cap types ns seen k ws at ≡ Err (Record m) → at + j ≡ m → length ws ≡ 6 * k →
         length seen + k ≤ cap → Filled (ewalk seen k at) (6 * k) j ws
     unfolding walk
     edge_fit seen zero ws at m j h q e l = absurd (sound_record h)
@@ -324,7 +325,7 @@ module _ (es : List Edge) where
 
   -- one list, and the rest
   list_cons : (n : ℕ) (ns : List ℕ) (at : ℕ) (xs us : List ℕ) → length xs ≡ length (words_at es n) → good_list (length (words_at es n)) (words_at es n) (xs ++ us) ≡ length (words_at es n) →
-      lwalk ns (at + length (words_at es n)) us ≡ Sound → lwalk (n ∷ ns) at (xs ++ us) ≡ Sound
+      lwalk ns (at + length (words_at es n)) us ≡ Ok tt → lwalk (n ∷ ns) at (xs ++ us) ≡ Ok tt
   unfolding list_walk
   list_cons n ns at xs us e g s =
       let d = length (words_at es n) in
@@ -344,7 +345,7 @@ module _ (es : List Edge) where
         begin = refl;
       }
 
-  pub lists_fit : (ns ws : List ℕ) (at m j : ℕ) → list_walk es ns ws at ≡ BadIncidence m → at + j ≡ m → length ws ≡ ends es ns → Filled (lwalk ns at) (ends es ns) j ws
+  pub lists_fit : (ns ws : List ℕ) (at m j : ℕ) → list_walk es ns ws at ≡ Err (Incidence m) → at + j ≡ m → length ws ≡ ends es ns → Filled (lwalk ns at) (ends es ns) j ws
   unfolding list_walk ends
   lists_fit [] [] at m j h q e = absurd (sound_incidence h)
   lists_fit [] (w ∷ ws) at m j h q e = absurd (omega arith)

@@ -20,8 +20,6 @@ use Rattle.image_check.specs.Checks.{good_list, list_walk, sound_counts, numbers
 use Rattle.image_check.proofs.Walks.{vertex_walk, edge_walk, degree_walk}
 use Rattle.image_check.specs.Checks.{parts_verdict, verdict}
 use Rattle.image_check.specs.FirstBad.{pass_of, Begins}
-use Rattle.image_check.specs.declared.Verdict.{Verdict}
-use Rattle.image_check.specs.declared.Verdict.TheVariants.{Sound, BadHeader, BadRecord, BadIncidence}
 use Rattle.image.proofs.Sizes.{size_range, row_in, row_back, record_size_lem, size_by}
 use Rattle.image.proofs.Ends.{ends, ends_nil, ends_two}
 use Rattle.image.proofs.Headers.{sound_length}
@@ -33,6 +31,9 @@ use Rattle.image_check.proofs.Offsets.{sound_record, sound_incidence, header_rec
 use Rattle.image_check.proofs.Offsets.{walk_no_incidence, vertex_prefix, edge_range, edge_prefix, degree_wrong, degrees_right, list_from}
 use Rattle.image_check.proofs.Offsets.{list_no_bad_record, list_prefix}
 use Rattle.image_check.proofs.ReadOrder.{header_plain, is_degree_lem, read_plain, read_degree, read_list, read_row, read_edge}
+use Rattle.std.specs.Prelude.{Ok, Err}
+use Rattle.image_check.specs.declared.BadImage.TheVariants.{Header, Record, Incidence}
+use Rattle.image_check.specs.Checks.{Verdict}
 
 -- ---- the walk that finds the bad word
 
@@ -45,29 +46,29 @@ module _ (b : Bounds) (ws : List ℕ) where
     pub counts : sound_counts b.vertices b.edges (vertex_count ws) (edge_count ws) ≡ true
     pub parts : parts_verdict (record_size ws) b ws ≡ v
 
-  headed : (v : Verdict) → (BadHeader ≡ v → ⊥) → verdict b ws ≡ v → Headed v
+  headed : (v : Verdict) → (Err Header ≡ v → ⊥) → verdict b ws ≡ v → Headed v
   unfolding verdict
   headed v n h = go (sound_header ws) (sound_counts b.vertices b.edges (vertex_count ws) (edge_count ws)) refl refl h
     where
       go : (x y : Bool) → sound_header ws ≡ x → sound_counts b.vertices b.edges (vertex_count ws) (edge_count ws) ≡ y →
-          (not (x && y) ⇒ BadHeader else parts_verdict (record_size ws) b ws) ≡ v → Headed v
+          (not (x && y) ⇒ (Err Header) else parts_verdict (record_size ws) b ws) ≡ v → Headed v
       go true true e f h = record { header = e; counts = f; parts = h }
       go true false e f h = absurd (n h)
       go false y e f h = absurd (n h)
 
-  pub record_headed : (k : ℕ) → verdict b ws ≡ BadRecord k → Headed (BadRecord k)
-  record_headed k h = headed (BadRecord k) header_record h
+  pub record_headed : (k : ℕ) → verdict b ws ≡ Err (Record k) → Headed (Err (Record k))
+  record_headed k h = headed (Err (Record k)) header_record h
 
-  pub incidence_headed : (k : ℕ) → verdict b ws ≡ BadIncidence k → Headed (BadIncidence k)
-  incidence_headed k h = headed (BadIncidence k) header_incidence h
+  pub incidence_headed : (k : ℕ) → verdict b ws ≡ Err (Incidence k) → Headed (Err (Incidence k))
+  incidence_headed k h = headed (Err (Incidence k)) header_incidence h
 
   -- a bad record: of a vertex; of an edge, where all of these are sound; or by a degree, where all others are
   pub data Found (k : ℕ) : Type 0 where
-    in_vertex : vertex_verdict (record_size ws) b ws ≡ BadRecord k → Found k
-    in_edge : vertex_verdict (record_size ws) b ws ≡ Sound → edge_verdict (record_size ws) b ws ≡ BadRecord k → Found k
-    in_degree : vertex_verdict (record_size ws) b ws ≡ Sound → edge_verdict (record_size ws) b ws ≡ Sound → degree_verdict (record_size ws) ws ≡ BadRecord k → Found k
+    in_vertex : vertex_verdict (record_size ws) b ws ≡ Err (Record k) → Found k
+    in_edge : vertex_verdict (record_size ws) b ws ≡ Ok tt → edge_verdict (record_size ws) b ws ≡ Err (Record k) → Found k
+    in_degree : vertex_verdict (record_size ws) b ws ≡ Ok tt → edge_verdict (record_size ws) b ws ≡ Ok tt → degree_verdict (record_size ws) ws ≡ Err (Record k) → Found k
 
-  pub record_found : (k : ℕ) → verdict b ws ≡ BadRecord k → Found k
+  pub record_found : (k : ℕ) → verdict b ws ≡ Err (Record k) → Found k
   record_found k h = elim (then_record (vertex_verdict size b ws) _ k (record_headed k h).parts) [
     | inl x ↦ in_vertex x
     | inr x ↦ elim (then_record (edge_verdict size b ws) _ k x.1) [
@@ -81,12 +82,12 @@ module _ (b : Bounds) (ws : List ℕ) where
 
   -- a bad incidence: all records are sound
   pub record Listed (k : ℕ) : Type 0 where
-    pub vertices : vertex_verdict (record_size ws) b ws ≡ Sound
-    pub edges : edge_verdict (record_size ws) b ws ≡ Sound
-    pub degrees : degree_verdict (record_size ws) ws ≡ Sound
-    pub lists : list_verdict (record_size ws) ws ≡ BadIncidence k
+    pub vertices : vertex_verdict (record_size ws) b ws ≡ Ok tt
+    pub edges : edge_verdict (record_size ws) b ws ≡ Ok tt
+    pub degrees : degree_verdict (record_size ws) ws ≡ Ok tt
+    pub lists : list_verdict (record_size ws) ws ≡ Err (Incidence k)
 
-  pub incidence_found : (k : ℕ) → verdict b ws ≡ BadIncidence k → Listed k
+  pub incidence_found : (k : ℕ) → verdict b ws ≡ Err (Incidence k) → Listed k
   incidence_found k h = elim (then_incidence (vertex_verdict size b ws) _ k (incidence_headed k h).parts) [
     | inl x ↦ absurd (walk_no_incidence _ _ _ _ [] (vertex_count ws) (vertex_part size ws) vertex_offset k x)
     | inr x ↦ elim (then_incidence (edge_verdict size b ws) _ k x.1) [
@@ -101,7 +102,7 @@ module _ (b : Bounds) (ws : List ℕ) where
 -- ---- the part that the offset stands in
 
 -- the lists that sound records ask for are all the words of the incidence part
-pub walk_ends : (cap types : ℕ) (ns seen : List ℕ) (k : ℕ) (ws : List ℕ) (at : ℕ) → distinct ns ≡ true → edge_walk cap types ns seen k ws at ≡ Sound → ends (edges_from k ws) ns ≡ 2 * k
+pub walk_ends : (cap types : ℕ) (ns seen : List ℕ) (k : ℕ) (ws : List ℕ) (at : ℕ) → distinct ns ≡ true → edge_walk cap types ns seen k ws at ≡ Ok tt → ends (edges_from k ws) ns ≡ 2 * k
 unfolding edges_from
 walk_ends cap types ns seen zero ws at d h = ends_nil ns
 walk_ends cap types ns seen (suc k) ws at d h =
@@ -109,7 +110,7 @@ walk_ends cap types ns seen (suc k) ws at d h =
     let q = walk_ends cap types ns (get_or ws 0 0 ∷ seen) k (drop 6 ws) (at + 6) d r.rest in
     ends_two _ (edges_from k (drop 6 ws)) ns d r.ok.starts r.ok.stops ∙ omega (arith, q)
 
-list_to : (es : List Edge) (ns ws : List ℕ) (at m : ℕ) → length ws ≡ ends es ns → list_walk es ns ws at ≡ BadIncidence m → m < at + length ws
+list_to : (es : List Edge) (ns ws : List ℕ) (at m : ℕ) → length ws ≡ ends es ns → list_walk es ns ws at ≡ Err (Incidence m) → m < at + length ws
 unfolding list_walk ends
 list_to es [] [] at m e h = absurd (sound_incidence h)
 list_to es [] (w ∷ ws) at m e h = absurd (omega arith)
@@ -123,7 +124,7 @@ list_to es (n ∷ ns) ws at m e h =
 
 module _ (b : Bounds) (ws : List ℕ) (k : ℕ) where
   -- an offset of a bad record names a word of the records
-  pub record_in : verdict b ws ≡ BadRecord k → (vertex_offset ≤ k) × (k < incidence_offset (record_size ws) (vertex_count ws) (edge_count ws))
+  pub record_in : verdict b ws ≡ Err (Record k) → (vertex_offset ≤ k) × (k < incidence_offset (record_size ws) (vertex_count ws) (edge_count ws))
   record_in h = go (record_found b ws k h)
     where
       size' : ℕ
@@ -142,7 +143,7 @@ module _ (b : Bounds) (ws : List ℕ) (k : ℕ) where
           (omega (arith, p.place), omega (arith, p.place, row_in size' p.row 3 (vertex_count ws) p.inside (omega (arith, w.four))))
 
   -- the incidence part is as long as the lists together
-  pub incidences_all : sound_header ws ≡ true → vertex_verdict (record_size ws) b ws ≡ Sound → edge_verdict (record_size ws) b ws ≡ Sound →
+  pub incidences_all : sound_header ws ≡ true → vertex_verdict (record_size ws) b ws ≡ Ok tt → edge_verdict (record_size ws) b ws ≡ Ok tt →
       length (incidence_part (record_size ws) ws) ≡ ends (edges_of (record_size ws) ws) (numbers_of (record_size ws) ws)
   incidences_all t x y =
       let size = record_size ws in
@@ -155,7 +156,7 @@ module _ (b : Bounds) (ws : List ℕ) (k : ℕ) where
       )
 
   -- an offset of a bad incidence names a word of the incidence part
-  pub incidence_in : verdict b ws ≡ BadIncidence k → (incidence_offset (record_size ws) (vertex_count ws) (edge_count ws) ≤ k) × (k < length ws)
+  pub incidence_in : verdict b ws ≡ Err (Incidence k) → (incidence_offset (record_size ws) (vertex_count ws) (edge_count ws) ≤ k) × (k < length ws)
   incidence_in h =
       let t = (incidence_headed b ws k h).header in
       let f = incidence_found b ws k h in
@@ -261,33 +262,33 @@ module _ (b : Bounds) (ws : List ℕ) (k : ℕ) (us : List ℕ) (before : Begins
         ))
         (λ i l. part_word o (edge_size * e) i us ws (λ q. plain (o + i) (read_edge ws (o + i) (omega arith) (omega arith)) (λ z. omega (arith, h z))))
 
-    vertices_sound : vertex_walk n b.vertices b.types [] v vs vertex_offset ≡ Sound
+    vertices_sound : vertex_walk n b.vertices b.types [] v vs vertex_offset ≡ Ok tt
     vertices_sound = rw (same_size, head 0 (omega arith)) at s.vertices
 
-    edges_sound : edge_walk b.edges b.types (numbers_in n v vs) [] e es o ≡ Sound
+    edges_sound : edge_walk b.edges b.types (numbers_in n v vs) [] e es o ≡ Ok tt
     edges_sound = rw (same_size, head 0 (omega arith), head 1 (omega arith)) at s.edges
 
-    degrees_sound : degree_walk n (edges_from e es) v vs vertex_offset ≡ Sound
+    degrees_sound : degree_walk n (edges_from e es) v vs vertex_offset ≡ Ok tt
     degrees_sound = rw (same_size, head 0 (omega arith), head 1 (omega arith)) at s.degrees
 
-    lists_sound : list_walk (edges_from e es) (numbers_in n v vs) (drop end us) end ≡ Sound
+    lists_sound : list_walk (edges_from e es) (numbers_in n v vs) (drop end us) end ≡ Ok tt
     lists_sound = rw (same_size, head 0 (omega arith), head 1 (omega arith)) at s.lists
 
-    not_vertex : vertex_verdict n b ws ≡ BadRecord k → ⊥
+    not_vertex : vertex_verdict n b ws ≡ Err (Record k) → ⊥
     not_vertex h =
         sound_record (sym vertices_sound
         ∙ vertex_prefix n (record_size_lem ws) b.vertices b.types [] v vs (vertex_part n ws) vertex_offset k h (λ j r l q. row_same j r l (λ z. q)))
 
-    not_edge : edge_verdict n b ws ≡ BadRecord k → ⊥
+    not_edge : edge_verdict n b ws ≡ Err (Record k) → ⊥
     not_edge h =
         let r = edge_range b.edges b.types (numbers_of n ws) [] e (edge_part n ws) o k h in
-        let at : edge_walk b.edges b.types (numbers_of n ws) [] e es o ≡ Sound = rw (numbers_at (λ z. r.0)) at edges_sound in
+        let at : edge_walk b.edges b.types (numbers_of n ws) [] e es o ≡ Ok tt = rw (numbers_at (λ z. r.0)) at edges_sound in
         sound_record (sym at
         ∙ edge_prefix b.edges b.types (numbers_of n ws) [] e es (edge_part n ws) o k h
         (λ i l. part_word o (edge_size * e) i us ws (λ q. plain (o + i) (read_edge ws (o + i) (omega arith) (omega arith)) (λ z. l))))
 
     -- a degree that disagrees with the edges does so in us
-    not_degree : degree_verdict n ws ≡ BadRecord k → ⊥
+    not_degree : degree_verdict n ws ≡ Err (Record k) → ⊥
     not_degree h =
         let w = degree_wrong n (record_size_lem ws) (edges_of n ws) v (vertex_part n ws) vertex_offset k h in
         let p = w.at_row in
@@ -300,11 +301,11 @@ module _ (b : Bounds) (ws : List ℕ) (k : ℕ) (us : List ℕ) (before : Begins
         let edges : edges_from e es ≡ edges_of n ws = ap (edges_from e) (edges_at (λ z. absurd (omega (arith, one, z)))) in
         w.disagrees (sym here ∙ t ∙ ap₂ (λ (x : List Edge) (y : ℕ). length (words_at x y)) edges number)
 
-    not_incidence : list_verdict n ws ≡ BadIncidence k → ⊥
+    not_incidence : list_verdict n ws ≡ Err (Incidence k) → ⊥
     not_incidence h =
         let r = list_from (edges_of n ws) (numbers_of n ws) (incidence_part n ws) end k h in
         let two : pass_of ws k ≡ 2 = read_list ws k r in
-        let at : list_walk (edges_of n ws) (numbers_of n ws) (drop end us) end ≡ Sound =
+        let at : list_walk (edges_of n ws) (numbers_of n ws) (drop end us) end ≡ Ok tt =
         rw (numbers_at (λ z. absurd (omega (arith, two, z))), edges_at (λ z. absurd (omega (arith, two, z)))) at lists_sound in
         sound_incidence (sym at
         ∙ list_prefix (edges_of n ws) (numbers_of n ws) (drop end us) (incidence_part n ws) end k (omega (arith, length-drop end us, length-drop end ws, same_length)) h
@@ -318,7 +319,7 @@ module _ (b : Bounds) (ws : List ℕ) (k : ℕ) (us : List ℕ) (before : Begins
             go false q = let f : k ≡ i = omega (arith, ltb-false i k q, m) in subst (λ (x : ℕ). get_or us x 0 ≡ get_or ws x 0) f this
 
   -- the offset is that of a bad record or a bad incidence
-  pub nothing_follows : (verdict b ws ≡ BadRecord k) ⊎ (verdict b ws ≡ BadIncidence k) → loadable b us ≡ false
+  pub nothing_follows : (verdict b ws ≡ Err (Record k)) ⊎ (verdict b ws ≡ Err (Incidence k)) → loadable b us ≡ false
   nothing_follows h = go (loadable b us) refl
     where
       found : vertex_offset ≤ k → sound_header ws ≡ true → Sounds b us → Found b ws k → ⊥

@@ -21,7 +21,6 @@ use Rattle.image.specs.Image.{incidence_part, edges_from, loadable}
 use Rattle.image_check.specs.Checks.{list_walk, sound_counts, numbers_of, edges_of, vertex_verdict, edge_verdict, degree_verdict, list_verdict, verdict}
 use Rattle.image_check.proofs.Walks.{vertex_walk, edge_walk, degree_walk}
 use Rattle.image_check.specs.FirstBad.{pass_of, ReadBefore, Begins}
-use Rattle.image_check.specs.declared.Verdict.TheVariants.{Sound, BadRecord, BadIncidence}
 use Rattle.image.proofs.Sizes.{Size, record_size_lem, size_by}
 use Rattle.lists.proofs.Equality.{words_refl}
 use Rattle.image.proofs.Ends.{ends}
@@ -37,6 +36,8 @@ use Rattle.image_check.proofs.WithDegrees.{with_degrees, degrees_long, degrees_w
 use Rattle.image_check.proofs.ReadOrder.{degree_row, is_degree_lem, plain_row, first_plain, second_degree, read_row, read_degree, read_edge, read_list}
 use Rattle.image_check.proofs.FirstBad.{Found, in_vertex, in_edge, in_degree, record_headed, incidence_headed, record_found, incidence_found, walk_ends, incidences_all}
 use Rattle.image_check.proofs.Fill.{vertex_fit, edge_fill, edge_fit, lists_fill, lists_fit}
+use Rattle.std.specs.Prelude.{Ok, Err}
+use Rattle.image_check.specs.declared.BadImage.TheVariants.{Record, Incidence}
 
 -- ---- words of lists that are put together
 
@@ -136,9 +137,9 @@ module _ (b : Bounds) (ws : List ℕ) (header : sound_header ws ≡ true) where
     whole_incidences : incidence_part n (whole vs es is) ≡ is
     whole_incidences = sym (drop-drop (edge_size * e) o (whole vs es is)) ∙ ap (drop (edge_size * e)) behind_vertices ∙ drop_at es is (edge_size * e) le
 
-    whole_sound : sound_counts b.vertices b.edges v e ≡ true → vertex_walk n b.vertices b.types [] v vs vertex_offset ≡ Sound →
-        edge_walk b.edges b.types (numbers_in n v vs) [] e es o ≡ Sound → degree_walk n (edges_from e es) v vs vertex_offset ≡ Sound →
-        list_walk (edges_from e es) (numbers_in n v vs) is end ≡ Sound → verdict b (whole vs es is) ≡ Sound
+    whole_sound : sound_counts b.vertices b.edges v e ≡ true → vertex_walk n b.vertices b.types [] v vs vertex_offset ≡ Ok tt →
+        edge_walk b.edges b.types (numbers_in n v vs) [] e es o ≡ Ok tt → degree_walk n (edges_from e es) v vs vertex_offset ≡ Ok tt →
+        list_walk (edges_from e es) (numbers_in n v vs) is end ≡ Ok tt → verdict b (whole vs es is) ≡ Ok tt
     unfolding verdict
     whole_sound c x y d z = rw (whole_header, c, whole_size, whole_vertices, whole_edges, whole_incidences, x) (rw y (rw d z))
 
@@ -167,14 +168,14 @@ module _ (b : Bounds) (ws : List ℕ) (header : sound_header ws ≡ true) where
     few = counts_le b.vertices b.edges v e counts
 
     -- sound records: the lists are two words for each edge
-    lists_long : (vs es : List ℕ) → vertex_walk n b.vertices b.types [] v vs vertex_offset ≡ Sound →
-        edge_walk b.edges b.types (numbers_in n v vs) [] e es o ≡ Sound → ends (edges_from e es) (numbers_in n v vs) ≡ 2 * e
+    lists_long : (vs es : List ℕ) → vertex_walk n b.vertices b.types [] v vs vertex_offset ≡ Ok tt →
+        edge_walk b.edges b.types (numbers_in n v vs) [] e es o ≡ Ok tt → ends (edges_from e es) (numbers_in n v vs) ≡ 2 * e
     lists_long vs es x y =
         walk_ends b.edges b.types (numbers_in n v vs) [] e es o (walk_distinct n b.vertices b.types [] v vs vertex_offset x) y
 
     -- records are sound: the degrees are put right, and the lists filled up
-    with_lists : (vs es : List ℕ) → length es ≡ edge_size * e → vertex_walk n b.vertices b.types [] v vs vertex_offset ≡ Sound →
-        edge_walk b.edges b.types (numbers_in n v vs) [] e es o ≡ Sound →
+    with_lists : (vs es : List ℕ) → length es ≡ edge_size * e → vertex_walk n b.vertices b.types [] v vs vertex_offset ≡ Ok tt →
+        edge_walk b.edges b.types (numbers_in n v vs) [] e es o ≡ Ok tt →
         ((i : ℕ) → ReadBefore ws (vertex_offset + i) k → i < n * v → get_or (with_degrees n (edges_from e es) v vs) i 0 ≡ get_or (vertex_part n ws) i 0) →
         ((i : ℕ) → ReadBefore ws (o + i) k → i < edge_size * e → get_or es i 0 ≡ get_or (edge_part n ws) i 0) →
         ((i : ℕ) → ReadBefore ws (end + i) k → ⊥) → Follows b ws k
@@ -183,7 +184,7 @@ module _ (b : Bounds) (ws : List ℕ) (header : sound_header ws ≡ true) where
         let us = with_degrees n E v vs in
         let ns : numbers_in n v us ≡ numbers_in n v vs = degrees_numbers n z E v vs in
         let x' = degrees_walk n z E b.vertices b.types [] v vs vertex_offset ∙ x in
-        let y' : edge_walk b.edges b.types (numbers_in n v us) [] e es o ≡ Sound = rw ns y in
+        let y' : edge_walk b.edges b.types (numbers_in n v us) [] e es o ≡ Ok tt = rw ns y in
         let r = lists_fill E (numbers_in n v us) end [] in
         let lu = degrees_long n z E v vs in
         let li = r.long ∙ lists_long us es x' y' in
@@ -208,7 +209,7 @@ module _ (b : Bounds) (ws : List ℕ) (header : sound_header ws ≡ true) where
       | inr x ↦ (x.0 ∙ f, x.1)
     ]
 
-    after_vertex : 1 ≤ b.types → vertex_verdict n b ws ≡ BadRecord k → Follows b ws k
+    after_vertex : 1 ≤ b.types → vertex_verdict n b ws ≡ Err (Record k) → Follows b ws k
     after_vertex some h =
         let w = walk_place _ _ _ _ [] v (vertex_part n ws) vertex_offset k h in
         let r = vertex_range n z b.vertices b.types [] v (vertex_part n ws) vertex_offset k h in
@@ -223,7 +224,7 @@ module _ (b : Bounds) (ws : List ℕ) (header : sound_header ws ≡ true) where
         (λ i q l. absurd (omega (arith, (first_before zero_k (o + i) q).1, r.1)))
         (λ i q. omega (arith, (first_before zero_k (end + i) q).1, r.1))
 
-    after_edge : 1 ≤ b.types → vertex_verdict n b ws ≡ Sound → edge_verdict n b ws ≡ BadRecord k → Follows b ws k
+    after_edge : 1 ≤ b.types → vertex_verdict n b ws ≡ Ok tt → edge_verdict n b ws ≡ Err (Record k) → Follows b ws k
     after_edge some x h =
         let r = edge_range b.edges b.types (numbers_of n ws) [] e (edge_part n ws) o k h in
         let t = some_number n v (vertex_part n ws) (counts_some b.vertices b.edges v e counts (omega (arith, r.0, r.1))) in
@@ -236,7 +237,7 @@ module _ (b : Bounds) (ws : List ℕ) (header : sound_header ws ≡ true) where
         (λ i q. omega (arith, (first_before zero_k (end + i) q).1, r.1))
 
     -- the degrees before it are right already
-    after_degree : vertex_verdict n b ws ≡ Sound → edge_verdict n b ws ≡ Sound → degree_verdict n ws ≡ BadRecord k → Follows b ws k
+    after_degree : vertex_verdict n b ws ≡ Ok tt → edge_verdict n b ws ≡ Ok tt → degree_verdict n ws ≡ Err (Record k) → Follows b ws k
     after_degree x y h =
         let vs = vertex_part n ws in
         let es = edges_of n ws in
@@ -270,7 +271,7 @@ module _ (b : Bounds) (ws : List ℕ) (header : sound_header ws ≡ true) where
             subst (λ (x : ℕ). get_or (with_degrees n es v vs) x 0 ≡ get_or vs x 0) (sym place)
             (right ∙ ap (λ (x : ℕ). length (words_at es x)) stays ∙ sym (w.before j near))
 
-    after_incidence : vertex_verdict n b ws ≡ Sound → edge_verdict n b ws ≡ Sound → degree_verdict n ws ≡ Sound → list_verdict n ws ≡ BadIncidence k → Follows b ws k
+    after_incidence : vertex_verdict n b ws ≡ Ok tt → edge_verdict n b ws ≡ Ok tt → degree_verdict n ws ≡ Ok tt → list_verdict n ws ≡ Err (Incidence k) → Follows b ws k
     after_incidence x y d h =
         let vs = vertex_part n ws in
         let es = edge_part n ws in
@@ -293,7 +294,7 @@ module _ (b : Bounds) (ws : List ℕ) (header : sound_header ws ≡ true) where
 
 module _ (b : Bounds) (ws : List ℕ) (k : ℕ) where
   -- without types no words with a vertex load (no-types): then a bad type stands behind a number that nothing follows either
-  pub record_follows : 1 ≤ b.types → verdict b ws ≡ BadRecord k → Follows b ws k
+  pub record_follows : 1 ≤ b.types → verdict b ws ≡ Err (Record k) → Follows b ws k
   record_follows some h = go (record_found b ws k h)
     where
       go : Found b ws k → Follows b ws k
@@ -301,7 +302,7 @@ module _ (b : Bounds) (ws : List ℕ) (k : ℕ) where
       go (in_edge x y) = let t = record_headed b ws k h in after_edge b ws t.header k t.counts some x y
       go (in_degree x y q) = let t = record_headed b ws k h in after_degree b ws t.header k t.counts x y q
 
-  pub incidence_follows : verdict b ws ≡ BadIncidence k → Follows b ws k
+  pub incidence_follows : verdict b ws ≡ Err (Incidence k) → Follows b ws k
   incidence_follows h =
       let t = incidence_headed b ws k h in
       let f = incidence_found b ws k h in
@@ -310,7 +311,7 @@ module _ (b : Bounds) (ws : List ℕ) (k : ℕ) where
 pub no_types : (b : Bounds) (ws : List ℕ) → b.types ≡ 0 → 1 ≤ vertex_count ws → loadable b ws ≡ false
 no_types b ws z h = go (loadable b ws) refl
   where
-    none : (size v : ℕ) → 1 ≤ v → (vs : List ℕ) → vertex_walk size b.vertices b.types [] v vs vertex_offset ≡ Sound → ⊥
+    none : (size v : ℕ) → 1 ≤ v → (vs : List ℕ) → vertex_walk size b.vertices b.types [] v vs vertex_offset ≡ Ok tt → ⊥
     none size zero l vs s = omega arith
     none size (suc v) l vs s = omega (arith, z, ltb-true (get_or vs 1 0) b.types (vertex_step size b.vertices b.types [] v vs vertex_offset s).ok.type)
 

@@ -14,8 +14,9 @@ use Rattle.graph.specs.WellFormed.{Bounds, words_at}
 use Rattle.image.specs.Image.{old_vertex_size, edge_size, vertex_offset, edge_offset, incidence_offset, vertex_count, edge_count, record_size, sound_header, vertex_part, edge_part, incidence_part}
 use Rattle.image_check.specs.Checks.{walk, code_of, good_list, record_at, list_at, ended, and_then, list_walk, sound_counts, numbers_of, passed}
 use Rattle.image_check.specs.Checks.{edges_of, vertex_verdict, edge_verdict, degree_verdict, list_verdict, parts_verdict, verdict, load_code}
-use Rattle.image_check.specs.declared.Verdict.{Verdict}
-use Rattle.image_check.specs.declared.Verdict.TheVariants.{Sound, BadHeader, BadRecord, BadIncidence}
+use Rattle.std.specs.Prelude.{Ok, Err}
+use Rattle.image_check.specs.declared.BadImage.TheVariants.{Header, Record, Incidence}
+use Rattle.image_check.specs.Checks.{Verdict}
 
 -- another code than that of a header
 abbrev Other : Verdict → Type 0
@@ -24,22 +25,22 @@ Other v = code_of v ≡ 105 → ⊥
 record_other : (size at good : ℕ) (rest : Verdict) → Other rest → Other (record_at size at good rest)
 record_other size at good rest n = go (ltb good size)
   where
-    go : (t : Bool) → Other (t ⇒ BadRecord (at + good) else rest)
+    go : (t : Bool) → Other (t ⇒ Err (Record (at + good)) else rest)
     go true e = omega arith
     go false e = n e
 
 list_other : (d at good : ℕ) (rest : Verdict) → Other rest → Other (list_at d at good rest)
 list_other d at good rest n = go (ltb good d)
   where
-    go : (t : Bool) → Other (t ⇒ BadIncidence (at + good) else rest)
+    go : (t : Bool) → Other (t ⇒ Err (Incidence (at + good)) else rest)
     go true e = omega arith
     go false e = n e
 
 then_other : (x y : Verdict) → Other x → Other y → Other (and_then x y)
-then_other Sound y m n = n
-then_other BadHeader y m n = m
-then_other (BadRecord at) y m n = m
-then_other (BadIncidence at) y m n = m
+then_other (Ok tt) y m n = n
+then_other (Err Header) y m n = m
+then_other (Err (Record at)) y m n = m
+then_other (Err (Incidence at)) y m n = m
 
 module _ {S : Type 0} (tests : S → List ℕ → List Bool) (next : S → List ℕ → S) (tested size : ℕ) where
   walk_other : (s : S) (k : ℕ) (ws : List ℕ) (at : ℕ) → Other (walk tests next tested size s k ws at)
@@ -75,6 +76,6 @@ module _ (b : Bounds) (ws : List ℕ) where
   unfolding verdict
   header_code = go (sound_header ws && sound_counts b.vertices b.edges (vertex_count ws) (edge_count ws))
     where
-      go : (t : Bool) → (code_of (not t ⇒ BadHeader else parts_verdict (record_size ws) b ws) ≡ 105) ↔ (t ≡ false)
+      go : (t : Bool) → (code_of (not t ⇒ (Err Header) else parts_verdict (record_size ws) b ws) ≡ 105) ↔ (t ≡ false)
       go true = (λ e. absurd (parts_other (record_size ws) e), λ e. tf e)
       go false = (λ e. refl, λ e. refl)

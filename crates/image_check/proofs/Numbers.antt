@@ -11,18 +11,18 @@ use Rattle.lists.proofs.Bools.{tf, and_both}
 use Rattle.lists.proofs.Members.{has_self}
 use Rattle.image.specs.Image.{numbers_in}
 use Rattle.image_check.specs.Checks.{passed, walk, seeing}
-use Rattle.image_check.specs.declared.Verdict.TheVariants.{Sound}
 use Rattle.image_check.proofs.Verdicts.{record_sound}
+use Rattle.std.specs.Prelude.{Ok}
 
 module _ (tests : List ℕ → List ℕ → List Bool) (tested size : ℕ) (fresh : (seen ws : List ℕ) → tested ≤ passed (tests seen ws) → member (get_or ws 0 0) seen ≡ false) where
-  step : (seen : List ℕ) (k : ℕ) (ws : List ℕ) (at : ℕ) → walk tests seeing tested size seen (suc k) ws at ≡ Sound →
-      (member (get_or ws 0 0) seen ≡ false) × (walk tests seeing tested size (get_or ws 0 0 ∷ seen) k (drop size ws) (at + size) ≡ Sound)
+  step : (seen : List ℕ) (k : ℕ) (ws : List ℕ) (at : ℕ) → walk tests seeing tested size seen (suc k) ws at ≡ Ok tt →
+      (member (get_or ws 0 0) seen ≡ false) × (walk tests seeing tested size (get_or ws 0 0 ∷ seen) k (drop size ws) (at + size) ≡ Ok tt)
   unfolding walk
   step seen k ws at s =
       let r = record_sound tested at (passed (tests seen ws)) (walk tests seeing tested size (get_or ws 0 0 ∷ seen) k (drop size ws) (at + size)) s in
       (fresh seen ws r.0, r.1)
 
-  numbers_new : (seen : List ℕ) (k : ℕ) (ws : List ℕ) (at m : ℕ) → walk tests seeing tested size seen k ws at ≡ Sound → member m seen ≡ true → member m (numbers_in size k ws) ≡ false
+  numbers_new : (seen : List ℕ) (k : ℕ) (ws : List ℕ) (at m : ℕ) → walk tests seeing tested size seen k ws at ≡ Ok tt → member m seen ≡ true → member m (numbers_in size k ws) ≡ false
   unfolding numbers_in
   numbers_new seen zero ws at m s h = refl
   numbers_new seen (suc k) ws at m s h =
@@ -34,7 +34,7 @@ module _ (tests : List ℕ → List ℕ → List Bool) (tested size : ℕ) (fres
       go f ih true e = tf (sym (subst (λ (k : ℕ). member k seen ≡ true) (sym (eqb-true (get_or ws 0 0) m e)) h) ∙ f)
       go f ih false e = ih (rw e h)
 
-  pub numbers_distinct : (seen : List ℕ) (k : ℕ) (ws : List ℕ) (at : ℕ) → walk tests seeing tested size seen k ws at ≡ Sound → distinct (numbers_in size k ws) ≡ true
+  pub numbers_distinct : (seen : List ℕ) (k : ℕ) (ws : List ℕ) (at : ℕ) → walk tests seeing tested size seen k ws at ≡ Ok tt → distinct (numbers_in size k ws) ≡ true
   unfolding numbers_in
   numbers_distinct seen zero ws at s = refl
   numbers_distinct seen (suc k) ws at s =

@@ -16,89 +16,90 @@ use Rattle.graph.specs.Graph.{Edge, itself, is_reading}
 use Rattle.graph.specs.WellFormed.{words_at}
 use Rattle.image_check.specs.Checks.{walk, record_at, good_list, list_at, list_walk, and_then, passed, part_limits, seeing, vertex_by, edge_by}
 use Rattle.image_check.proofs.Walks.{good_vertex, good_edge, good_degree, vertex_walk, edge_walk, degree_walk}
-use Rattle.image_check.specs.declared.Verdict.{Verdict}
-use Rattle.image_check.specs.declared.Verdict.TheVariants.{Sound, BadHeader, BadRecord, BadIncidence}
 use Rattle.image.proofs.Sizes.{Size, size_range, row_in}
 use Rattle.image_check.proofs.Verdicts.{record_sound}
 use Rattle.image_check.proofs.DegreePass.{good_range, good_degree_lem, four_good}
+use Rattle.std.specs.Prelude.{Ok, Err}
+use Rattle.image_check.specs.declared.BadImage.TheVariants.{Header, Record, Incidence}
+use Rattle.image_check.specs.Checks.{Verdict}
 
 -- ---- verdicts that differ
 
-pub sound_record : {k : ℕ} → Sound ≡ BadRecord k → ⊥
+pub sound_record : {k : ℕ} → ◌≡◌ {A = Verdict} (Ok tt) (Err (Record k)) → ⊥
 sound_record e = let z : ◌≡◌ {A = ℕ} 0 1 = cc in omega arith
 
-pub sound_incidence : {k : ℕ} → Sound ≡ BadIncidence k → ⊥
+pub sound_incidence : {k : ℕ} → ◌≡◌ {A = Verdict} (Ok tt) (Err (Incidence k)) → ⊥
 sound_incidence e = let z : ◌≡◌ {A = ℕ} 0 1 = cc in omega arith
 
-pub record_incidence : {k m : ℕ} → BadRecord k ≡ BadIncidence m → ⊥
+pub record_incidence : {k m : ℕ} → ◌≡◌ {A = Verdict} (Err (Record k)) (Err (Incidence m)) → ⊥
 record_incidence e = let z : ◌≡◌ {A = ℕ} 0 1 = cc in omega arith
 
-pub header_record : {k : ℕ} → BadHeader ≡ BadRecord k → ⊥
+pub header_record : {k : ℕ} → ◌≡◌ {A = Verdict} (Err Header) (Err (Record k)) → ⊥
 header_record e = let z : ◌≡◌ {A = ℕ} 0 1 = cc in omega arith
 
-pub header_incidence : {k : ℕ} → BadHeader ≡ BadIncidence k → ⊥
+pub header_incidence : {k : ℕ} → ◌≡◌ {A = Verdict} (Err Header) (Err (Incidence k)) → ⊥
 header_incidence e = let z : ◌≡◌ {A = ℕ} 0 1 = cc in omega arith
 
-record_offset : {k m : ℕ} → BadRecord k ≡ BadRecord m → k ≡ m
+record_offset : {k m : ℕ} → ◌≡◌ {A = Verdict} (Err (Record k)) (Err (Record m)) → k ≡ m
 record_offset e = cc
 
-incidence_offset : {k m : ℕ} → BadIncidence k ≡ BadIncidence m → k ≡ m
+incidence_offset : {k m : ℕ} → ◌≡◌ {A = Verdict} (Err (Incidence k)) (Err (Incidence m)) → k ≡ m
 incidence_offset e = cc
 
 -- ---- one step of a walk that finds a bad word: here, or in the rest
 
-pub record_bad : (size at g m : ℕ) (x : Verdict) → record_at size at g x ≡ BadRecord m → ((g < size) × (at + g ≡ m)) ⊎ ((size ≤ g) × (x ≡ BadRecord m))
+pub record_bad : (size at g m : ℕ) (x : Verdict) → record_at size at g x ≡ Err (Record m) → ((g < size) × (at + g ≡ m)) ⊎ ((size ≤ g) × (x ≡ Err (Record m)))
 record_bad size at g m x h = go (ltb g size) refl h
   where
-    go : (t : Bool) → ltb g size ≡ t → (t ⇒ BadRecord (at + g) else x) ≡ BadRecord m → ((g < size) × (at + g ≡ m)) ⊎ ((size ≤ g) × (x ≡ BadRecord m))
+    go : (t : Bool) → ltb g size ≡ t → (t ⇒ Err (Record (at + g)) else x) ≡ Err (Record m) → ((g < size) × (at + g ≡ m)) ⊎ ((size ≤ g) × (x ≡ Err (Record m)))
     go true e h = inl (ltb-true g size e, record_offset h)
     go false e h = inr (ltb-false g size e, h)
 
-pub list_bad : (d at g m : ℕ) (x : Verdict) → list_at d at g x ≡ BadIncidence m → ((g < d) × (at + g ≡ m)) ⊎ ((d ≤ g) × (x ≡ BadIncidence m))
+pub list_bad : (d at g m : ℕ) (x : Verdict) → list_at d at g x ≡ Err (Incidence m) → ((g < d) × (at + g ≡ m)) ⊎ ((d ≤ g) × (x ≡ Err (Incidence m)))
 list_bad d at g m x h = go (ltb g d) refl h
   where
-    go : (t : Bool) → ltb g d ≡ t → (t ⇒ BadIncidence (at + g) else x) ≡ BadIncidence m → ((g < d) × (at + g ≡ m)) ⊎ ((d ≤ g) × (x ≡ BadIncidence m))
+    go : (t : Bool) → ltb g d ≡ t → (t ⇒ Err (Incidence (at + g)) else x) ≡ Err (Incidence m) → ((g < d) × (at + g ≡ m)) ⊎ ((d ≤ g) × (x ≡ Err (Incidence m)))
     go true e h = inl (ltb-true g d e, incidence_offset h)
     go false e h = inr (ltb-false g d e, h)
 
-record_no_incidence : (size at g m : ℕ) (x : Verdict) → record_at size at g x ≡ BadIncidence m → x ≡ BadIncidence m
+record_no_incidence : (size at g m : ℕ) (x : Verdict) → record_at size at g x ≡ Err (Incidence m) → x ≡ Err (Incidence m)
 record_no_incidence size at g m x h = go (ltb g size) h
   where
-    go : (t : Bool) → (t ⇒ BadRecord (at + g) else x) ≡ BadIncidence m → x ≡ BadIncidence m
+    go : (t : Bool) → (t ⇒ Err (Record (at + g)) else x) ≡ Err (Incidence m) → x ≡ Err (Incidence m)
     go true h = absurd (record_incidence h)
     go false h = h
 
-list_no_record : (d at g m : ℕ) (x : Verdict) → list_at d at g x ≡ BadRecord m → x ≡ BadRecord m
+list_no_record : (d at g m : ℕ) (x : Verdict) → list_at d at g x ≡ Err (Record m) → x ≡ Err (Record m)
 list_no_record d at g m x h = go (ltb g d) h
   where
-    go : (t : Bool) → (t ⇒ BadIncidence (at + g) else x) ≡ BadRecord m → x ≡ BadRecord m
+    go : (t : Bool) → (t ⇒ Err (Incidence (at + g)) else x) ≡ Err (Record m) → x ≡ Err (Record m)
     go true h = absurd (record_incidence (sym h))
     go false h = h
 
-pub then_record : (r x : Verdict) (m : ℕ) → and_then r x ≡ BadRecord m → (r ≡ BadRecord m) ⊎ ((r ≡ Sound) × (x ≡ BadRecord m))
-then_record Sound x m h = inr (refl, h)
-then_record BadHeader x m h = inl h
-then_record (BadRecord at) x m h = inl h
-then_record (BadIncidence at) x m h = inl h
+pub then_record : (r x : Verdict) (m : ℕ) → and_then r x ≡ Err (Record m) → (r ≡ Err (Record m)) ⊎ ((r ≡ Ok tt) × (x ≡ Err (Record m)))
+then_record (Ok tt) x m h = inr (refl, h)
+then_record (Err Header) x m h = inl h
+then_record (Err (Record at)) x m h = inl h
+then_record (Err (Incidence at)) x m h = inl h
 
-pub then_incidence : (r x : Verdict) (m : ℕ) → and_then r x ≡ BadIncidence m → (r ≡ BadIncidence m) ⊎ ((r ≡ Sound) × (x ≡ BadIncidence m))
-then_incidence Sound x m h = inr (refl, h)
-then_incidence BadHeader x m h = inl h
-then_incidence (BadRecord at) x m h = inl h
-then_incidence (BadIncidence at) x m h = inl h
+pub then_incidence : (r x : Verdict) (m : ℕ) → and_then r x ≡ Err (Incidence m) → (r ≡ Err (Incidence m)) ⊎ ((r ≡ Ok tt) × (x ≡ Err (Incidence m)))
+then_incidence (Ok tt) x m h = inr (refl, h)
+then_incidence (Err Header) x m h = inl h
+then_incidence (Err (Record at)) x m h = inl h
+then_incidence (Err (Incidence at)) x m h = inl h
 
 -- the same place in words whose record is as good
-record_keeps : (size at g f m : ℕ) (x y : Verdict) → f ≡ g → record_at size at g x ≡ BadRecord m → (size ≤ g → x ≡ BadRecord m → y ≡ BadRecord m) → record_at size at f y ≡ BadRecord m
+record_keeps : (size at g f m : ℕ) (x y : Verdict) → f ≡ g → record_at size at g x ≡ Err (Record m) → (size ≤ g → x ≡ Err (Record m) → y ≡ Err (Record m)) → record_at size at f y ≡ Err (Record m)
 record_keeps size at g f m x y e h k = rw e (go (ltb g size) refl h)
   where
-    go : (t : Bool) → ltb g size ≡ t → (t ⇒ BadRecord (at + g) else x) ≡ BadRecord m → (t ⇒ BadRecord (at + g) else y) ≡ BadRecord m
+    go : (t : Bool) → ltb g size ≡ t → (t ⇒ Err (Record (at + g)) else x) ≡ Err (Record m) → (t ⇒ Err (Record (at + g)) else y) ≡ Err (Record m)
     go true p h = h
     go false p h = k (ltb-false g size p) h
 
-list_keeps : (d at g f m : ℕ) (x y : Verdict) → f ≡ g → list_at d at g x ≡ BadIncidence m → (d ≤ g → x ≡ BadIncidence m → y ≡ BadIncidence m) → list_at d at f y ≡ BadIncidence m
+list_keeps : (d at g f m : ℕ) (x y : Verdict) → f ≡ g → list_at d at g x ≡ Err (Incidence m) → (d ≤ g → x ≡ Err (Incidence m) → y ≡ Err (Incidence m)) → list_at d at f y ≡ Err (Incidence m)
 list_keeps d at g f m x y e h k = rw e (go (ltb g d) refl h)
   where
-    go : (t : Bool) → ltb g d ≡ t → (t ⇒ BadIncidence (at + g) else x) ≡ BadIncidence m → (t ⇒ BadIncidence (at + g) else y) ≡ BadIncidence m
+    go : (t : Bool) → ltb g d ≡ t → (t ⇒ Err (Incidence (at + g)) else x) ≡ Err (Incidence m) → (t ⇒ Err (Incidence (at + g)) else y) ≡ Err (Incidence m)
     go true p h = h
     go false p h = k (ltb-false g d p) h
 
@@ -152,7 +153,7 @@ place_later size k r at m p = record { row = suc p.row; inside = omega (arith, p
 
 module _ {S : Type 0} (tests : S → List ℕ → List Bool) (next : S → List ℕ → S) (tested size : ℕ) where
   -- the bad word is one of those that are tested of a record
-  pub walk_place : (s : S) (k : ℕ) (ws : List ℕ) (at m : ℕ) → walk tests next tested size s k ws at ≡ BadRecord m → (r : ℕ) × (r < tested) × Place size k r at m
+  pub walk_place : (s : S) (k : ℕ) (ws : List ℕ) (at m : ℕ) → walk tests next tested size s k ws at ≡ Err (Record m) → (r : ℕ) × (r < tested) × Place size k r at m
   unfolding walk
   walk_place s zero ws at m h = absurd (sound_record h)
   walk_place s (suc k) ws at m h = elim (record_bad tested at (passed (tests s ws)) m (walk tests next tested size (next s ws) k (drop size ws) (at + size)) h) [
@@ -160,20 +161,20 @@ module _ {S : Type 0} (tests : S → List ℕ → List Bool) (next : S → List 
     | inr x ↦ let p = walk_place (next s ws) k (drop size ws) (at + size) m x.1 in (p.0, p.1, place_later size k p.0 at m p.2)
   ]
 
-  pub walk_no_incidence : (s : S) (k : ℕ) (ws : List ℕ) (at m : ℕ) → walk tests next tested size s k ws at ≡ BadIncidence m → ⊥
+  pub walk_no_incidence : (s : S) (k : ℕ) (ws : List ℕ) (at m : ℕ) → walk tests next tested size s k ws at ≡ Err (Incidence m) → ⊥
   unfolding walk
   walk_no_incidence s zero ws at m h = sound_incidence h
   walk_no_incidence s (suc k) ws at m h = walk_no_incidence (next s ws) k (drop size ws) (at + size) m (record_no_incidence tested at (passed (tests s ws)) m _ h)
 
   module _ (fits : tested ≤ size) where
-    walk_range : (s : S) (k : ℕ) (ws : List ℕ) (at m : ℕ) → walk tests next tested size s k ws at ≡ BadRecord m → (at ≤ m) × (m < at + size * k)
+    walk_range : (s : S) (k : ℕ) (ws : List ℕ) (at m : ℕ) → walk tests next tested size s k ws at ≡ Err (Record m) → (at ≤ m) × (m < at + size * k)
     walk_range s k ws at m h =
         let p = walk_place s k ws at m h in
         let q = p.2 in
         (omega (arith, q.place), omega (arith, q.place, row_in size q.row p.0 k q.inside (omega (arith, p.1, fits))))
 
     -- the place of the bad word, in the first record or behind it
-    walk_near : (s : S) (k : ℕ) (ws : List ℕ) (at m i : ℕ) → walk tests next tested size s (suc k) ws at ≡ BadRecord m → i < tested → i ≤ passed (tests s ws) → at + i ≤ m
+    walk_near : (s : S) (k : ℕ) (ws : List ℕ) (at m i : ℕ) → walk tests next tested size s (suc k) ws at ≡ Err (Record m) → i < tested → i ≤ passed (tests s ws) → at + i ≤ m
     unfolding walk
     walk_near s k ws at m i h l g = elim (record_bad tested at (passed (tests s ws)) m (walk tests next tested size (next s ws) k (drop size ws) (at + size)) h) [
       | inl x ↦ omega (arith, g, x.1)
@@ -181,7 +182,7 @@ module _ {S : Type 0} (tests : S → List ℕ → List Bool) (next : S → List 
     ]
 
 module _ (size : ℕ) (z : Size size) (cap types : ℕ) where
-  pub vertex_range : (seen : List ℕ) (k : ℕ) (ws : List ℕ) (at m : ℕ) → vertex_walk size cap types seen k ws at ≡ BadRecord m → (at ≤ m) × (m < at + size * k)
+  pub vertex_range : (seen : List ℕ) (k : ℕ) (ws : List ℕ) (at m : ℕ) → vertex_walk size cap types seen k ws at ≡ Err (Record m) → (at ≤ m) × (m < at + size * k)
   vertex_range seen k ws at m h = walk_range (vertex_by (part_limits cap types)) seeing 3 size (size_range size z).0 seen k ws at m h
 
   -- the words of a record up to the first bad one decide how many are sound
@@ -192,11 +193,11 @@ module _ (size : ℕ) (z : Size size) (cap types : ℕ) where
       (ltb (get_or us 2 0) (2 ^ 32))
       (λ h. ap (λ (t : ℕ). ltb t types) (a 1 (omega arith) h)) (λ h. ap (λ (x : ℕ). ltb x (2 ^ 32)) (a 2 (omega arith) h)))
 
-  vertex_near : (seen : List ℕ) (k : ℕ) (ws : List ℕ) (at m i : ℕ) → vertex_walk size cap types seen (suc k) ws at ≡ BadRecord m → i < 3 → i ≤ vertex_at cap types seen ws → at + i ≤ m
+  vertex_near : (seen : List ℕ) (k : ℕ) (ws : List ℕ) (at m i : ℕ) → vertex_walk size cap types seen (suc k) ws at ≡ Err (Record m) → i < 3 → i ≤ vertex_at cap types seen ws → at + i ≤ m
   vertex_near seen k ws at m i h l g = walk_near (vertex_by (part_limits cap types)) seeing 3 size (size_range size z).0 seen k ws at m i h l g
 
-  pub vertex_prefix : (seen : List ℕ) (k : ℕ) (us ws : List ℕ) (at m : ℕ) → vertex_walk size cap types seen k ws at ≡ BadRecord m → UptoRecords size at m us ws →
-      vertex_walk size cap types seen k us at ≡ BadRecord m
+  pub vertex_prefix : (seen : List ℕ) (k : ℕ) (us ws : List ℕ) (at m : ℕ) → vertex_walk size cap types seen k ws at ≡ Err (Record m) → UptoRecords size at m us ws →
+      vertex_walk size cap types seen k us at ≡ Err (Record m)
   unfolding walk
   vertex_prefix seen zero us ws at m h a = h
   vertex_prefix seen (suc k) us ws at m h a =
@@ -226,7 +227,7 @@ edge_at cap types ns seen ws =
     good_edge cap types (not (member (get_or ws 0 0) seen)) (member (get_or ws 1 0) ns) (member (get_or ws 2 0) ns) (get_or ws 0 0) (get_or ws 3 0) (get_or ws 4 0) (get_or ws 5 0)
 
 module _ (cap types : ℕ) (ns : List ℕ) where
-  pub edge_range : (seen : List ℕ) (k : ℕ) (ws : List ℕ) (at m : ℕ) → edge_walk cap types ns seen k ws at ≡ BadRecord m → (at ≤ m) × (m < at + 6 * k)
+  pub edge_range : (seen : List ℕ) (k : ℕ) (ws : List ℕ) (at m : ℕ) → edge_walk cap types ns seen k ws at ≡ Err (Record m) → (at ≤ m) × (m < at + 6 * k)
   edge_range seen k ws at m h = walk_range (edge_by (part_limits cap types) ns) seeing 6 6 (omega arith) seen k ws at m h
 
   edge_same : (seen us ws : List ℕ) → ((i : ℕ) → i < 6 → i ≤ edge_at cap types ns seen ws → get_or us i 0 ≡ get_or ws i 0) → edge_at cap types ns seen us ≡ edge_at cap types ns seen ws
@@ -241,10 +242,10 @@ module _ (cap types : ℕ) (ns : List ℕ) where
       (λ h. ap (λ (x : ℕ). leb x 2) (a 4 (omega arith) h))
       (λ h. ap (λ (x : ℕ). is_reading x (get_or us 5 0)) (a 4 (omega arith) (omega (arith, h))) ∙ ap (λ (x : ℕ). is_reading (get_or ws 4 0) x) (a 5 (omega arith) h)))
 
-  edge_near : (seen : List ℕ) (k : ℕ) (ws : List ℕ) (at m i : ℕ) → edge_walk cap types ns seen (suc k) ws at ≡ BadRecord m → i < 6 → i ≤ edge_at cap types ns seen ws → at + i ≤ m
+  edge_near : (seen : List ℕ) (k : ℕ) (ws : List ℕ) (at m i : ℕ) → edge_walk cap types ns seen (suc k) ws at ≡ Err (Record m) → i < 6 → i ≤ edge_at cap types ns seen ws → at + i ≤ m
   edge_near seen k ws at m i h l g = walk_near (edge_by (part_limits cap types) ns) seeing 6 6 (omega arith) seen k ws at m i h l g
 
-  pub edge_prefix : (seen : List ℕ) (k : ℕ) (us ws : List ℕ) (at m : ℕ) → edge_walk cap types ns seen k ws at ≡ BadRecord m → Upto at m us ws → edge_walk cap types ns seen k us at ≡ BadRecord m
+  pub edge_prefix : (seen : List ℕ) (k : ℕ) (us ws : List ℕ) (at m : ℕ) → edge_walk cap types ns seen k ws at ≡ Err (Record m) → Upto at m us ws → edge_walk cap types ns seen k us at ≡ Err (Record m)
   unfolding walk
   edge_prefix seen zero us ws at m h a = h
   edge_prefix seen (suc k) us ws at m h a =
@@ -263,7 +264,7 @@ pub record Wrong (size : ℕ) (es : List Edge) (k : ℕ) (ws : List ℕ) (at m :
   pub before : (i : ℕ) → i < at_row.row → get_or ws (size * i + 3) 0 ≡ length (words_at es (get_or ws (size * i + 0) 0))
 
 module _ (size : ℕ) (z : Size size) (es : List Edge) where
-  pub degree_wrong : (k : ℕ) (ws : List ℕ) (at m : ℕ) → degree_walk size es k ws at ≡ BadRecord m → Wrong size es k ws at m
+  pub degree_wrong : (k : ℕ) (ws : List ℕ) (at m : ℕ) → degree_walk size es k ws at ≡ Err (Record m) → Wrong size es k ws at m
   unfolding walk place_here place_later
   degree_wrong zero ws at m h = absurd (sound_record h)
   degree_wrong (suc k) ws at m h =
@@ -297,7 +298,7 @@ module _ (size : ℕ) (z : Size size) (es : List Edge) where
       earlier (suc i) q e f = sym (row_drop size i 3 ws) ∙ f i (omega arith) ∙ ap (λ (n : ℕ). length (words_at es n)) (row_drop size i 0 ws)
 
   -- a sound walk: every degree agrees
-  pub degrees_right : size ≡ 4 → (k : ℕ) (ws : List ℕ) (at : ℕ) → degree_walk size es k ws at ≡ Sound → (i : ℕ) → i < k →
+  pub degrees_right : size ≡ 4 → (k : ℕ) (ws : List ℕ) (at : ℕ) → degree_walk size es k ws at ≡ Ok tt → (i : ℕ) → i < k →
       get_or ws (size * i + 3) 0 ≡ length (words_at es (get_or ws (size * i + 0) 0))
   unfolding walk
   degrees_right f zero ws at s i h = absurd (omega arith)
@@ -326,7 +327,7 @@ good_same (suc d) wanted (u ∷ us) (w ∷ ws) e a = rw (a 0 (omega arith) (omeg
     go ih true f = ap suc (ih (λ i l g. a (suc i) (omega arith) (rw f (omega arith))))
     go ih false f = refl
 
-pub list_from : (es : List Edge) (ns ws : List ℕ) (at m : ℕ) → list_walk es ns ws at ≡ BadIncidence m → at ≤ m
+pub list_from : (es : List Edge) (ns ws : List ℕ) (at m : ℕ) → list_walk es ns ws at ≡ Err (Incidence m) → at ≤ m
 unfolding list_walk
 list_from es [] [] at m h = absurd (sound_incidence h)
 list_from es [] (w ∷ ws) at m h = omega (arith, incidence_offset h)
@@ -338,7 +339,7 @@ list_from es (n ∷ ns) ws at m h =
       | inr x ↦ omega (arith, list_from es ns (drop d ws) (at + d) m x.1)
     ]
 
-pub list_no_bad_record : (es : List Edge) (ns ws : List ℕ) (at m : ℕ) → list_walk es ns ws at ≡ BadRecord m → ⊥
+pub list_no_bad_record : (es : List Edge) (ns ws : List ℕ) (at m : ℕ) → list_walk es ns ws at ≡ Err (Record m) → ⊥
 unfolding list_walk
 list_no_bad_record es [] [] at m h = sound_record h
 list_no_bad_record es [] (w ∷ ws) at m h = record_incidence (sym h)
@@ -346,7 +347,7 @@ list_no_bad_record es (n ∷ ns) ws at m h =
     let d = length (words_at es n) in
     list_no_bad_record es ns (drop d ws) (at + d) m (list_no_record d at (good_list d (words_at es n) ws) m _ h)
 
-pub list_prefix : (es : List Edge) (ns us ws : List ℕ) (at m : ℕ) → length us ≡ length ws → list_walk es ns ws at ≡ BadIncidence m → Upto at m us ws → list_walk es ns us at ≡ BadIncidence m
+pub list_prefix : (es : List Edge) (ns us ws : List ℕ) (at m : ℕ) → length us ≡ length ws → list_walk es ns ws at ≡ Err (Incidence m) → Upto at m us ws → list_walk es ns us at ≡ Err (Incidence m)
 unfolding list_walk
 list_prefix es [] [] [] at m e h a = h
 list_prefix es [] [] (w ∷ ws) at m e h a = absurd (omega arith)

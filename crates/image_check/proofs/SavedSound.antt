@@ -22,7 +22,6 @@ use Rattle.graph.specs.WellFormed.{Bounds, words_at, sound_vertex, sound_edge, w
 use Rattle.image.specs.Image.{vertex_record, edge_record, incidences_of, vertex_offset, edge_offset, incidence_offset, save_as, vertex_count, edge_count, record_size, load, loadable, numbers_in}
 use Rattle.image_check.specs.Checks.{walk, good_list, list_walk, sound_counts, parts_verdict, verdict}
 use Rattle.image_check.proofs.Walks.{vertex_walk, edge_walk, degree_walk}
-use Rattle.image_check.specs.declared.Verdict.TheVariants.{Sound}
 use Rattle.image.proofs.Sizes.{Size, record_size_lem}
 use Rattle.image.proofs.Formed.{Formed, formed, vertex_facts, edge_facts}
 use Rattle.image.proofs.RecordWords.{record_length, edges_back, Fits}
@@ -33,6 +32,7 @@ use Rattle.image.proofs.Room.{few_vertices_lem, few_edges_lem}
 use Rattle.lists.proofs.Members.{has_self}
 use Rattle.image_check.proofs.DegreePass.{degree_whole}
 use Rattle.image_check.proofs.SoundLoads.{sound_loads}
+use Rattle.std.specs.Prelude.{Ok}
 
 -- later numbers are not seen, once n is
 later : (n : ℕ) (seen ns : List ℕ) → member n ns ≡ false → ((m : ℕ) → member m (n ∷ ns) ≡ true → member m seen ≡ false) → (m : ℕ) → member m ns ≡ true → member m (n ∷ seen) ≡ false
@@ -49,7 +49,7 @@ module _ (size : ℕ) (z : Size size) where
   behind v vs = drop_at (vertex_record size v) (concat_map (vertex_record size) vs) size (record_length size z v)
 
   vertices_walk : (b : Bounds) (g : Graph) (seen : List ℕ) (vs : List Vertex) (at : ℕ) → all (sound_vertex b g) vs ≡ true → distinct (map vertex_number vs) ≡ true →
-      ((m : ℕ) → member m (map vertex_number vs) ≡ true → member m seen ≡ false) → vertex_walk size b.vertices b.types seen (length vs) (concat_map (vertex_record size) vs) at ≡ Sound
+      ((m : ℕ) → member m (map vertex_number vs) ≡ true → member m seen ≡ false) → vertex_walk size b.vertices b.types seen (length vs) (concat_map (vertex_record size) vs) at ≡ Ok tt
   unfolding walk
   vertices_walk b g seen [] at h d k = refl
   vertices_walk b g seen (v ∷ vs) at h d k =
@@ -65,7 +65,7 @@ module _ (size : ℕ) (z : Size size) where
   numbers_each (v ∷ vs) = rw (behind v vs) (ap (λ (l : List ℕ). v.number ∷ l) (numbers_each vs))
 
   -- each degree is the length of its list, and so the ends of its vertex
-  degrees_walk : (es : List Edge) (vs : List Vertex) (at : ℕ) → Fits es vs → degree_walk size es (length vs) (concat_map (vertex_record size) vs) at ≡ Sound
+  degrees_walk : (es : List Edge) (vs : List Vertex) (at : ℕ) → Fits es vs → degree_walk size es (length vs) (concat_map (vertex_record size) vs) at ≡ Ok tt
   unfolding walk Fits
   degrees_walk es [] at f = refl
   degrees_walk es (v ∷ vs) at f =
@@ -84,7 +84,7 @@ kind_le (Heard d) = refl
 
 edges_walk : (b : Bounds) (g : Graph) (ns seen : List ℕ) (es : List Edge) (at : ℕ) → ((m : ℕ) → has_vertex g m ≡ member m ns) → all (sound_edge b g) es ≡ true →
     distinct (map edge_number es) ≡ true → ((m : ℕ) → member m (map edge_number es) ≡ true → member m seen ≡ false) →
-    edge_walk b.edges b.types ns seen (length es) (concat_map edge_record es) at ≡ Sound
+    edge_walk b.edges b.types ns seen (length es) (concat_map edge_record es) at ≡ Ok tt
 unfolding walk
 edges_walk b g ns seen [] at u h d k = refl
 edges_walk b g ns seen (x ∷ es) at u h d k =
@@ -106,7 +106,7 @@ alike_good (suc d) (y ∷ ys) (w ∷ xs) rest e k =
     rw (count_has w (y ∷ ys) c)
     (ap suc (alike_good d (remove_by itself w (y ∷ ys)) xs rest (omega (arith, rem_length w (y ∷ ys) c)) (λ x. omega (arith, rem_count w (y ∷ ys) c x, k x))))
 
-lists_walk : (b : Bounds) (g : Graph) (vs : List Vertex) (at : ℕ) → all (sound_vertex b g) vs ≡ true → list_walk g.eseq (map vertex_number vs) (concat_map incidences_of vs) at ≡ Sound
+lists_walk : (b : Bounds) (g : Graph) (vs : List Vertex) (at : ℕ) → all (sound_vertex b g) vs ≡ true → list_walk g.eseq (map vertex_number vs) (concat_map incidences_of vs) at ≡ Ok tt
 unfolding list_walk
 lists_walk b g [] at h = refl
 lists_walk b g (v ∷ vs) at h =
@@ -145,20 +145,20 @@ module _ (b : Bounds) (g : Graph) (h : well_formed b g ≡ true) where
       go false e = refl
 
   module _ (size : ℕ) (z : Size size) where
-    first : vertex_walk size b.vertices b.types [] (length g.vseq) (concat_map (vertex_record size) g.vseq) vertex_offset ≡ Sound
+    first : vertex_walk size b.vertices b.types [] (length g.vseq) (concat_map (vertex_record size) g.vseq) vertex_offset ≡ Ok tt
     first = vertices_walk size z b g [] g.vseq vertex_offset p.vertices_sound p.distinct_vertex_numbers (λ m e. refl)
 
-    second : (at : ℕ) → edge_walk b.edges b.types (map vertex_number g.vseq) [] (length g.eseq) (concat_map edge_record g.eseq) at ≡ Sound
+    second : (at : ℕ) → edge_walk b.edges b.types (map vertex_number g.vseq) [] (length g.eseq) (concat_map edge_record g.eseq) at ≡ Ok tt
     second at = edges_walk b g (map vertex_number g.vseq) [] g.eseq at (λ m. has_number m g.vseq) p.edges_sound p.distinct_edge_numbers (λ m e. refl)
 
-    third : degree_walk size g.eseq (length g.vseq) (concat_map (vertex_record size) g.vseq) vertex_offset ≡ Sound
+    third : degree_walk size g.eseq (length g.vseq) (concat_map (vertex_record size) g.vseq) vertex_offset ≡ Ok tt
     third = degrees_walk size z g.eseq g.vseq vertex_offset (sound_fits b g g.vseq p.vertices_sound)
 
-    fourth : (at : ℕ) → list_walk g.eseq (map vertex_number g.vseq) (concat_map incidences_of g.vseq) at ≡ Sound
+    fourth : (at : ℕ) → list_walk g.eseq (map vertex_number g.vseq) (concat_map incidences_of g.vseq) at ≡ Ok tt
     fourth at = lists_walk b g g.vseq at p.vertices_sound
 
     -- all four walks over saved words
-    saved_sound : (sound_counts b.vertices b.edges (vertex_count (save_as size g)) (edge_count (save_as size g)) ≡ true) × (parts_verdict size b (save_as size g) ≡ Sound)
+    saved_sound : (sound_counts b.vertices b.edges (vertex_count (save_as size g)) (edge_count (save_as size g)) ≡ true) × (parts_verdict size b (save_as size g) ≡ Ok tt)
     unfolding save_as
     saved_sound = (
       counted,
@@ -166,7 +166,7 @@ module _ (b : Bounds) (g : Graph) (h : well_formed b g ≡ true) where
           (rw (second (edge_offset size (length g.vseq))) (rw third (fourth (incidence_offset size (length g.vseq) (length g.eseq))))),
     )
 
-pub loads_sound : (b : Bounds) (ws : List ℕ) → loadable b ws ≡ true → verdict b ws ≡ Sound
+pub loads_sound : (b : Bounds) (ws : List ℕ) → loadable b ws ≡ true → verdict b ws ≡ Ok tt
 unfolding verdict
 loads_sound b ws h =
     let l = loaded b ws h in
@@ -175,8 +175,8 @@ loads_sound b ws h =
       l.header,
       subst (λ (us : List ℕ). sound_counts b.vertices b.edges (vertex_count us) (edge_count us) ≡ true) l.again s.0,
     )
-    (subst (λ (us : List ℕ). parts_verdict (record_size ws) b us ≡ Sound) l.again s.1)
+    (subst (λ (us : List ℕ). parts_verdict (record_size ws) b us ≡ Ok tt) l.again s.1)
 
 -- a verdict is sound for exactly the words that load
-pub sound_exactly : (b : Bounds) (ws : List ℕ) → (verdict b ws ≡ Sound) ↔ (loadable b ws ≡ true)
+pub sound_exactly : (b : Bounds) (ws : List ℕ) → (verdict b ws ≡ Ok tt) ↔ (loadable b ws ≡ true)
 sound_exactly b ws = (sound_loads b ws, loads_sound b ws)

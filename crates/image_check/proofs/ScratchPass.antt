@@ -5,8 +5,6 @@ use mathlib.Core.Path.{◌≡◌, refl, sym, ap, ap₂, ◌∙◌, subst}
 use mathlib.Core.Bool.{true, false}
 use mathlib.Core.List.{List, [], ◌∷◌}
 use native.Mathlib.Omega.{arith}
-use types.Run.{OneOf}
-use denote.Enum.Declared.{tag_of}
 use lib.ListN.{length, get_or, drop, replicate, length-drop, length-replicate}
 use lib.Seq.{length-take-le}
 use borrow.Author.Tests.{eq-eqb, ne_eqb}
@@ -17,9 +15,7 @@ use Rattle.image.specs.Image.{vertex_offset, edge_offset, incidence_offset, reco
 use Rattle.image_check.specs.Checks.{bounds, list_walk, sound_counts, ended, and_then, verdict, vertex_limits, edge_limits}
 use Rattle.image_check.proofs.Walks.{vertex_walk, edge_walk, degree_walk}
 use Rattle.image_check.specs.Scratch.{vertex_run, vertex_marks, edge_run, edge_degrees, edge_owners, degree_run, incidence_run, scratch_run, Ran, parts}
-use Rattle.image_check.specs.declared.Verdict.{Verdict}
-use Rattle.image_check.specs.declared.Verdict.TheVariants.{Sound, BadHeader}
-use Rattle.image_check.specs.contracts.Verdict.{the_type}
+use Rattle.image_check.specs.declared.BadImage.{BadImage}
 use Rattle.image_check.proofs.Verdicts.{stop, then_same}
 use Rattle.image.proofs.Headers.{sound_length}
 use Rattle.image_check.proofs.Capacity.{counts_none}
@@ -29,6 +25,9 @@ use Rattle.image_check.proofs.EdgePass.{Marked, Seen, Paired, marked_by, edge_ag
 use Rattle.image_check.proofs.ListPass.{incidence_agrees}
 use Rattle.lists.proofs.Members.{positive}
 use Rattle.image_check.proofs.DegreePass.{degree_agrees}
+use Rattle.std.specs.Prelude.{Ok, Err}
+use Rattle.image_check.specs.declared.BadImage.TheVariants.{Header}
+use Rattle.image_check.specs.Checks.{Verdict}
 
 zeros : (n i : ℕ) → ◌≡◌ {A = ℕ} (get_or (replicate n 0) i 0) 0
 zeros zero i = refl
@@ -60,7 +59,7 @@ module _ (deg own : List ℕ) (deg_zero : (i : ℕ) → get_or deg i 0 ≡ 0) (o
       paired0 : Paired own
       paired0 n e = own_zero (2 * n + 1)
 
-      after_vertices : vertex_walk size b.vertices b.types [] v vs vertex_offset ≡ Sound →
+      after_vertices : vertex_walk size b.vertices b.types [] v vs vertex_offset ≡ Ok tt →
           and_then (edge_run (edge_limits b) marks own e es (edge_offset size v))
           (and_then (degree_run size (edge_degrees marks e es) v vs vertex_offset) (incidence_run size (edge_degrees marks e es) (edge_owners own e es) v vs is (incidence_offset size v e)))
           ≡ and_then (edge_walk b.edges b.types numbers [] e es (edge_offset size v))
@@ -89,7 +88,7 @@ module _ (deg own : List ℕ) (deg_zero : (i : ℕ) → get_or deg i 0 ≡ 0) (o
           marked = marked_by numbers marks indicator
 
           -- deg has 1 more than the ends of each vertex
-          counted : edge_walk b.edges b.types numbers [] e es (edge_offset size v) ≡ Sound →
+          counted : edge_walk b.edges b.types numbers [] e es (edge_offset size v) ≡ Ok tt →
               (n : ℕ) → member n numbers ≡ true → get_or (edge_degrees marks e es) n 0 - 1 ≡ length (words_at (edges_from e es) n)
           counted q n h =
               let m : get_or marks n 0 ≡ 1 = indicator n ∙ ap to_bit h in
@@ -98,34 +97,34 @@ module _ (deg own : List ℕ) (deg_zero : (i : ℕ) → get_or deg i 0 ≡ 0) (o
 -- ---- the passes one by one
 
 module _ (deg own : List ℕ) (b : Bounds) (size v e : ℕ) (vs es is : List ℕ) (r : Verdict) (first_pass : r ≡ vertex_run size (vertex_limits b) deg v vs vertex_offset) where
-  pub pass_1 : OneOf (1 ∷ 2 ∷ 3 ∷ []) (tag_of the_type r) → r ≡ scratch_run deg own b (parts size v e vs es is)
+  pub pass_1 : (bad : BadImage) → r ≡ Err bad → Err bad ≡ scratch_run deg own b (parts size v e vs es is)
   unfolding scratch_run
-  pass_1 k = rw (← first_pass) (stop r _ k)
+  pass_1 bad k = rw (← first_pass) (stop r _ bad k)
 
-  module _ (sound : r ≡ Sound) (d : List ℕ) (marks : d ≡ vertex_marks size deg v vs)
+  module _ (sound : r ≡ Ok tt) (d : List ℕ) (marks : d ≡ vertex_marks size deg v vs)
       (q : Verdict) (second_pass : q ≡ edge_run (edge_limits b) d own e es (edge_offset size v)) where
-    pub pass_2 : OneOf (1 ∷ 2 ∷ 3 ∷ []) (tag_of the_type q) → q ≡ scratch_run deg own b (parts size v e vs es is)
+    pub pass_2 : (bad : BadImage) → q ≡ Err bad → Err bad ≡ scratch_run deg own b (parts size v e vs es is)
     unfolding scratch_run
-    pass_2 k = rw (← first_pass, sound, ← marks, ← second_pass) (stop q _ k)
+    pass_2 bad k = rw (← first_pass, sound, ← marks, ← second_pass) (stop q _ bad k)
 
-    module _ (sound' : q ≡ Sound) (d' : List ℕ) (degrees : d' ≡ edge_degrees d e es) (y : Verdict) (third_pass : y ≡ degree_run size d' v vs vertex_offset) where
-      pub pass_3 : OneOf (1 ∷ 2 ∷ 3 ∷ []) (tag_of the_type y) → y ≡ scratch_run deg own b (parts size v e vs es is)
+    module _ (sound' : q ≡ Ok tt) (d' : List ℕ) (degrees : d' ≡ edge_degrees d e es) (y : Verdict) (third_pass : y ≡ degree_run size d' v vs vertex_offset) where
+      pub pass_3 : (bad : BadImage) → y ≡ Err bad → Err bad ≡ scratch_run deg own b (parts size v e vs es is)
       unfolding scratch_run
-      pass_3 k = rw (← first_pass, sound, ← marks, ← second_pass, sound', ← degrees, ← third_pass) (stop y _ k)
+      pass_3 bad k = rw (← first_pass, sound, ← marks, ← second_pass, sound', ← degrees, ← third_pass) (stop y _ bad k)
 
-      pub pass_4 : y ≡ Sound → (o' : List ℕ) → o' ≡ edge_owners own e es →
+      pub pass_4 : y ≡ Ok tt → (o' : List ℕ) → o' ≡ edge_owners own e es →
           (z : Verdict) → z ≡ incidence_run size d' o' v vs is (incidence_offset size v e) → z ≡ scratch_run deg own b (parts size v e vs es is)
       unfolding scratch_run
       pass_4 t o' x z g = rw (← first_pass, sound, ← marks, ← second_pass, sound', ← degrees, ← third_pass, t, ← x) g
 
 -- ---- what the check needs
 
-pub bad_head : (b : Bounds) (ws : List ℕ) → sound_header ws ≡ false → BadHeader ≡ verdict b ws
+pub bad_head : (b : Bounds) (ws : List ℕ) → sound_header ws ≡ false → Err Header ≡ verdict b ws
 unfolding verdict
 bad_head b ws h = rw h
 
 module _ (ws : List ℕ) (h : sound_header ws ≡ true) where
-  pub bad_counts : (b : Bounds) → sound_counts b.vertices b.edges (vertex_count ws) (edge_count ws) ≡ false → BadHeader ≡ verdict b ws
+  pub bad_counts : (b : Bounds) → sound_counts b.vertices b.edges (vertex_count ws) (edge_count ws) ≡ false → Err Header ≡ verdict b ws
   unfolding verdict
   bad_counts b k = rw (h, k)
 
@@ -161,15 +160,15 @@ module _ (ws : List ℕ) (h : sound_header ws ≡ true) where
 
   -- without a vertex there is nothing to go through
   pub none_sound : Small ws → (vcap ecap types v e : ℕ) → vcap ≤ 1000 → ecap ≤ 4000 → v ≡ vertex_count ws → e ≡ edge_count ws → sound_counts vcap ecap v e ≡ true → v ≡ 0 →
-      Sound ≡ verdict (bounds vcap ecap types) ws
+      Ok tt ≡ verdict (bounds vcap ecap types) ws
   unfolding scratch_run
   none_sound m vcap ecap types v e lv le hv he k z =
       let y = counts_none vcap ecap v e k z in
       let few : length (part 3 ws) ≡ 0 =
       omega (arith, y, he, sound_length ws h, ap length (part_3 ws h), length-drop (incidence_offset (record_size ws) (vertex_count ws) (edge_count ws)) ws) in
-      verdict_by m vcap ecap types (record_size ws) v e refl hv he k (part 1 ws) (part 2 ws) (part 3 ws) refl refl refl Sound
+      verdict_by m vcap ecap types (record_size ws) v e refl hv he k (part 1 ws) (part 2 ws) (part 3 ws) refl refl refl (Ok tt)
       (record { degs = 1001; owns = 8002; vertices = omega (arith, lv); edges = omega (arith, le); verdict = rw (z, y) (sym (no_words (part 3 ws) few _)) })
     where
-      no_words : (is : List ℕ) → length is ≡ 0 → (at : ℕ) → ended is at ≡ Sound
+      no_words : (is : List ℕ) → length is ≡ 0 → (at : ℕ) → ended is at ≡ Ok tt
       no_words [] l at = refl
       no_words (x ∷ is) l at = absurd (omega arith)

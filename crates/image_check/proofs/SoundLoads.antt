@@ -22,7 +22,6 @@ use Rattle.image.specs.Image.{sound_header, vertex_part, edge_part, incidence_pa
 use Rattle.image_check.specs.Checks.{good_list, list_walk, sound_counts, numbers_of, edges_of, vertex_verdict, edge_verdict, degree_verdict, list_verdict, passed, part_limits, edge_by}
 use Rattle.image_check.proofs.Walks.{vertex_walk, edge_walk, degree_walk}
 use Rattle.image_check.specs.Checks.{parts_verdict, verdict}
-use Rattle.image_check.specs.declared.Verdict.TheVariants.{Sound, BadHeader}
 use Rattle.image.proofs.Sizes.{Size, size_range, degree_cut, record_size_lem}
 use Rattle.image.proofs.Loads.{saves_by, saves_loads}
 use Rattle.image.proofs.Ends.{has_number}
@@ -34,6 +33,8 @@ use Rattle.image_check.proofs.Numbers.{numbers_distinct}
 use Rattle.image_check.proofs.VertexPass.{vertex_step, walk_distinct}
 use Rattle.image_check.proofs.EdgePass.{edge_step}
 use Rattle.image_check.proofs.DegreePass.{degree_step}
+use Rattle.std.specs.Prelude.{Ok, Err}
+use Rattle.image_check.specs.declared.BadImage.TheVariants.{Header}
 
 -- ---- one list
 
@@ -58,8 +59,8 @@ unfolding vertices_from numbers_in
 numbers_load size es zero vs ws = refl
 numbers_load size es (suc k) vs ws = ap (λ (l : List ℕ). get_or vs 0 0 ∷ l) (numbers_load size es k (drop size vs) (drop (length (words_at es (get_or vs 0 0))) ws))
 
-vertices_sound : (size : ℕ) (b : Bounds) (g : Graph) (seen : List ℕ) (k : ℕ) (vs ws : List ℕ) (at to : ℕ) → vertex_walk size b.vertices b.types seen k vs at ≡ Sound →
-    list_walk g.eseq (numbers_in size k vs) ws to ≡ Sound → all (sound_vertex b g) (vertices_from size g.eseq k vs ws) ≡ true
+vertices_sound : (size : ℕ) (b : Bounds) (g : Graph) (seen : List ℕ) (k : ℕ) (vs ws : List ℕ) (at to : ℕ) → vertex_walk size b.vertices b.types seen k vs at ≡ Ok tt →
+    list_walk g.eseq (numbers_in size k vs) ws to ≡ Ok tt → all (sound_vertex b g) (vertices_from size g.eseq k vs ws) ≡ true
 unfolding list_walk numbers_in vertices_from
 vertices_sound size b g seen zero vs ws at to s l = refl
 vertices_sound size b g seen (suc k) vs ws at to s l =
@@ -110,7 +111,7 @@ unfolding edges_from numbers_in
 edge_numbers_lem zero ws = refl
 edge_numbers_lem (suc k) ws = ap (λ (l : List ℕ). get_or ws 0 0 ∷ l) (edge_numbers_lem k (drop edge_size ws))
 
-edges_distinct : (cap types : ℕ) (vs seen : List ℕ) (k : ℕ) (ws : List ℕ) (at : ℕ) → edge_walk cap types vs seen k ws at ≡ Sound → distinct (map edge_number (edges_from k ws)) ≡ true
+edges_distinct : (cap types : ℕ) (vs seen : List ℕ) (k : ℕ) (ws : List ℕ) (at : ℕ) → edge_walk cap types vs seen k ws at ≡ Ok tt → distinct (map edge_number (edges_from k ws)) ≡ true
 edges_distinct cap types vs seen k ws at s = ap distinct (edge_numbers_lem k ws) ∙ numbers_distinct (edge_by (part_limits cap types) vs) 6 6 fresh seen k ws at s
   where
     fresh : (us ws : List ℕ) → 6 ≤ passed (edge_by (part_limits cap types) vs us ws) → member (get_or ws 0 0) us ≡ false
@@ -118,7 +119,7 @@ edges_distinct cap types vs seen k ws at s = ap distinct (edge_numbers_lem k ws)
         not-true (member (get_or ws 0 0) us)
         (edge_ok cap types (not (member (get_or ws 0 0) us)) (member (get_or ws 1 0) vs) (member (get_or ws 2 0) vs) (get_or ws 0 0) (get_or ws 3 0) (get_or ws 4 0) (get_or ws 5 0) h).new
 
-edges_sound : (b : Bounds) (g : Graph) (vs seen : List ℕ) (k : ℕ) (ws : List ℕ) (at : ℕ) → edge_walk b.edges b.types vs seen k ws at ≡ Sound →
+edges_sound : (b : Bounds) (g : Graph) (vs seen : List ℕ) (k : ℕ) (ws : List ℕ) (at : ℕ) → edge_walk b.edges b.types vs seen k ws at ≡ Ok tt →
     ((m : ℕ) → member m vs ≡ true → has_vertex g m ≡ true) → all (sound_edge b g) (edges_from k ws) ≡ true
 unfolding edges_from
 edges_sound b g vs seen zero ws at s u = refl
@@ -158,8 +159,8 @@ cut_vertex size z ws m e =
     ∙ cut3 ws (size - 3 + m) (omega (arith, (size_range size z).0))
 
 -- where degrees and lists are sound, the records have their words again
-vertices_again : (size : ℕ) → Size size → (es : List Edge) (k : ℕ) (vs ws : List ℕ) (at to : ℕ) → degree_walk size es k vs at ≡ Sound →
-    list_walk es (numbers_in size k vs) ws to ≡ Sound → length vs ≡ size * k →
+vertices_again : (size : ℕ) → Size size → (es : List Edge) (k : ℕ) (vs ws : List ℕ) (at to : ℕ) → degree_walk size es k vs at ≡ Ok tt →
+    list_walk es (numbers_in size k vs) ws to ≡ Ok tt → length vs ≡ size * k →
     (concat_map (vertex_record size) (vertices_from size es k vs ws) ≡ vs) × (length (vertices_from size es k vs ws) ≡ k)
 unfolding vertices_from list_walk numbers_in
 vertices_again size z es zero [] ws at to s l e = (refl, refl)
@@ -176,7 +177,7 @@ vertices_again size z es (suc k) vs ws at to s l e =
       ap suc r.1,
     )
 
-edges_again : (cap types : ℕ) (vs seen : List ℕ) (k : ℕ) (ws : List ℕ) (at : ℕ) → edge_walk cap types vs seen k ws at ≡ Sound → length ws ≡ edge_size * k →
+edges_again : (cap types : ℕ) (vs seen : List ℕ) (k : ℕ) (ws : List ℕ) (at : ℕ) → edge_walk cap types vs seen k ws at ≡ Ok tt → length ws ≡ edge_size * k →
     (concat_map edge_record (edges_from k ws) ≡ ws) × (length (edges_from k ws) ≡ k)
 unfolding edges_from
 edges_again cap types vs seen zero [] at s e = (refl, refl)
@@ -187,7 +188,7 @@ edges_again cap types vs seen (suc k) ws at s e =
     let i = edges_again cap types vs (get_or ws 0 0 ∷ seen) k (drop 6 ws) (at + 6) r.rest (omega (arith, length-drop 6 ws)) in
     (rw (q.0, q.1, i.0) (cut6 ws (6 * k) (omega arith)), ap suc i.1)
 
-lists_again : (size : ℕ) (es : List Edge) (k : ℕ) (vs ws : List ℕ) (at : ℕ) → list_walk es (numbers_in size k vs) ws at ≡ Sound →
+lists_again : (size : ℕ) (es : List Edge) (k : ℕ) (vs ws : List ℕ) (at : ℕ) → list_walk es (numbers_in size k vs) ws at ≡ Ok tt →
     concat_map incidences_of (vertices_from size es k vs ws) ≡ ws
 unfolding list_walk numbers_in vertices_from
 lists_again size es zero vs ws at l = sym (ended_nil ws at l)
@@ -201,19 +202,19 @@ lists_again size es (suc k) vs ws at l =
 
 pub record Sounds (b : Bounds) (ws : List ℕ) : Type 0 where
   pub header : sound_header ws ≡ true
-  pub vertices : vertex_verdict (record_size ws) b ws ≡ Sound
-  pub edges : edge_verdict (record_size ws) b ws ≡ Sound
-  pub degrees : degree_verdict (record_size ws) ws ≡ Sound
-  pub lists : list_verdict (record_size ws) ws ≡ Sound
+  pub vertices : vertex_verdict (record_size ws) b ws ≡ Ok tt
+  pub edges : edge_verdict (record_size ws) b ws ≡ Ok tt
+  pub degrees : degree_verdict (record_size ws) ws ≡ Ok tt
+  pub lists : list_verdict (record_size ws) ws ≡ Ok tt
 
-pub sounds : (b : Bounds) (ws : List ℕ) → verdict b ws ≡ Sound → Sounds b ws
+pub sounds : (b : Bounds) (ws : List ℕ) → verdict b ws ≡ Ok tt → Sounds b ws
 unfolding verdict
 sounds b ws h = go (sound_header ws) (sound_counts b.vertices b.edges (vertex_count ws) (edge_count ws)) refl h
   where
     size : ℕ
     size = record_size ws
 
-    go : (x y : Bool) → sound_header ws ≡ x → (not (x && y) ⇒ BadHeader else parts_verdict size b ws) ≡ Sound → Sounds b ws
+    go : (x y : Bool) → sound_header ws ≡ x → (not (x && y) ⇒ (Err Header) else parts_verdict size b ws) ≡ Ok tt → Sounds b ws
     go true true e h =
         let p = then_sound (vertex_verdict size b ws) _ h in
         let q = then_sound (edge_verdict size b ws) _ p.1 in
@@ -222,7 +223,7 @@ sounds b ws h = go (sound_header ws) (sound_counts b.vertices b.edges (vertex_co
     go true false e h = absurd (header_not h)
     go false y e h = absurd (header_not h)
 
-pub sound_loads : (b : Bounds) (ws : List ℕ) → verdict b ws ≡ Sound → loadable b ws ≡ true
+pub sound_loads : (b : Bounds) (ws : List ℕ) → verdict b ws ≡ Ok tt → loadable b ws ≡ true
 unfolding load save_as well_formed
 sound_loads b ws h = saves_loads b (load ws) formed ws (saves_by size z (load ws) ws again)
   where

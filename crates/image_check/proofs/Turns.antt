@@ -1,109 +1,185 @@
 -- One turn of each loop: what a run says of the words from `at` on, by what stands there.
 use Rattle.std.specs.Prelude.{◌==◌}
 use Prim.Native.Nat.{ℕ, zero, suc, ◌+◌, ◌*◌, ◌-◌, ◌≤◌, ◌<◌}
-use mathlib.Core.Path.{◌≡◌, sym, ap, ap₂, ◌∙◌, subst}
+use mathlib.Core.Path.{◌≡◌, refl, sym, ap, ap₂, subst}
 use mathlib.Core.Bool.{Bool, true, false}
-use mathlib.Core.List.{List, [], ◌∷◌}
+use mathlib.Core.List.{List, [], ◌∷◌, ◌++◌}
 use native.Mathlib.Omega.{arith}
 use lib.Dec.{eqb, ltb}
-use lib.ListN.{length, get_or, drop, set, replicate, drop_of_length-le}
-use lib.Seq.{drop-cons, drop-drop}
+use lib.ListN.{length, length-append, get_or, get_or-append, drop, set, replicate, drop_of_length-le}
+use lib.Seq.{drop-cons, drop-append_seam}
 use borrow.Author.Tests.{eq-eqb, ne_eqb, lt-ltb, le-ltb, ltb-true}
-use Rattle.lists.specs.Choice.{◌⇒◌else◌, within}
+use Rattle.lists.specs.Choice.{◌⇒◌else◌}
 use Rattle.lists.proofs.Bools.{within_range}
 use Rattle.lists.proofs.Picks.{same?, same, differ}
 use Rattle.lists.proofs.WordLaws.{word_at, first_at, one_drop, inside}
-use Rattle.image_check.specs.Checks.{passed, part_limits, field_tests}
+use Rattle.image_check.specs.Checks.{part_limits}
 use Rattle.image_check.proofs.Walks.{good_vertex}
 use Rattle.image_check.proofs.Verdicts.{vertex_ok, edge_ok}
-use Rattle.image_check.specs.Scratch.{NoneAbove, bumped, with_ends, owned, edge_good, edge_ends, edge_owned, vertex_run, vertex_marks, edge_run, edge_degrees, edge_owners, degree_run, list_run}
+use Rattle.image_check.specs.Scratch.{NoneAbove, bumped, with_ends, edge_good, edge_ends, edge_owned, vertex_run, vertex_marks, edge_run, edge_degrees, edge_owners, degree_run, list_run}
 use Rattle.image_check.specs.Scratch.{list_owners, incidence_run}
-use Rattle.image_check.specs.declared.Verdict.TheVariants.{Sound, BadRecord, BadIncidence}
+use Rattle.std.specs.Prelude.{Ok, Err}
+use Rattle.image_check.specs.declared.BadImage.TheVariants.{Record, Incidence}
 
--- ---- turns of a loop over records
+-- ---- one turn of a loop over records: x is the record at `at`, and rest the words behind it
 
-module _ (count i : ℕ) (ws : List ℕ) (from at : ℕ) (turn : i < count) where
+-- where words are left a record is left, and where fewer are than a record has none is
+pub turn_on : (size d n : ℕ) → size * d ≡ n → 1 ≤ n → 1 ≤ d
+turn_on size zero n e h = omega (arith, e, h)
+turn_on size (suc d) n e h = omega arith
+
+pub none_left : (size d n : ℕ) → size * d ≡ n → n < size → d ≡ 0
+none_left size zero n e h = omega arith
+none_left size (suc d) n e h = absurd (omega (arith, e, h))
+
+-- the records left are those behind this one, and it
+pub row_next : (size count i n m : ℕ) → i < count → size * (count - i) ≡ n → n ≡ size + m → size * (count - (i + 1)) ≡ m
+row_next size count i n m turn e f =
+    let left : count - i ≡ suc (count - (i + 1)) = omega arith in
+    let g : size * suc (count - (i + 1)) ≡ n = subst (λ (k : ℕ). size * k ≡ n) left e in omega (arith, f, g)
+
+pub parted : (x rest ws : List ℕ) (size : ℕ) → ws ≡ x ++ rest → length x ≡ size → length ws ≡ size + length rest
+parted x rest ws size cut long = rw (cut, ← long) (length-append x rest)
+
+-- there is a record left, and so many behind it
+pub turn_of : (size count i : ℕ) (x rest ws : List ℕ) → 3 ≤ size → ws ≡ x ++ rest → length x ≡ size → size * (count - i) ≡ length ws →
+    (i < count) × (size * (count - (i + 1)) ≡ length rest)
+turn_of size count i x rest ws three cut long e =
+    let p = parted x rest ws size cut long in
+    let d = turn_on size (count - i) (length ws) e (omega (arith, p)) in
+    let turn : i < count = omega (arith, d) in
+    (turn, row_next size count i (length ws) (length rest) turn e p)
+
+pub piece_of : (size left : ℕ) (x rest ws : List ℕ) → 3 ≤ size → ws ≡ x ++ rest → length x ≡ size → size * left ≡ length ws →
+    (m : ℕ) × (left ≡ suc m) × (size * m ≡ length rest)
+piece_of size zero x rest ws three cut long e = absurd (omega (arith, e, parted x rest ws size cut long))
+piece_of size (suc m) x rest ws three cut long e = (m, refl, omega (arith, e, parted x rest ws size cut long))
+
+-- how far the records before reach
+pub along : (size i n : ℕ) (x rest ws : List ℕ) → ws ≡ x ++ rest → length x ≡ size → size * i + length ws ≡ n → size * (i + 1) + length rest ≡ n
+along size i n x rest ws cut long e = omega (arith, e, parted x rest ws size cut long)
+
+module _ (size count i : ℕ) (x rest ws : List ℕ) (turn : i < count) (cut : ws ≡ x ++ rest) (long : length x ≡ size) where
   left : count - i ≡ suc (count - (i + 1))
   left = omega arith
 
-  along : (size : ℕ) → from + at + size ≡ from + (at + size)
-  along size = omega arith
+  behind : drop size ws ≡ rest
+  behind = rw (cut, ← long) (drop-append_seam x rest)
 
-  -- the records left are those behind this one, and it
-  pub row_next : (size n : ℕ) → at + size * (count - i) ≡ n → at + size + size * (count - (i + 1)) ≡ n
-  row_next size n e = let f : at + size * suc (count - (i + 1)) ≡ n = subst (λ (k : ℕ). at + size * k ≡ n) left e in omega (arith, f)
+  word : (j : ℕ) → j < size → get_or ws j 0 ≡ get_or x j 0
+  word j h = rw cut (get_or-append x rest 0 j (omega (arith, h, long)))
 
-  module _ (size cap types : ℕ) (deg : List ℕ) (g : ℕ) (good : g ≡ good_vertex cap types (eqb (get_or deg (get_or ws at 0) 0) 0) (get_or ws at 0) (get_or ws (at + 1) 0) 0) where
-    pub vertex_stop : g < 3 → BadRecord (from + at + g) ≡ vertex_run size (part_limits cap types) deg (count - i) (drop at ws) (from + at)
+  module _ (three : 3 ≤ size) (cap types : ℕ) (deg : List ℕ) (at g : ℕ) (good : g ≡ good_vertex cap types (eqb (get_or deg (get_or x 0 0) 0) 0) (get_or x 0 0) (get_or x 1 0) 0) where
+    pub vertex_stop : g < 3 → Err (Record (at + g)) ≡ vertex_run size (part_limits cap types) deg (count - i) ws at
     unfolding vertex_run
-    vertex_stop h = rw (left, first_at ws at, word_at ws at 1, ← good, lt-ltb g 3 h)
+    vertex_stop h = rw (left, word 0 (omega arith), word 1 (omega arith), ← good, lt-ltb g 3 h)
 
-    pub vertex_go : 3 ≤ g →
-        vertex_run size (part_limits cap types) (set deg (get_or ws at 0) 1) (count - (i + 1)) (drop (at + size) ws) (from + (at + size))
-        ≡ vertex_run size (part_limits cap types) deg (count - i) (drop at ws) (from + at)
+    pub vertex_go : 3 ≤ g → (to : ℕ) → to ≡ at + size →
+        vertex_run size (part_limits cap types) (set deg (get_or x 0 0) 1) (count - (i + 1)) rest to ≡ vertex_run size (part_limits cap types) deg (count - i) ws at
     unfolding vertex_run
-    vertex_go h = rw (left, first_at ws at, word_at ws at 1, ← good, le-ltb g 3 h, drop-drop size at ws, along size)
+    vertex_go h to e = rw (left, word 0 (omega arith), word 1 (omega arith), ← good, le-ltb g 3 h, behind, e)
 
-  pub marks_go : (size : ℕ) (deg : List ℕ) → vertex_marks size (set deg (get_or ws at 0) 1) (count - (i + 1)) (drop (at + size) ws) ≡ vertex_marks size deg (count - i) (drop at ws)
+  pub marks_go : 3 ≤ size → (deg : List ℕ) → vertex_marks size (set deg (get_or x 0 0) 1) (count - (i + 1)) rest ≡ vertex_marks size deg (count - i) ws
   unfolding vertex_marks
-  marks_go size deg =
+  marks_go three deg =
       rw left
-      (ap₂ (λ (d l : List ℕ). vertex_marks size d (count - (i + 1)) l) (ap (λ (n : ℕ). set deg n 1) (sym (first_at ws at))) (sym (drop-drop size at ws)))
+      (ap₂ (λ (d l : List ℕ). vertex_marks size d (count - (i + 1)) l) (ap (λ (n : ℕ). set deg n 1) (sym (word 0 (omega arith)))) (sym behind))
 
-  module _ (cap types : ℕ) (deg own : List ℕ) (g : ℕ) (good : g ≡ edge_good (part_limits cap types) deg own (drop at ws)) where
-    pub edge_stop : g < 6 → BadRecord (from + at + g) ≡ edge_run (part_limits cap types) deg own (count - i) (drop at ws) (from + at)
+  module _ (four : size ≡ 4) (deg : List ℕ) (at d y : ℕ) (degree : d ≡ get_or deg (get_or x 0 0) 0 - 1) (is : y ≡ get_or x 3 0) where
+    pub degree_stop : (y ≡ d → ⊥) → Err (Record (at + 3)) ≡ degree_run size deg (count - i) ws at
+    unfolding degree_run
+    degree_stop h = rw (left, word 0 (omega arith), word 3 (omega arith), ← degree, ← is, ne_eqb y d h, four)
+
+    pub degree_go : y ≡ d → (to : ℕ) → to ≡ at + size → degree_run size deg (count - (i + 1)) rest to ≡ degree_run size deg (count - i) ws at
+    unfolding degree_run
+    degree_go h to e = rw (left, word 0 (omega arith), word 3 (omega arith), ← degree, ← is, eq-eqb y d h, behind, e, four)
+        (ap (λ (s : ℕ). degree_run s deg (count - (i + 1)) rest (at + 4)) (sym four))
+
+module _ (count i : ℕ) (x rest ws : List ℕ) (turn : i < count) (cut : ws ≡ x ++ rest) (long : length x ≡ 6) where
+  six : (j : ℕ) → j < 6 → get_or ws j 0 ≡ get_or x j 0
+  six j h = word 6 count i x rest ws turn cut long j h
+
+  edge_same : (cap types : ℕ) (deg own : List ℕ) → edge_good (part_limits cap types) deg own ws ≡ edge_good (part_limits cap types) deg own x
+  edge_same cap types deg own =
+      rw (six 0 (omega arith), six 1 (omega arith), six 2 (omega arith), six 3 (omega arith), six 4 (omega arith), six 5 (omega arith))
+
+  module _ (cap types : ℕ) (deg own : List ℕ) (at g : ℕ) (good : g ≡ edge_good (part_limits cap types) deg own x) where
+    pub edge_stop : g < 6 → Err (Record (at + g)) ≡ edge_run (part_limits cap types) deg own (count - i) ws at
     unfolding edge_run
-    edge_stop h = rw (left, ← good, lt-ltb g 6 h)
+    edge_stop h = rw (left 6 count i x rest ws turn cut long, edge_same cap types deg own, ← good, lt-ltb g 6 h)
 
-    pub edge_go : 6 ≤ g →
-        edge_run (part_limits cap types) (edge_ends ws at deg) (edge_owned ws at own) (count - (i + 1)) (drop (at + 6) ws) (from + (at + 6))
-        ≡ edge_run (part_limits cap types) deg own (count - i) (drop at ws) (from + at)
+    pub edge_go : 6 ≤ g → (to : ℕ) → to ≡ at + 6 →
+        edge_run (part_limits cap types) (edge_ends x 0 deg) (edge_owned x 0 own) (count - (i + 1)) rest to ≡ edge_run (part_limits cap types) deg own (count - i) ws at
     unfolding edge_run
-    edge_go h = rw (left, ← good, le-ltb g 6 h, first_at ws at, word_at ws at 1, word_at ws at 2, drop-drop 6 at ws, along 6)
+    edge_go h to e =
+        rw (
+          left 6 count i x rest ws turn cut long,
+          edge_same cap types deg own,
+          ← good,
+          le-ltb g 6 h,
+          six 0 (omega arith),
+          six 1 (omega arith),
+          six 2 (omega arith),
+          behind 6 count i x rest ws turn cut long,
+          e,
+        )
 
-  ends_here : (deg : List ℕ) → edge_ends ws at deg ≡ edge_ends (drop at ws) 0 deg
-  ends_here deg = rw (← word_at ws at 1, ← word_at ws at 2)
+  ends_same : (deg : List ℕ) → edge_ends x 0 deg ≡ edge_ends ws 0 deg
+  ends_same deg = rw (six 1 (omega arith), six 2 (omega arith))
 
-  owned_here : (own : List ℕ) → edge_owned ws at own ≡ edge_owned (drop at ws) 0 own
-  owned_here own = rw (← first_at ws at, ← word_at ws at 1, ← word_at ws at 2)
+  owned_same : (own : List ℕ) → edge_owned x 0 own ≡ edge_owned ws 0 own
+  owned_same own = rw (six 0 (omega arith), six 1 (omega arith), six 2 (omega arith))
 
-  pub degrees_go : (deg : List ℕ) → edge_degrees (edge_ends ws at deg) (count - (i + 1)) (drop (at + 6) ws) ≡ edge_degrees deg (count - i) (drop at ws)
+  pub degrees_go : (deg : List ℕ) → edge_degrees (edge_ends x 0 deg) (count - (i + 1)) rest ≡ edge_degrees deg (count - i) ws
   unfolding edge_degrees
-  degrees_go deg = rw left (ap₂ (λ (d l : List ℕ). edge_degrees d (count - (i + 1)) l) (ends_here deg) (sym (drop-drop 6 at ws)))
+  degrees_go deg =
+      rw (left 6 count i x rest ws turn cut long)
+      (ap₂ (λ (d l : List ℕ). edge_degrees d (count - (i + 1)) l) (ends_same deg) (sym (behind 6 count i x rest ws turn cut long)))
 
-  pub owners_go : (own : List ℕ) → edge_owners (edge_owned ws at own) (count - (i + 1)) (drop (at + 6) ws) ≡ edge_owners own (count - i) (drop at ws)
+  pub owners_go : (own : List ℕ) → edge_owners (edge_owned x 0 own) (count - (i + 1)) rest ≡ edge_owners own (count - i) ws
   unfolding edge_owners
-  owners_go own = rw left (ap₂ (λ (o l : List ℕ). edge_owners o (count - (i + 1)) l) (owned_here own) (sym (drop-drop 6 at ws)))
+  owners_go own =
+      rw (left 6 count i x rest ws turn cut long)
+      (ap₂ (λ (o l : List ℕ). edge_owners o (count - (i + 1)) l) (owned_same own) (sym (behind 6 count i x rest ws turn cut long)))
 
-  module _ (size : ℕ) (four : size ≡ 4) (deg : List ℕ) (d x : ℕ) (degree : d ≡ get_or deg (get_or ws at 0) 0 - 1) (word : x ≡ get_or ws (at + 3) 0) where
-    pub degree_stop : (x ≡ d → ⊥) → BadRecord (from + at + 3) ≡ degree_run size deg (count - i) (drop at ws) (from + at)
-    unfolding degree_run
-    degree_stop h = rw (left, first_at ws at, word_at ws at 3, ← degree, ← word, ne_eqb x d h, four)
+module _ (size n m : ℕ) (x rest ws : List ℕ) (more : n ≡ suc m) (cut : ws ≡ x ++ rest) (long : length x ≡ size) (three : 3 ≤ size)
+    (deg own is : List ℕ) (at d g : ℕ) (degree : d ≡ get_or deg (get_or x 0 0) 0 - 1) (good : g ≡ list_run (get_or x 0 0) d own is) where
+  number : get_or ws 0 0 ≡ get_or x 0 0
+  number = rw cut (get_or-append x rest 0 0 (omega (arith, three, long)))
 
-    pub degree_go : x ≡ d → degree_run size deg (count - (i + 1)) (drop (at + size) ws) (from + (at + size)) ≡ degree_run size deg (count - i) (drop at ws) (from + at)
-    unfolding degree_run
-    degree_go h =
-        rw (left, first_at ws at, word_at ws at 3, ← degree, ← word, eq-eqb x d h, four, drop-drop 4 at ws, along 4)
-        (ap (λ (s : ℕ). degree_run s deg (count - (i + 1)) (drop (at + 4) ws) (from + (at + 4))) (sym four))
+  pub incidence_stop : g < d → Err (Incidence (at + g)) ≡ incidence_run size deg own n ws is at
+  unfolding incidence_run
+  incidence_stop h = rw (more, number, ← degree, ← good, lt-ltb g d h)
+
+  pub incidence_go : d ≤ g → incidence_run size deg (list_owners d own is) m rest (drop d is) (at + d) ≡ incidence_run size deg own n ws is at
+  unfolding incidence_run
+  incidence_go h =
+      let behind : drop size ws ≡ rest = rw (cut, ← long) (drop-append_seam x rest) in
+      rw (more, number, ← degree, ← good, le-ltb g d h, behind)
 
 -- ---- the end of a loop over records
 
-module _ (count i : ℕ) (ws : List ℕ) (at : ℕ) (over : count ≤ i) where
-  none : count - i ≡ 0
-  none = omega arith
-
-  pub vertex_end : (size cap types : ℕ) (deg : List ℕ) → (vertex_run size (part_limits cap types) deg (count - i) ws at ≡ Sound) × (vertex_marks size deg (count - i) ws ≡ deg)
+module _ (d : ℕ) (none : d ≡ 0) (ws : List ℕ) (at : ℕ) where
+  pub vertex_end : (size cap types : ℕ) (deg : List ℕ) → (vertex_run size (part_limits cap types) deg d ws at ≡ Ok tt) × (vertex_marks size deg d ws ≡ deg)
   unfolding vertex_run vertex_marks
   vertex_end size cap types deg = (rw none, rw none)
 
   pub edge_end : (cap types : ℕ) (deg own : List ℕ) →
-      (edge_run (part_limits cap types) deg own (count - i) ws at ≡ Sound) × (edge_degrees deg (count - i) ws ≡ deg) × (edge_owners own (count - i) ws ≡ own)
+      (edge_run (part_limits cap types) deg own d ws at ≡ Ok tt) × (edge_degrees deg d ws ≡ deg) × (edge_owners own d ws ≡ own)
   unfolding edge_run edge_degrees edge_owners
   edge_end cap types deg own = (rw none, rw none, rw none)
 
-  pub degree_end : (size : ℕ) (deg : List ℕ) → degree_run size deg (count - i) ws at ≡ Sound
+  pub degree_end : (size : ℕ) (deg : List ℕ) → degree_run size deg d ws at ≡ Ok tt
   unfolding degree_run
   degree_end size deg = rw none
+
+  pub incidence_more : (size : ℕ) (deg own is : List ℕ) (k : ℕ) → k < length is → Err (Incidence at) ≡ incidence_run size deg own d ws (drop k is) at
+  unfolding incidence_run
+  incidence_more size deg own is k m = rw (none, drop-cons is k 0 m)
+
+  pub incidence_done : (size : ℕ) (deg own is : List ℕ) (k : ℕ) → length is ≤ k → Ok tt ≡ incidence_run size deg own d ws (drop k is) at
+  unfolding incidence_run
+  incidence_done size deg own is k m = rw (none, drop_of_length-le is m)
 
 -- ---- where good records lead
 
@@ -175,41 +251,9 @@ list_le v (suc d) own (w ∷ ws) = go (list_le v d (set own w 0) ws) (get_or own
     go ih true = (omega arith, omega arith)
     go ih false = (omega arith, omega arith)
 
--- ---- the incidence part
-
-module _ (size : ℕ) (deg own : List ℕ) (count i : ℕ) (vs ws : List ℕ) (from row at d g : ℕ) (turn : i < count) (deg_at : d ≡ get_or deg (get_or vs row 0) 0 - 1)
-    (good : g ≡ list_run (get_or vs row 0) d own (drop at ws)) where
-  rows_left : count - i ≡ suc (count - (i + 1))
-  rows_left = omega arith
-
-  farther : from + at + d ≡ from + (at + d)
-  farther = omega arith
-
-  pub incidence_stop : g < d → BadIncidence (from + at + g) ≡ incidence_run size deg own (count - i) (drop row vs) (drop at ws) (from + at)
-  unfolding incidence_run
-  incidence_stop h = rw (rows_left, first_at vs row, ← deg_at, ← good, lt-ltb g d h)
-
-  pub incidence_go : d ≤ g →
-      incidence_run size deg (list_owners d own (drop at ws)) (count - (i + 1)) (drop (row + size) vs) (drop (at + d) ws) (from + (at + d))
-      ≡ incidence_run size deg own (count - i) (drop row vs) (drop at ws) (from + at)
-  unfolding incidence_run
-  incidence_go h = rw (rows_left, first_at vs row, ← deg_at, ← good, le-ltb g d h, drop-drop size row vs, drop-drop d at ws, farther)
-
-module _ (size : ℕ) (deg own : List ℕ) (count i : ℕ) (vs ws : List ℕ) (k at : ℕ) (over : count ≤ i) where
-  rows_none : count - i ≡ 0
-  rows_none = omega arith
-
-  pub incidence_more : k < length ws → BadIncidence at ≡ incidence_run size deg own (count - i) vs (drop k ws) at
-  unfolding incidence_run
-  incidence_more m = rw (rows_none, drop-cons ws k 0 m)
-
-  pub incidence_done : length ws ≤ k → Sound ≡ incidence_run size deg own (count - i) vs (drop k ws) at
-  unfolding incidence_run
-  incidence_done m = rw (rows_none, drop_of_length-le ws m)
-
 -- ---- bounds of the counts
 
-below_set : (k : ℕ) (s : List ℕ) (v x : ℕ) → NoneAbove k s → x ≤ k → NoneAbove k (set s v x)
+pub below_set : (k : ℕ) (s : List ℕ) (v x : ℕ) → NoneAbove k s → x ≤ k → NoneAbove k (set s v x)
 below_set k [] v x b h i = b i
 below_set k (a ∷ s) zero x b h zero = h
 below_set k (a ∷ s) zero x b h (suc i) = b (suc i)
@@ -226,112 +270,7 @@ pub below_ends : (at : ℕ) (s : List ℕ) (a o : ℕ) → NoneAbove (1 + at) s 
 below_ends at s a o b =
     below_more (1 + at + 1 + 1) (1 + (at + 6)) (with_ends a o s) (omega arith) (below_bump (1 + at + 1) (bumped a s) o (below_bump (1 + at) s a b))
 
-below_marks : (size : ℕ) (deg : List ℕ) (k : ℕ) (ws : List ℕ) → NoneAbove 1 deg → NoneAbove 1 (vertex_marks size deg k ws)
-unfolding vertex_marks
-below_marks size deg zero ws b = b
-below_marks size deg (suc k) ws b = below_marks size (set deg (get_or ws 0 0) 1) k (drop size ws) (below_set 1 deg (get_or ws 0 0) 1 b (omega arith))
-
 pub below_zeros : (n k : ℕ) → NoneAbove k (replicate n 0)
 below_zeros zero k i = omega arith
 below_zeros (suc n) k zero = omega arith
 below_zeros (suc n) k (suc i) = below_zeros n k i
-
--- ---- what the code read and wrote, as the words that stand there
-
-pub bump_by : (s t : List ℕ) (i x : ℕ) → x ≡ get_or s i 0 → t ≡ set s i (x + 1) → t ≡ bumped i s
-bump_by s t i x e f = cc
-
-pub ends_by : (deg d d' : List ℕ) (a o x y : ℕ) → x ≡ a → d ≡ bumped x deg → y ≡ o → d' ≡ bumped y d → d' ≡ with_ends a o deg
-ends_by deg d d' a o x y e f g h = cc
-
-pub owned_by : (own s s' : List ℕ) (n a o m : ℕ) → m ≡ n → s ≡ set own (2 * m) a → s' ≡ set s (2 * m + 1) o → s' ≡ owned n a o own
-owned_by own s s' n a o m e f g = cc
-
-pub edge_ends_by : (deg d ws : List ℕ) (at a o : ℕ) → a ≡ get_or ws (at + 1) 0 → o ≡ get_or ws (at + 2) 0 → d ≡ with_ends a o deg → d ≡ edge_ends ws at deg
-edge_ends_by deg d ws at a o e f g = cc
-
-pub edge_owned_by : (own s ws : List ℕ) (at n a o : ℕ) → n ≡ get_or ws at 0 → a ≡ get_or ws (at + 1) 0 → o ≡ get_or ws (at + 2) 0 → s ≡ owned n a o own → s ≡ edge_owned ws at own
-edge_owned_by own s ws at n a o e f g h = cc
-
--- no count is above 1 once the vertices are marked
-pub below_marked : (d deg : List ℕ) (size k : ℕ) (ws : List ℕ) → NoneAbove 0 deg → d ≡ vertex_marks size deg k ws → NoneAbove 1 d
-below_marked d deg size k ws b e = subst (λ (l : List ℕ). NoneAbove 1 l) (sym e) (below_marks size deg k ws (below_more 0 1 deg (omega arith) b))
-
--- the words of an edge record in turn: the first that is bad says how many are sound
-module _ (cap types : ℕ) (deg own ws : List ℕ) (at n : ℕ) (number : n ≡ get_or ws at 0) where
-  pub edge_unnumbered : within 1 cap n ≡ false → 0 ≡ edge_good (part_limits cap types) deg own (drop at ws)
-  edge_unnumbered h = rw (first_at ws at, ← number, h)
-
-  module _ (numbered : within 1 cap n ≡ true) (m f : ℕ) (wide : m ≡ n) (found : f ≡ get_or own (2 * m) 0) where
-    held : f ≡ get_or own (2 * n) 0
-    held = found ∙ ap (λ (k : ℕ). get_or own (2 * k) 0) wide
-
-    pub edge_twice : (f ≡ 0 → ⊥) → 0 ≡ edge_good (part_limits cap types) deg own (drop at ws)
-    edge_twice h = rw (first_at ws at, ← number, numbered, ← held, ne_eqb f 0 h)
-
-    module _ (fresh : f ≡ 0) (a x : ℕ) (alpha : a ≡ get_or ws (at + 1) 0) (out : x ≡ get_or deg a 0) where
-      pub edge_no_start : x ≡ 0 → 1 ≡ edge_good (part_limits cap types) deg own (drop at ws)
-      edge_no_start h = rw (first_at ws at, ← number, numbered, ← held, eq-eqb f 0 fresh, word_at ws at 1, ← alpha, ← out, le-ltb 0 x (omega (arith, h)))
-
-      module _ (starts : x ≡ 0 → ⊥) (o y : ℕ) (omega_word : o ≡ get_or ws (at + 2) 0) (into : y ≡ get_or deg o 0) where
-        pub edge_no_stop : y ≡ 0 → 2 ≡ edge_good (part_limits cap types) deg own (drop at ws)
-        edge_no_stop h =
-            rw (
-              first_at ws at,
-              ← number,
-              numbered,
-              ← held,
-              eq-eqb f 0 fresh,
-              word_at ws at 1,
-              ← alpha,
-              ← out,
-              lt-ltb 0 x (omega (arith, starts)),
-              word_at ws at 2,
-              ← omega_word,
-              ← into,
-              le-ltb 0 y (omega (arith, h)),
-            )
-
-        pub edge_fields : (y ≡ 0 → ⊥) → (t k d g : ℕ) → t ≡ get_or ws (at + 3) 0 → k ≡ get_or ws (at + 4) 0 → d ≡ get_or ws (at + 5) 0 → g ≡ passed (true ∷ true ∷ true ∷ field_tests types t k d)
-            → g ≡ edge_good (part_limits cap types) deg own (drop at ws)
-        edge_fields h t k d g e1 e2 e3 e =
-            rw (
-              first_at ws at,
-              ← number,
-              numbered,
-              ← held,
-              eq-eqb f 0 fresh,
-              word_at ws at 1,
-              ← alpha,
-              ← out,
-              lt-ltb 0 x (omega (arith, starts)),
-              word_at ws at 2,
-              ← omega_word,
-              ← into,
-              lt-ltb 0 y (omega (arith, h)),
-              word_at ws at 3,
-              word_at ws at 4,
-              word_at ws at 5,
-              ← e1,
-              ← e2,
-              ← e3,
-            ) e
-
-pub vertex_by : (cap types : ℕ) (deg ws : List ℕ) (at n m f t r : ℕ) → n ≡ get_or ws at 0 → m ≡ n → f ≡ get_or deg m 0 → t ≡ get_or ws (at + 1) 0 →
-    r ≡ good_vertex cap types (eqb f 0) n t 0 → r ≡ good_vertex cap types (eqb (get_or deg (get_or ws at 0) 0) 0) (get_or ws at 0) (get_or ws (at + 1) 0) 0
-vertex_by cap types deg ws at n m f t r e1 e2 e3 e4 e = cc
-
-pub put_by : (deg ws new : List ℕ) (at n m x : ℕ) → n ≡ get_or ws at 0 → m ≡ n → new ≡ set deg m x → new ≡ set deg (get_or ws at 0) x
-put_by deg ws new at n m x e1 e2 e = cc
-
-pub own_by : (own ws : List ℕ) (i w x : ℕ) → w ≡ get_or ws i 0 → x ≡ get_or own w 0 → get_or own (get_or ws i 0) 0 ≡ x
-own_by own ws i w x e f = cc
-
-pub degree_at : (deg vs : List ℕ) (i m x d : ℕ) → m ≡ get_or vs i 0 → x ≡ get_or deg m 0 → d ≡ x - 1 → d ≡ get_or deg (get_or vs i 0) 0 - 1
-degree_at deg vs i m x d e1 e2 e = cc
-
-pub degree_by : (deg vs : List ℕ) (i v m x d : ℕ) → v ≡ get_or vs i 0 → m ≡ v → x ≡ get_or deg m 0 → d ≡ x - 1 → d ≡ get_or deg (get_or vs i 0) 0 - 1
-degree_by deg vs i v m x d e1 e2 e3 e = degree_at deg vs i m x d (e2 ∙ e1) e3 e
-
-pub list_by : (own vs rest : List ℕ) (i v d g : ℕ) → v ≡ get_or vs i 0 → g ≡ list_run v d own rest → g ≡ list_run (get_or vs i 0) d own rest
-list_by own vs rest i v d g e f = cc

@@ -1,114 +1,120 @@
 -- Laws of verdicts: what a sound one says of its steps, and that any other one stops the check.
 use Prim.Native.Nat.{ℕ, ◌+◌, ◌^◌, ◌≤◌, ◌<◌}
-use mathlib.Core.Path.{◌≡◌, refl}
-use mathlib.Core.Logic.{⊎_elim}
+use mathlib.Core.Path.{◌≡◌, refl, sym}
 use mathlib.Core.Bool.{Bool, true, false, ◌&&◌}
 use mathlib.Core.List.{List, [], ◌∷◌}
 use native.Mathlib.Omega.{arith}
-use types.Run.{OneOf}
-use denote.Enum.Declared.{tag_of}
 use lib.Dec.{leb, ltb}
 use borrow.Author.Tests.{lt-ltb, ltb-false}
 use Rattle.lists.specs.Choice.{◌⇒◌else◌, within}
 use Rattle.graph.specs.Graph.{is_reading}
-use Rattle.image_check.specs.contracts.Verdict.{the_type}
-use Rattle.image_check.specs.Checks.{code_of, offset_of, record_at, ended, list_at, and_then, passed}
+use Rattle.image_check.specs.Checks.{bad_code, code_of, offset_of, record_at, ended, list_at, and_then, passed}
 use Rattle.image_check.proofs.Walks.{good_vertex, good_edge}
-use Rattle.image_check.specs.declared.Verdict.{Verdict}
-use Rattle.image_check.specs.declared.Verdict.TheVariants.{Sound, BadHeader, BadRecord, BadIncidence}
+use Rattle.std.specs.Prelude.{Ok, Err, is_err}
+use Rattle.lists.proofs.Bools.{tf}
+use Rattle.image_check.specs.declared.BadImage.{BadImage}
+use Rattle.image_check.specs.declared.BadImage.TheVariants.{Header, Record, Incidence}
+use Rattle.image_check.specs.Checks.{Verdict}
 
 -- ---- not sound
 
-pub record_not : {k : ℕ} → BadRecord k ≡ Sound → ⊥
+pub record_not : {k : ℕ} → ◌≡◌ {A = Verdict} (Err (Record k)) (Ok tt) → ⊥
 record_not e = let z : ◌≡◌ {A = ℕ} 0 1 = cc in omega arith
 
-pub incidence_not : {k : ℕ} → BadIncidence k ≡ Sound → ⊥
+pub incidence_not : {k : ℕ} → ◌≡◌ {A = Verdict} (Err (Incidence k)) (Ok tt) → ⊥
 incidence_not e = let z : ◌≡◌ {A = ℕ} 0 1 = cc in omega arith
 
-pub header_not : BadHeader ≡ Sound → ⊥
+pub header_not : ◌≡◌ {A = Verdict} (Err Header) (Ok tt) → ⊥
 header_not e = let z : ◌≡◌ {A = ℕ} 0 1 = cc in omega arith
 
-sound_not : OneOf (1 ∷ 2 ∷ 3 ∷ []) (tag_of the_type Sound) → ⊥
-sound_not k = ⊎_elim (λ (e : 0 ≡ 1). omega arith) (λ w. ⊎_elim (λ (e : 0 ≡ 2). omega arith) (λ (e : 0 ≡ 3). omega arith) w) k
-
-pub stop : (r x : Verdict) → OneOf (1 ∷ 2 ∷ 3 ∷ []) (tag_of the_type r) → r ≡ and_then r x
-stop Sound x k = absurd (sound_not k)
-stop BadHeader x k = refl
-stop (BadRecord at) x k = refl
-stop (BadIncidence at) x k = refl
+pub stop : (r x : Verdict) (bad : BadImage) → r ≡ Err bad → Err bad ≡ and_then r x
+stop r x bad e = rw e refl
 
 -- ---- steps
 
 pub record_same : (size at g : ℕ) (x y : Verdict) → (size ≤ g → x ≡ y) → record_at size at g x ≡ record_at size at g y
 record_same size at g x y h = go (ltb g size) refl
   where
-    go : (t : Bool) → ltb g size ≡ t → (t ⇒ BadRecord (at + g) else x) ≡ (t ⇒ BadRecord (at + g) else y)
+    go : (t : Bool) → ltb g size ≡ t → (t ⇒ Err (Record (at + g)) else x) ≡ (t ⇒ Err (Record (at + g)) else y)
     go true e = refl
     go false e = h (ltb-false g size e)
 
-pub record_sound : (size at g : ℕ) (x : Verdict) → record_at size at g x ≡ Sound → (size ≤ g) × (x ≡ Sound)
+pub record_sound : (size at g : ℕ) (x : Verdict) → record_at size at g x ≡ Ok tt → (size ≤ g) × (x ≡ Ok tt)
 record_sound size at g x h = go (ltb g size) refl h
   where
-    go : (t : Bool) → ltb g size ≡ t → (t ⇒ BadRecord (at + g) else x) ≡ Sound → (size ≤ g) × (x ≡ Sound)
+    go : (t : Bool) → ltb g size ≡ t → (t ⇒ Err (Record (at + g)) else x) ≡ Ok tt → (size ≤ g) × (x ≡ Ok tt)
     go true e h = absurd (record_not h)
     go false e h = (ltb-false g size e, h)
 
 pub list_same : (d at g : ℕ) (x y : Verdict) → (d ≤ g → x ≡ y) → list_at d at g x ≡ list_at d at g y
 list_same d at g x y h = go (ltb g d) refl
   where
-    go : (t : Bool) → ltb g d ≡ t → (t ⇒ BadIncidence (at + g) else x) ≡ (t ⇒ BadIncidence (at + g) else y)
+    go : (t : Bool) → ltb g d ≡ t → (t ⇒ Err (Incidence (at + g)) else x) ≡ (t ⇒ Err (Incidence (at + g)) else y)
     go true e = refl
     go false e = h (ltb-false g d e)
 
-pub list_sound : (d at g : ℕ) (x : Verdict) → list_at d at g x ≡ Sound → (d ≤ g) × (x ≡ Sound)
+pub list_sound : (d at g : ℕ) (x : Verdict) → list_at d at g x ≡ Ok tt → (d ≤ g) × (x ≡ Ok tt)
 list_sound d at g x h = go (ltb g d) refl h
   where
-    go : (t : Bool) → ltb g d ≡ t → (t ⇒ BadIncidence (at + g) else x) ≡ Sound → (d ≤ g) × (x ≡ Sound)
+    go : (t : Bool) → ltb g d ≡ t → (t ⇒ Err (Incidence (at + g)) else x) ≡ Ok tt → (d ≤ g) × (x ≡ Ok tt)
     go true e h = absurd (incidence_not h)
     go false e h = (ltb-false g d e, h)
 
-pub ended_nil : (ws : List ℕ) (at : ℕ) → ended ws at ≡ Sound → ws ≡ []
+pub ended_nil : (ws : List ℕ) (at : ℕ) → ended ws at ≡ Ok tt → ws ≡ []
 ended_nil [] at h = refl
 ended_nil (w ∷ ws) at h = absurd (incidence_not h)
 
-pub then_same : (r x y : Verdict) → (r ≡ Sound → x ≡ y) → and_then r x ≡ and_then r y
-then_same Sound x y h = h refl
-then_same BadHeader x y h = refl
-then_same (BadRecord at) x y h = refl
-then_same (BadIncidence at) x y h = refl
+pub then_same : (r x y : Verdict) → (r ≡ Ok tt → x ≡ y) → and_then r x ≡ and_then r y
+then_same (Ok tt) x y h = h refl
+then_same (Err Header) x y h = refl
+then_same (Err (Record at)) x y h = refl
+then_same (Err (Incidence at)) x y h = refl
 
-pub then_sound : (r x : Verdict) → and_then r x ≡ Sound → (r ≡ Sound) × (x ≡ Sound)
-then_sound Sound x h = (refl, h)
-then_sound BadHeader x h = absurd (header_not h)
-then_sound (BadRecord at) x h = absurd (record_not h)
-then_sound (BadIncidence at) x h = absurd (incidence_not h)
+pub then_sound : (r x : Verdict) → and_then r x ≡ Ok tt → (r ≡ Ok tt) × (x ≡ Ok tt)
+then_sound (Ok tt) x h = (refl, h)
+then_sound (Err Header) x h = absurd (header_not h)
+then_sound (Err (Record at)) x h = absurd (record_not h)
+then_sound (Err (Incidence at)) x h = absurd (incidence_not h)
 
 -- ---- codes
 
-pub zero_sound : (r : Verdict) → code_of r ≡ 0 → r ≡ Sound
-zero_sound Sound e = refl
-zero_sound BadHeader e = absurd (omega arith)
-zero_sound (BadRecord at) e = absurd (omega arith)
-zero_sound (BadIncidence at) e = absurd (omega arith)
+pub zero_sound : (r : Verdict) → code_of r ≡ 0 → r ≡ Ok tt
+zero_sound (Ok tt) e = refl
+zero_sound (Err Header) e = absurd (omega arith)
+zero_sound (Err (Record at)) e = absurd (omega arith)
+zero_sound (Err (Incidence at)) e = absurd (omega arith)
 
-pub coded_record : (r : Verdict) → code_of r ≡ 108 → r ≡ BadRecord (offset_of r)
-coded_record Sound e = absurd (omega arith)
-coded_record BadHeader e = absurd (omega arith)
-coded_record (BadRecord at) e = refl
-coded_record (BadIncidence at) e = absurd (omega arith)
+pub code_not_zero : (bad : BadImage) → bad_code bad ≡ 0 → ⊥
+code_not_zero Header e = omega arith
+code_not_zero (Record at) e = omega arith
+code_not_zero (Incidence at) e = omega arith
 
-pub coded_incidence : (r : Verdict) → code_of r ≡ 109 → r ≡ BadIncidence (offset_of r)
-coded_incidence Sound e = absurd (omega arith)
-coded_incidence BadHeader e = absurd (omega arith)
-coded_incidence (BadRecord at) e = absurd (omega arith)
-coded_incidence (BadIncidence at) e = refl
+pub bad_code_not_zero : (r : Verdict) → is_err r ≡ true → code_of r ≡ 0 → ⊥
+bad_code_not_zero (Ok tt) e = λ _. tf (sym e)
+bad_code_not_zero (Err bad) e = code_not_zero bad
+
+pub sound_code : (r : Verdict) → is_err r ≡ false → code_of r ≡ 0
+sound_code (Ok tt) e = refl
+sound_code (Err bad) e = absurd (tf e)
+
+pub coded_record : (r : Verdict) → code_of r ≡ 108 → r ≡ Err (Record (offset_of r))
+coded_record (Ok tt) e = absurd (omega arith)
+coded_record (Err Header) e = absurd (omega arith)
+coded_record (Err (Record at)) e = refl
+coded_record (Err (Incidence at)) e = absurd (omega arith)
+
+pub coded_incidence : (r : Verdict) → code_of r ≡ 109 → r ≡ Err (Incidence (offset_of r))
+coded_incidence (Ok tt) e = absurd (omega arith)
+coded_incidence (Err Header) e = absurd (omega arith)
+coded_incidence (Err (Record at)) e = absurd (omega arith)
+coded_incidence (Err (Incidence at)) e = refl
 
 -- any other code goes with no offset
 pub uncoded : (r : Verdict) → (code_of r ≡ 108 → ⊥) → (code_of r ≡ 109 → ⊥) → offset_of r ≡ 0
-uncoded Sound m n = refl
-uncoded BadHeader m n = refl
-uncoded (BadRecord at) m n = absurd (m refl)
-uncoded (BadIncidence at) m n = absurd (n refl)
+uncoded (Ok tt) m n = refl
+uncoded (Err Header) m n = refl
+uncoded (Err (Record at)) m n = absurd (m refl)
+uncoded (Err (Incidence at)) m n = absurd (n refl)
 
 -- ---- what a whole good record says
 

@@ -16,9 +16,9 @@ use Rattle.image_check.specs.Checks.{walk, part_limits, passed, vertex_by}
 use Rattle.image_check.proofs.Walks.{good_vertex, vertex_walk}
 use Rattle.image.specs.Image.{numbers_in}
 use Rattle.image_check.specs.Scratch.{vertex_run, vertex_marks}
-use Rattle.image_check.specs.declared.Verdict.TheVariants.{Sound}
 use Rattle.image_check.proofs.Numbers.{numbers_distinct}
 use Rattle.image_check.proofs.Verdicts.{record_same, record_sound, VertexOk, vertex_ok, any_value}
+use Rattle.std.specs.Prelude.{Ok}
 
 -- each word is one of 32 bits
 abbrev pub Small : List ℕ → Type 0
@@ -75,9 +75,9 @@ module _ (size cap types : ℕ) where
     pub ok : VertexOk cap types (not (member (get_or ws 0 0) seen)) (get_or ws 0 0) (get_or ws 1 0) (get_or ws 2 0)
     pub low : 1 ≤ get_or ws 0 0
     pub high : get_or ws 0 0 ≤ cap
-    pub rest : vertex_walk size cap types (get_or ws 0 0 ∷ seen) k (drop size ws) (at + size) ≡ Sound
+    pub rest : vertex_walk size cap types (get_or ws 0 0 ∷ seen) k (drop size ws) (at + size) ≡ Ok tt
 
-  pub vertex_step : (seen : List ℕ) (k : ℕ) (ws : List ℕ) (at : ℕ) → vertex_walk size cap types seen (suc k) ws at ≡ Sound → VertexStep seen k ws at
+  pub vertex_step : (seen : List ℕ) (k : ℕ) (ws : List ℕ) (at : ℕ) → vertex_walk size cap types seen (suc k) ws at ≡ Ok tt → VertexStep seen k ws at
   unfolding walk
   vertex_step seen k ws at s =
       let n = get_or ws 0 0 in
@@ -88,7 +88,7 @@ module _ (size cap types : ℕ) where
       let l = within_range 1 cap n o.number in
       record { ok = o; low = l.0; high = l.1; rest = r.1 }
 
-  pub marks_agree : (deg seen : List ℕ) (k : ℕ) (ws : List ℕ) (at : ℕ) → cap < length deg → Indicator seen deg → vertex_walk size cap types seen k ws at ≡ Sound →
+  pub marks_agree : (deg seen : List ℕ) (k : ℕ) (ws : List ℕ) (at : ℕ) → cap < length deg → Indicator seen deg → vertex_walk size cap types seen k ws at ≡ Ok tt →
       (m : ℕ) → get_or (vertex_marks size deg k ws) m 0 ≡ to_bit (member m seen || member m (numbers_in size k ws))
   unfolding vertex_marks numbers_in
   marks_agree deg seen zero ws at h a s m = rw (or_false (member m seen)) (a m)
@@ -99,13 +99,13 @@ module _ (size cap types : ℕ) where
       ∙ ap to_bit (or_swap (n == m) (member m seen) (member m (numbers_in size k (drop size ws))))
 
   -- what a sound walk says of the numbers: they are distinct, none is 0
-  pub walk_distinct : (seen : List ℕ) (k : ℕ) (ws : List ℕ) (at : ℕ) → vertex_walk size cap types seen k ws at ≡ Sound → distinct (numbers_in size k ws) ≡ true
+  pub walk_distinct : (seen : List ℕ) (k : ℕ) (ws : List ℕ) (at : ℕ) → vertex_walk size cap types seen k ws at ≡ Ok tt → distinct (numbers_in size k ws) ≡ true
   walk_distinct seen k ws at s = numbers_distinct (vertex_by (part_limits cap types)) 3 size fresh seen k ws at s
     where
       fresh : (us ws : List ℕ) → 3 ≤ passed (vertex_by (part_limits cap types) us ws) → member (get_or ws 0 0) us ≡ false
       fresh us ws h = not-true (member (get_or ws 0 0) us) (vertex_ok cap types (not (member (get_or ws 0 0) us)) (get_or ws 0 0) (get_or ws 1 0) (get_or ws 2 0) h).new
 
-  pub walk_positive : (seen : List ℕ) (k : ℕ) (ws : List ℕ) (at : ℕ) → vertex_walk size cap types seen k ws at ≡ Sound → member 0 (numbers_in size k ws) ≡ false
+  pub walk_positive : (seen : List ℕ) (k : ℕ) (ws : List ℕ) (at : ℕ) → vertex_walk size cap types seen k ws at ≡ Ok tt → member 0 (numbers_in size k ws) ≡ false
   unfolding numbers_in
   walk_positive seen zero ws at s = refl
   walk_positive seen (suc k) ws at s =

@@ -6,7 +6,7 @@ use Rattle.lists.specs.Choice.{within}
 use Rattle.graph.specs.Graph.{Edge}
 use Rattle.image.specs.Image.{old_vertex_size, edge_size}
 use Rattle.image_check.specs.Checks.{passed, part_limits, vertex_tests, field_tests, degree_tests, walk, seeing, vertex_by, edge_by, degree_by}
-use Rattle.image_check.specs.declared.Verdict.{Verdict}
+use Rattle.image_check.specs.Checks.{Verdict}
 
 abbrev pub good_vertex : ℕ → ℕ → Bool → ℕ → ℕ → ℕ → ℕ
 good_vertex cap types fresh n t x = passed (vertex_tests (part_limits cap types) (λ m. fresh) (n ∷ t ∷ x ∷ []))

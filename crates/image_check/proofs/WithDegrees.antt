@@ -11,10 +11,10 @@ use Rattle.graph.specs.WellFormed.{words_at}
 use Rattle.image.specs.Image.{degree_word, numbers_in}
 use Rattle.image_check.specs.Checks.{walk}
 use Rattle.image_check.proofs.Walks.{vertex_walk, degree_walk}
-use Rattle.image_check.specs.declared.Verdict.TheVariants.{Sound}
 use Rattle.image.proofs.Sizes.{Size, degree_length}
 use Rattle.image_check.proofs.DegreePass.{degree_whole}
 use Rattle.image_check.proofs.Offsets.{row_drop, row_first}
+use Rattle.std.specs.Prelude.{Ok}
 
 unfoldable pub with_degrees : ℕ → List Edge → ℕ → List ℕ → List ℕ
 unfolding words_at
@@ -49,7 +49,7 @@ module _ (size : ℕ) (z : Size size) (es : List Edge) where
   degrees_numbers (suc k) vs = rw (behind k vs, degrees_numbers k (drop size vs))
 
   -- and the degrees are right
-  pub degrees_sound : (k : ℕ) (vs : List ℕ) (at : ℕ) → degree_walk size es k (with_degrees size es k vs) at ≡ Sound
+  pub degrees_sound : (k : ℕ) (vs : List ℕ) (at : ℕ) → degree_walk size es k (with_degrees size es k vs) at ≡ Ok tt
   unfolding walk with_degrees
   degrees_sound zero vs at = refl
   degrees_sound (suc k) vs at =

@@ -9,22 +9,35 @@ use Rattle.graph.specs.WellFormed.{Bounds, words_at}
 use Rattle.image.specs.Image.{old_vertex_size, edge_size, vertex_offset, edge_offset, incidence_offset, vertex_count}
 use Rattle.image.specs.Image.{edge_count, record_size, sound_header, vertex_part, edge_part, incidence_part, numbers_in}
 use Rattle.image.specs.Image.{edges_from}
-use Rattle.image_check.specs.declared.Verdict.{Verdict}
-use Rattle.image_check.specs.declared.Verdict.TheVariants.{Sound, BadHeader, BadRecord, BadIncidence}
+use Rattle.std.specs.Prelude.{Result, ⊤}
+use Rattle.std.specs.Prelude.{Ok, Err}
+use Rattle.image_check.specs.declared.BadImage.TheVariants.{Header, Record, Incidence}
+use Rattle.image_check.specs.declared.BadImage.{BadImage}
 
--- the code of a verdict (REFERENCE 8.5, 8.8, 8.9)
+-- what a check says of words: sound, or what is bad about them
+abbrev pub Verdict : Type 0
+Verdict = Result ⊤ BadImage
+
+-- the code of what is bad (REFERENCE 8.5, 8.8, 8.9), and the offset of the first bad word, counted from the first word;
+-- 0 where no word is named
+abbrev pub bad_code : BadImage → ℕ
+bad_code Header = 105
+bad_code (Record at) = 108
+bad_code (Incidence at) = 109
+
+abbrev pub bad_offset : BadImage → ℕ
+bad_offset Header = 0
+bad_offset (Record at) = at
+bad_offset (Incidence at) = at
+
+-- the same of a verdict, 0 where it is sound
 abbrev pub code_of : Verdict → ℕ
-code_of Sound = 0
-code_of BadHeader = 105
-code_of (BadRecord at) = 108
-code_of (BadIncidence at) = 109
+code_of (Ok tt) = 0
+code_of (Err bad) = bad_code bad
 
--- the offset of the first bad word, counted from the first word; 0 where the verdict names no word
 abbrev pub offset_of : Verdict → ℕ
-offset_of Sound = 0
-offset_of BadHeader = 0
-offset_of (BadRecord at) = at
-offset_of (BadIncidence at) = at
+offset_of (Ok tt) = 0
+offset_of (Err bad) = bad_offset bad
 
 abbrev pub bounds : ℕ → ℕ → ℕ → Bounds
 bounds vertices edges types = record { vertices = vertices; edges = edges; types = types }
@@ -81,7 +94,7 @@ degree_tests degree ws = true ∷ true ∷ true ∷ (get_or ws 3 0 == degree (ge
 
 -- a record at `at` of which `good` words of `size` are sound, and what the rest says
 abbrev pub record_at : ℕ → ℕ → ℕ → Verdict → Verdict
-record_at size at good rest = ltb good size ⇒ BadRecord (at + good) else rest
+record_at size at good rest = ltb good size ⇒ Err (Record (at + good)) else rest
 
 -- ---- records in turn
 
@@ -96,7 +109,7 @@ pub record Records : Type 0 where
 module _ {S : Type 0} (tests : S → List ℕ → List Bool) (next : S → List ℕ → S) where
   -- k records of size words in turn, the first `at` words behind the image's first; s is what those before them left
   unfoldable pub walk : ℕ → ℕ → S → ℕ → List ℕ → ℕ → Verdict
-  walk tested size s zero ws at = Sound
+  walk tested size s zero ws at = Ok tt
   walk tested size s (suc k) ws at =
       record_at tested at (passed (tests s ws)) (walk tested size (next s ws) k (drop size ws) (at + size))
 
@@ -132,12 +145,12 @@ good_list (suc d) wanted (w ∷ ws) = member w wanted ⇒ suc (good_list d (remo
 
 -- words behind the last list
 abbrev pub ended : List ℕ → ℕ → Verdict
-ended [] at = Sound
-ended (w ∷ ws) at = BadIncidence at
+ended [] at = Ok tt
+ended (w ∷ ws) at = Err (Incidence at)
 
 -- a list at `at` of which `good` words of d are sound, and what the rest says
 abbrev pub list_at : ℕ → ℕ → ℕ → Verdict → Verdict
-list_at d at good rest = ltb good d ⇒ BadIncidence (at + good) else rest
+list_at d at good rest = ltb good d ⇒ Err (Incidence (at + good)) else rest
 
 -- the list of each vertex in turn
 unfoldable pub list_walk : List Edge → List ℕ → List ℕ → ℕ → Verdict
@@ -155,10 +168,8 @@ sound_counts vcap ecap v e = leb v vcap && (leb e ecap && ((v == 0) ⇒ (e == 0)
 
 -- a verdict that is not sound stops the check
 abbrev pub and_then : Verdict → Verdict → Verdict
-and_then Sound y = y
-and_then BadHeader y = BadHeader
-and_then (BadRecord at) y = BadRecord at
-and_then (BadIncidence at) y = BadIncidence at
+and_then (Ok tt) y = y
+and_then (Err bad) y = Err bad
 
 -- the numbers and the edges of words with records of this size
 abbrev pub numbers_of : ℕ → List ℕ → List ℕ
@@ -205,7 +216,7 @@ parts_verdict size b ws =
 unfoldable pub verdict : Bounds → List ℕ → Verdict
 unfolding sound_header record_size walk numbers_in list_walk sound_counts edges_from
 verdict b ws =
-    not (sound_header ws && sound_counts b.vertices b.edges (vertex_count ws) (edge_count ws)) ⇒ BadHeader
+    not (sound_header ws && sound_counts b.vertices b.edges (vertex_count ws) (edge_count ws)) ⇒ Err Header
     else parts_verdict (record_size ws) b ws
 
 -- the code and the offset of words (proofs/LoadCodes: the code is 0 exactly where they load)

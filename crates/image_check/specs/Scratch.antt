@@ -1,15 +1,16 @@
 -- The same walks over scratch tables in place of lists: one lookup a word, so that a check is linear.
 -- deg has, for a vertex's number, 1 + its ends so far;
 -- own has, for an oriented word, its vertex until the word is used.
-use Rattle.std.specs.Prelude.{ℕ, zero, suc, ◌+◌, ◌*◌, ◌-◌, ◌≤◌, ◌<◌, ◌≡◌, List, [], ◌∷◌, get_or, drop, set, replicate, ltb, ◌==◌}
+use Rattle.std.specs.Prelude.{ℕ, zero, suc, ◌+◌, ◌*◌, ◌-◌, ◌≤◌, ◌<◌, ◌≡◌, List, [], ◌∷◌, length, get_or, drop, set, replicate, ltb, ◌==◌}
 use Rattle.lists.specs.Choice.{◌⇒◌else◌}
 use Rattle.graph.specs.Graph.{out_word, in_word}
 use Rattle.graph.specs.WellFormed.{Bounds}
+use Rattle.graph.specs.Limits.{most_vertices, most_edges}
 use Rattle.image.specs.Image.{old_vertex_size, edge_size, vertex_offset, edge_offset, incidence_offset}
 use Rattle.image_check.specs.Checks.{passed, PartLimits, vertex_limits, edge_limits, vertex_tests, edge_tests}
 use Rattle.image_check.specs.Checks.{degree_tests, record_at, ended, list_at, and_then}
-use Rattle.image_check.specs.declared.Verdict.{Verdict}
-use Rattle.image_check.specs.declared.Verdict.TheVariants.{Sound}
+use Rattle.std.specs.Prelude.{Ok}
+use Rattle.image_check.specs.Checks.{Verdict}
 
 -- no word is above k
 abbrev pub NoneAbove : ℕ → List ℕ → Type 0
@@ -19,7 +20,7 @@ NoneAbove k s = (i : ℕ) → get_or s i 0 ≤ k
 
 -- a word of 32 bits is always a value: the run does not read it
 unfoldable pub vertex_run : ℕ → PartLimits → List ℕ → ℕ → List ℕ → ℕ → Verdict
-vertex_run size l deg zero ws at = Sound
+vertex_run size l deg zero ws at = Ok tt
 vertex_run size l deg (suc k) ws at =
     record_at old_vertex_size at
     (passed (vertex_tests l (λ n. get_or deg n 0 == 0) (get_or ws 0 0 ∷ get_or ws 1 0 ∷ 0 ∷ [])))
@@ -53,7 +54,7 @@ abbrev pub edge_owned : List ℕ → ℕ → List ℕ → List ℕ
 edge_owned ws at own = owned (get_or ws at 0) (get_or ws (at + 1) 0) (get_or ws (at + 2) 0) own
 
 unfoldable pub edge_run : PartLimits → List ℕ → List ℕ → ℕ → List ℕ → ℕ → Verdict
-edge_run l deg own zero ws at = Sound
+edge_run l deg own zero ws at = Ok tt
 edge_run l deg own (suc k) ws at =
     record_at edge_size at (edge_good l deg own ws)
     (edge_run l (edge_ends ws 0 deg) (edge_owned ws 0 own) k (drop edge_size ws) (at + edge_size))
@@ -70,7 +71,7 @@ edge_owners own (suc k) ws = edge_owners (edge_owned ws 0 own) k (drop edge_size
 
 -- deg has 1 more than the degree
 unfoldable pub degree_run : ℕ → List ℕ → ℕ → List ℕ → ℕ → Verdict
-degree_run size deg zero ws at = Sound
+degree_run size deg zero ws at = Ok tt
 degree_run size deg (suc k) ws at =
     record_at size at (passed (degree_tests (λ n. get_or deg n 0 - 1) ws))
     (degree_run size deg k (drop size ws) (at + size))
@@ -98,6 +99,14 @@ incidence_run size deg own (suc k) vs ws at =
     (drop size vs) (drop (get_or deg (get_or vs 0 0) 0 - 1) ws) (at + (get_or deg (get_or vs 0 0) 0 - 1)))
 
 -- ---- the four passes
+
+-- how many words the parts of an image have whose header is sound and whose counts are within the limits of a run
+pub record Sizes (size : ℕ) (vs es is : List ℕ) : Type 0 where
+  pub least : 3 ≤ size
+  pub most : size ≤ 4
+  pub vertices : length vs ≤ 4 * most_vertices
+  pub edges : length es ≤ 6 * most_edges
+  pub incidences : length is ≤ 2 * most_edges
 
 -- the parts of v vertices, in records of size words, and e edges
 pub record Parts : Type 0 where
@@ -129,7 +138,3 @@ pub record Ran (b : Bounds) (p : Parts) (r : Verdict) : Type 0 where
   pub vertices : b.vertices < degs
   pub edges : 2 * b.edges + 1 < owns
   pub verdict : r ≡ scratch_run (replicate degs 0) (replicate owns 0) b p
-
--- capacities of up to so many have smaller scratch
-abbrev pub small_most : ℕ
-small_most = 127

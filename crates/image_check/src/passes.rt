@@ -1,21 +1,18 @@
 // Each part in turn, over scratch of their own: deg has 1 + its ends so far for a vertex, own the vertex of an
 // oriented word.
-ghost use Rattle.std.specs.Prelude.{◌≡◌, ◌+◌, ◌*◌, ◌≤◌, ◌<◌, length, get_or, drop};
+ghost use Rattle.std.specs.Prelude.{◌≡◌, ◌+◌, ◌-◌, ◌*◌, ◌^◌, ◌≤◌, ◌<◌, ℕ, length, get_or, drop, Ok};
 ghost use Rattle.graph.specs.Limits.{most_vertices, most_edges};
 ghost use Rattle.image_check.specs.Checks.{bounds, part_limits};
-ghost use Rattle.image_check.specs.Scratch.{NoneAbove, with_ends, owned, edge_good, edge_ends, edge_owned};
+ghost use Rattle.image_check.specs.Scratch.{NoneAbove, edge_good, edge_ends, edge_owned};
 ghost use Rattle.image_check.specs.Scratch.{vertex_run, vertex_marks, edge_run, edge_degrees, edge_owners};
 ghost use Rattle.image_check.specs.Scratch.{degree_run, list_run, list_owners, incidence_run, scratch_run};
-ghost use Rattle.image_check.specs.Scratch.{parts, Ran, small_most};
+ghost use Rattle.image_check.specs.Scratch.{Sizes, parts, Ran};
 
-use crate::Verdict;
+use crate::BadImage;
 use crate::records::{good_fields, good_vertex, numbered};
-use crate::words::{bump, index, read, write};
 use graph::{MOST_EDGES, MOST_VERTICES};
-use image::by_size::{edge_offset, incidence_offset};
 use image::layout::{EDGE, VERTEX};
 use lists::get;
-use lists::numbers::{less_one, wide};
 use lists::words::put;
 
 // Scratch for the limits of a run: a word for each number from 0 on, and two for each edge.
@@ -30,317 +27,249 @@ const SMALL_VERTEX_SCRATCH: usize = SMALL as usize + 1;
 
 const SMALL_EDGE_SCRATCH: usize = 2 * (SMALL as usize + 1);
 
-// Count vertex records of size words: marks each number with 1.
-fn vertices(part: &[u32], size: usize, count: u32, deg: &mut [u32], cap: u32, types: u32) -> Verdict
-    requires { (size ≤ 4) × (count ≤ most_vertices) × (3 ≤ size) × (size * count ≡ length part.now)
-        × (cap < length deg.old) }
-    ensures { (result ≡ vertex_run size (part_limits cap types) deg.old count part.now 6)
-        × (result ≡ Verdict.Sound → deg.new ≡ vertex_marks size deg.old count part.now) }
-{
-    let mut i: u32 = 0;
-    let mut at = 0;
-    while i < count {
-        let n = read(part, at);
-        let t = read(part, at + 1);
-        let fresh = get(deg, wide(n)) == 0;
-        let good = good_vertex(cap, types, fresh, n, t);
-        if good < 3 {
-            return Verdict::BadRecord(6 + at as u32 + good);
-        }
-        write(deg, wide(n), 1);
-        at += size;
-        i += 1;
-    }
-    Verdict::Sound
+/// What the records of an image may name: numbers of vertices and of edges up to these, and so many types.
+#[derive(Clone, Copy, Debug, PartialEq, Eq)]
+pub struct Limits {
+    pub vertices: u32,
+    pub edges: u32,
+    pub types: u32,
 }
 
-// How many words of the edge record at `at` are sound.
-fn edge_good(part: &[u32], at: usize, deg: &[u32], own: &[u32], cap: u32, types: u32) -> u32
-    requires { (at ≤ 100000) × (at + 6 ≤ length part.now) × (2 * cap < length own.now) }
-    ensures { result
-        ≡ edge_good (part_limits cap types) deg.now own.now (drop at part.now) }
+/// The parts of an image whose header is sound, and how many words a vertex record has.
+#[derive(Clone, Copy)]
+pub struct Parts<'p> {
+    pub vertices: &'p [u32],
+    pub edges: &'p [u32],
+    pub incidences: &'p [u32],
+    pub size: usize,
+    ghost sizes: { Sizes size vertices.now edges.now incidences.now },
+}
+
+/// Vertex records of size words: marks each number with 1. Refuses the first word that cannot follow.
+fn vertices(
+    part: &[u32],
+    size: usize,
+    deg: &mut [u32],
+    cap: u32,
+    types: u32,
+) -> Result<(), BadImage>
+    requires size { (3 ≤ size) × (size ≤ 4) }
+    requires few { length part.now ≤ 4 * most_vertices }
+    requires room { cap < length deg.old }
+    ensures verdict { (count : ℕ) → size * count ≡ length part.now
+        → result ≡ vertex_run size (part_limits cap types) deg.old count part.now 6 }
+    ensures below { NoneAbove 1 deg.old → NoneAbove 1 deg.new }
+    ensures marks { (count : ℕ) → size * count ≡ length part.now → result ≡ Ok tt
+        → deg.new ≡ vertex_marks size deg.old count part.now }
 {
-    let n = read(part, at);
-    if !numbered(cap, n) {
+    for (i, record) in part.chunks_exact(size).enumerate() {
+        let number = record[0] as usize;
+        let good = good_vertex(cap, types, get(deg, number) == 0, record[0], record[1]);
+        if good < 3 {
+            return Err(BadImage::Record(6 + (size * i) as u32 + good));
+        }
+        deg[number] = 1;
+    }
+    Ok(())
+}
+
+/// How many words of an edge record are sound.
+fn edge_good(record: &[u32], deg: &[u32], own: &[u32], cap: u32, types: u32) -> u32
+    requires six { length record.now ≡ 6 }
+    requires room { 2 * cap < length own.now }
+    ensures { result ≡ edge_good (part_limits cap types) deg.now own.now record.now }
+{
+    let number = record[0];
+    if !numbered(cap, number) {
         return 0;
     }
-    if read(own, 2 * wide(n)) != 0 {
+    if own[2 * number as usize] != 0 {
         return 0;
     }
-    if get(deg, index(part, at + 1)) == 0 {
+    if get(deg, record[1] as usize) == 0 {
         return 1;
     }
-    if get(deg, index(part, at + 2)) == 0 {
+    if get(deg, record[2] as usize) == 0 {
         return 2;
     }
-    good_fields(
-        types,
-        read(part, at + 3),
-        read(part, at + 4),
-        read(part, at + 5),
-    )
+    good_fields(types, record[3], record[4], record[5])
 }
 
-// Counts both ends of an edge, and enters its two words with their vertices.
-fn enter(deg: &mut [u32], own: &mut [u32], n: u32, a: u32, o: u32)
-    requires { (2 * n + 1 < length own.old) × NoneAbove 900000 deg.old × (a < length deg.old)
-        × (o < length deg.old) }
-    ensures { (deg.new ≡ with_ends a o deg.old)
-        × (own.new ≡ owned n a o own.old) }
+/// Counts both ends of an edge record, and enters its two words with their vertices.
+fn enter(record: &[u32], deg: &mut [u32], own: &mut [u32])
+    requires six { length record.now ≡ 6 }
+    requires number { 2 * get_or record.now 0 0 + 1 < length own.old }
+    requires alpha { get_or record.now 1 0 < length deg.old }
+    requires omega { get_or record.now 2 0 < length deg.old }
+    requires fits { NoneAbove (2 ^ 32 - 3) deg.old }
+    ensures ends { deg.new ≡ edge_ends record.now 0 deg.old }
+    ensures owners { own.new ≡ edge_owned record.now 0 own.old }
 {
-    bump(deg, wide(a));
-    bump(deg, wide(o));
-    let w = 2 * wide(n);
-    write(own, w, a);
-    write(own, w + 1, o);
+    let alpha = record[1];
+    let omega = record[2];
+    deg[alpha as usize] += 1;
+    deg[omega as usize] += 1;
+    let word = 2 * record[0] as usize;
+    own[word] = alpha;
+    own[word + 1] = omega;
 }
 
-// The same for the record at `at`.
-fn edge_enter(part: &[u32], at: usize, deg: &mut [u32], own: &mut [u32])
-    requires { (at ≤ 100000) × (2 * get_or part.now at 0 + 1 < length own.old) × NoneAbove 900000 deg.old
-        × (at + 6 ≤ length part.now) × (get_or part.now (at + 1) 0 < length deg.old)
-        × (get_or part.now (at + 2) 0 < length deg.old) }
-    ensures { (deg.new ≡ edge_ends part.now at deg.old)
-        × (own.new ≡ edge_owned part.now at own.old) }
-{
-    enter(
-        deg,
-        own,
-        read(part, at),
-        read(part, at + 1),
-        read(part, at + 2),
-    );
-}
-
-// Count edge records, from the offset `from` on.
+/// Edge records, from the offset `from` on: counts their ends and enters their words. Refuses the first word that cannot
+/// follow.
 fn edges(
     part: &[u32],
-    count: u32,
     from: u32,
     deg: &mut [u32],
     own: &mut [u32],
     cap: u32,
     types: u32,
-) -> Verdict
-    requires { (count ≤ most_edges) × (from ≤ 100000) × (2 * cap + 1 < length own.old) × NoneAbove 1 deg.old
-        × (6 * count ≡ length part.now) }
-    ensures { (result
-        ≡ edge_run (part_limits cap types) deg.old own.old count part.now from)
-        × (result ≡ Verdict.Sound → (deg.new ≡ edge_degrees deg.old count part.now)
-        × (own.new ≡ edge_owners own.old count part.now)) }
+) -> Result<(), BadImage>
+    requires few { length part.now ≤ 6 * most_edges }
+    requires near { from ≤ 6 + 4 * most_vertices }
+    requires room { 2 * cap + 1 < length own.old }
+    requires marked { NoneAbove 1 deg.old }
+    ensures verdict { (count : ℕ) → 6 * count ≡ length part.now
+        → result ≡ edge_run (part_limits cap types) deg.old own.old count part.now from }
+    ensures ends { (count : ℕ) → 6 * count ≡ length part.now → result ≡ Ok tt
+        → deg.new ≡ edge_degrees deg.old count part.now }
+    ensures owners { (count : ℕ) → 6 * count ≡ length part.now → result ≡ Ok tt
+        → own.new ≡ edge_owners own.old count part.now }
 {
-    let mut i: u32 = 0;
-    let mut at = 0;
-    while i < count {
-        let good = edge_good(part, at, deg, own, cap, types);
+    for (i, record) in part.chunks_exact(EDGE).enumerate() {
+        let good = edge_good(record, deg, own, cap, types);
         if good < 6 {
-            return Verdict::BadRecord(from + at as u32 + good);
+            return Err(BadImage::Record(from + (EDGE * i) as u32 + good));
         }
-        edge_enter(part, at, deg, own);
-        at += EDGE;
-        i += 1;
+        enter(record, deg, own);
     }
-    Verdict::Sound
+    Ok(())
 }
 
-// The degrees of count vertex records of size words, where they have one: deg has 1 more than each.
-fn degrees(part: &[u32], size: usize, count: u32, deg: &[u32]) -> Verdict
-    requires { (size ≤ 4) × (count ≤ most_vertices) × (size * count ≡ length part.now) }
-    ensures { result ≡ degree_run size deg.now count part.now 6 }
+/// The degrees of vertex records of size words, where they have one: deg has 1 more than each.
+fn degrees(part: &[u32], size: usize, deg: &[u32]) -> Result<(), BadImage>
+    requires size { (3 ≤ size) × (size ≤ 4) }
+    requires few { length part.now ≤ 4 * most_vertices }
+    ensures { (count : ℕ) → size * count ≡ length part.now → result ≡ degree_run size deg.now count part.now 6 }
 {
     if size < VERTEX {
-        return Verdict::Sound;
+        return Ok(());
     }
-    let mut i: u32 = 0;
-    let mut at = 0;
-    while i < count {
-        let d = less_one(get(deg, index(part, at)));
-        if read(part, at + 3) != d {
-            return Verdict::BadRecord(6 + at as u32 + 3);
+    for (i, record) in part.chunks_exact(VERTEX).enumerate() {
+        let ends = get(deg, record[0] as usize).saturating_sub(1);
+        if record[3] != ends {
+            return Err(BadImage::Record(6 + (VERTEX * i) as u32 + 3));
         }
-        at += size;
-        i += 1;
     }
-    Verdict::Sound
+    Ok(())
 }
 
-// The lesser of d and the words that are left.
-fn fewer(d: u32, left: usize) -> u32
-    ensures { (result ≤ d) × (result ≤ left) × (result < d → result ≡ left) }
-{
-    if left < wide(d) {
-        return left as u32;
-    }
-    d
-}
-
-// How many of the d words from at on are v's. Each word found is taken from v.
+/// How many of the d words from at on are v's. Each word found is taken from v.
 fn list(part: &[u32], at: usize, d: u32, v: u32, own: &mut [u32]) -> u32
     requires { at ≤ length part.now }
     ensures { (result ≡ list_run v d own.old (drop at part.now))
         × (result ≡ d → own.new ≡ list_owners d own.old (drop at part.now)) }
 {
-    let most = fewer(d, part.len() - at);
-    let mut k: u32 = 0;
-    let mut i = at;
-    while k < most {
-        let w = index(part, i);
+    let most = (d as usize).min(part.len() - at);
+    for k in 0..most {
+        let w = part[at + k] as usize;
         if get(own, w) != v {
-            return k;
+            return k as u32;
         }
         put(own, w, 0);
-        k += 1;
-        i += 1;
     }
-    k
+    most as u32
 }
 
-// The lists of count vertex records of size words, from the offset `from` on.
+/// The lists of vertex records of size words, from the offset `from` on. Refuses the first word that is not the vertex's,
+/// and a word behind the last list.
 fn incidences(
     vs: &[u32],
     size: usize,
-    count: u32,
     part: &[u32],
     from: u32,
     deg: &[u32],
     own: &mut [u32],
-) -> Verdict
-    requires { (size ≤ 4) × (count ≤ most_vertices) × (length part.now ≤ 100000) × (from ≤ 100000) × (3 ≤ size)
-        × (size * count ≡ length vs.now) }
-    ensures { result
-        ≡ incidence_run size deg.now own.old count vs.now part.now from }
+) -> Result<(), BadImage>
+    requires size { (3 ≤ size) × (size ≤ 4) }
+    requires few { length part.now ≤ 2 * most_edges }
+    requires near { from ≤ 6 + 4 * most_vertices + 6 * most_edges }
+    ensures { (count : ℕ) → size * count ≡ length vs.now
+        → result ≡ incidence_run size deg.now own.old count vs.now part.now from }
 {
-    let mut i: u32 = 0;
-    let mut row = 0;
     let mut at = 0;
-    while i < count {
-        let v = read(vs, row);
-        let d = less_one(get(deg, wide(v)));
-        let good = list(part, at, d, v, own);
-        if good < d {
-            return Verdict::BadIncidence(from + at as u32 + good);
+    for record in vs.chunks_exact(size) {
+        let degree = get(deg, record[0] as usize).saturating_sub(1);
+        let good = list(part, at, degree, record[0], own);
+        if good < degree {
+            return Err(BadImage::Incidence(from + at as u32 + good));
         }
-        at += wide(d);
-        row += size;
-        i += 1;
+        at += degree as usize;
     }
     if at < part.len() {
-        return Verdict::BadIncidence(from + at as u32);
+        return Err(BadImage::Incidence(from + at as u32));
     }
-    Verdict::Sound
+    Ok(())
 }
 
-// The four passes over the parts of v vertices, in records of size words, and e edges; deg comes with 0 alone,
-// and so does own where the verdict is to be that of the words.
-fn in_turn(
-    vs: &[u32],
-    es: &[u32],
-    is: &[u32],
-    size: usize,
-    v: u32,
-    e: u32,
-    vcap: u32,
-    ecap: u32,
-    types: u32,
-    deg: &mut [u32],
-    own: &mut [u32],
-) -> Verdict
-    requires { (size ≤ 4) × (v ≤ most_vertices) × (e ≤ most_edges) × (2 * ecap + 1 < length own.old)
-        × (length is.now ≤ 2 * most_edges) × (3 ≤ size) × (vcap < length deg.old) × (size * v ≡ length vs.now)
-        × (6 * e ≡ length es.now) × NoneAbove 0 deg.old }
-    ensures { result ≡ scratch_run deg.old own.old (bounds vcap ecap types)
-        (parts size v e vs.now es.now is.now) }
-{
-    let first = vertices(vs, size, v, deg, vcap, types);
-    let Verdict::Sound = first else {
-        return first;
-    };
-    let behind = edge_offset(size, wide(v));
-    let second = edges(es, e, behind as u32, deg, own, ecap, types);
-    let Verdict::Sound = second else {
-        return second;
-    };
-    let third = degrees(vs, size, v, deg);
-    let Verdict::Sound = third else {
-        return third;
-    };
-    let end = incidence_offset(size, wide(v), wide(e));
-    incidences(vs, size, v, is, end as u32, deg, own)
-}
-
-// With scratch for small capacities: the larger one takes longer to clear than a small image to check.
-fn small(
-    vs: &[u32],
-    es: &[u32],
-    is: &[u32],
-    size: usize,
-    v: u32,
-    e: u32,
-    vcap: u32,
-    ecap: u32,
-    types: u32,
-) -> Verdict
-    requires { (size ≤ 4) × (v ≤ most_vertices) × (e ≤ most_edges) × (ecap ≤ small_most)
-        × (length is.now ≤ 2 * most_edges) × (3 ≤ size) × (vcap ≤ small_most) × (size * v ≡ length vs.now)
-        × (6 * e ≡ length es.now) }
-    ensures { Ran (bounds vcap ecap types)
-        (parts size v e vs.now es.now is.now) result }
-{
-    let mut deg = [0u32; SMALL_VERTEX_SCRATCH];
-    let mut own = [0u32; SMALL_EDGE_SCRATCH];
-    in_turn(
-        vs, es, is, size, v, e, vcap, ecap, types, &mut deg, &mut own,
-    )
-}
-
-// With scratch for the limits of a run.
-fn large(
-    vs: &[u32],
-    es: &[u32],
-    is: &[u32],
-    size: usize,
-    v: u32,
-    e: u32,
-    vcap: u32,
-    ecap: u32,
-    types: u32,
-) -> Verdict
-    requires { (size ≤ 4) × (v ≤ most_vertices) × (e ≤ most_edges) × (ecap ≤ most_edges)
-        × (length is.now ≤ 2 * most_edges) × (3 ≤ size) × (vcap ≤ most_vertices) × (size * v ≡ length vs.now)
-        × (6 * e ≡ length es.now) }
-    ensures { Ran (bounds vcap ecap types)
-        (parts size v e vs.now es.now is.now) result }
-{
-    let mut deg = [0u32; VERTEX_SCRATCH];
-    let mut own = [0u32; EDGE_SCRATCH];
-    in_turn(
-        vs, es, is, size, v, e, vcap, ecap, types, &mut deg, &mut own,
-    )
-}
-
-// The four passes, over scratch with room for the capacities.
-pub fn all(
-    vs: &[u32],
-    es: &[u32],
-    is: &[u32],
-    size: usize,
-    v: u32,
-    e: u32,
-    vcap: u32,
-    ecap: u32,
-    types: u32,
-) -> Verdict
-    requires { (size ≤ 4) × (v ≤ most_vertices) × (e ≤ most_edges) × (ecap ≤ most_edges)
-        × (length is.now ≤ 2 * most_edges) × (3 ≤ size) × (vcap ≤ most_vertices) × (size * v ≡ length vs.now)
-        × (6 * e ≡ length es.now) }
-    ensures { Ran (bounds vcap ecap types)
-        (parts size v e vs.now es.now is.now) result }
-{
-    if SMALL < vcap {
-        return large(vs, es, is, size, v, e, vcap, ecap, types);
+impl<'p> Parts<'p> {
+    /// The four passes; deg comes with 0 alone, and so does own where the verdict is to be that of the words.
+    fn in_turn(&self, limits: Limits, deg: &mut [u32], own: &mut [u32]) -> Result<(), BadImage>
+        requires vertices { limits.vertices < length deg.old }
+        requires edges { 2 * limits.edges + 1 < length own.old }
+        requires clear { NoneAbove 0 deg.old }
+        ensures { (v e : ℕ) → self.now.size * v ≡ length self.now.vertices.now → 6 * e ≡ length self.now.edges.now
+            → result ≡ scratch_run deg.old own.old (bounds limits.vertices limits.edges limits.types)
+            (parts self.now.size v e self.now.vertices.now self.now.edges.now self.now.incidences.now) }
+    {
+        vertices(self.vertices, self.size, deg, limits.vertices, limits.types)?;
+        let behind = 6 + self.vertices.len();
+        edges(
+            self.edges,
+            behind as u32,
+            deg,
+            own,
+            limits.edges,
+            limits.types,
+        )?;
+        degrees(self.vertices, self.size, deg)?;
+        let end = behind + self.edges.len();
+        incidences(
+            self.vertices,
+            self.size,
+            self.incidences,
+            end as u32,
+            deg,
+            own,
+        )
     }
-    if SMALL < ecap {
-        return large(vs, es, is, size, v, e, vcap, ecap, types);
+
+    /// The four passes over scratch for numbers below V and oriented words below E.
+    fn with_scratch<const V: usize, const E: usize>(&self, limits: Limits) -> Result<(), BadImage>
+        requires addressed { (V ≤ 2 ^ 32) × (E ≤ 2 ^ 32) }
+        requires vertices { limits.vertices < V }
+        requires edges { 2 * limits.edges + 1 < E }
+        ensures { (v e : ℕ) → self.now.size * v ≡ length self.now.vertices.now → 6 * e ≡ length self.now.edges.now
+            → Ran (bounds limits.vertices limits.edges limits.types)
+            (parts self.now.size v e self.now.vertices.now self.now.edges.now self.now.incidences.now) result }
+    {
+        let mut deg = [0u32; V];
+        let mut own = [0u32; E];
+        self.in_turn(limits, &mut deg, &mut own)
     }
-    small(vs, es, is, size, v, e, vcap, ecap, types)
+
+    /// The four passes, over scratch with room for the limits: the larger one takes longer to clear than a small image
+    /// to check.
+    pub fn check(&self, limits: Limits) -> Result<(), BadImage>
+        requires vertices { limits.vertices ≤ most_vertices }
+        requires edges { limits.edges ≤ most_edges }
+        ensures { (v e : ℕ) → self.now.size * v ≡ length self.now.vertices.now → 6 * e ≡ length self.now.edges.now
+            → Ran (bounds limits.vertices limits.edges limits.types)
+            (parts self.now.size v e self.now.vertices.now self.now.edges.now self.now.incidences.now) result }
+    {
+        if limits.vertices <= SMALL && limits.edges <= SMALL {
+            self.with_scratch::<SMALL_VERTEX_SCRATCH, SMALL_EDGE_SCRATCH>(limits)
+        } else {
+            self.with_scratch::<VERTEX_SCRATCH, EDGE_SCRATCH>(limits)
+        }
+    }
 }

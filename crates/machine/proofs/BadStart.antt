@@ -14,12 +14,13 @@ use Rattle.type_rows.specs.Rows.{row_fits, good_rows}
 use Rattle.image.specs.Image.{vertex_size, vertex_offset, incidence_offset, image_length, vertex_count, edge_count, record_size}
 use Rattle.image_check.specs.Checks.{code_of, load_code, verdict}
 use Rattle.image_check.specs.FirstBad.{is_degree, FirstBad, FirstDegree}
-use Rattle.image_check.specs.declared.Verdict.{Verdict}
-use Rattle.image_check.specs.declared.Verdict.TheVariants.{Sound, BadHeader, BadRecord, BadIncidence}
 use Rattle.image_check.proofs.LoadCodes.{bad_record, bad_degree, bad_incidence}
 use Rattle.machine.specs.Calls.{bounds_in}
 use Rattle.machine.specs.Run.{Lent, parameters_of, list_refusal, list_number}
 use Rattle.machine.proofs.ListRows.{start_rows}
+use Rattle.std.specs.Prelude.{Ok, Err}
+use Rattle.image_check.specs.declared.BadImage.TheVariants.{Header, Record, Incidence}
+use Rattle.image_check.specs.Checks.{Verdict}
 
 -- a row whose code is another does not apply
 other : (t : Bool) (n r k : ℕ) → (t ⇒ n else r) ≡ k → (n ≡ k → ⊥) → (t ≡ false) × (r ≡ k)
@@ -29,11 +30,11 @@ other false n r k h z = (refl, h)
 -- a code from 105 on among the last rows, but for 106, is the start's
 start_code : (v : Verdict) (t : Bool) (k : ℕ) → start_rows v (t ⇒ 106 else 0) ≡ k → 105 ≤ k → (106 ≡ k → ⊥) → code_of v ≡ k
 unfolding start_rows
-start_code Sound true k h l n = absurd (n h)
-start_code Sound false k h l n = absurd (omega (arith, h, l))
-start_code BadHeader t k h l n = h
-start_code (BadRecord at) t k h l n = h
-start_code (BadIncidence at) t k h l n = h
+start_code (Ok tt) true k h l n = absurd (n h)
+start_code (Ok tt) false k h l n = absurd (omega (arith, h, l))
+start_code (Err Header) t k h l n = h
+start_code (Err (Record at)) t k h l n = h
+start_code (Err (Incidence at)) t k h l n = h
 
 module _ (l : Lent) where
   -- the start's code is given, and there is a type: 104 came before

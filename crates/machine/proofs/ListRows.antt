@@ -13,14 +13,15 @@ use Rattle.lists.proofs.Bools.{and_true, within_range}
 use Rattle.type_rows.specs.Rows.{row_fits, good_rows}
 use Rattle.image.specs.Image.{load, loadable, image_length}
 use Rattle.image_check.specs.Checks.{code_of, verdict}
-use Rattle.image_check.specs.declared.Verdict.{Verdict}
-use Rattle.image_check.specs.declared.Verdict.TheVariants.{Sound, BadHeader, BadRecord, BadIncidence}
 use Rattle.image_check.proofs.LoadCodes.{code_loads}
 use Rattle.image.proofs.Loads.{loaded}
 use Rattle.image.proofs.WordSize.{InRange}
 use Rattle.machine.specs.Calls.{Parameters, bounds_in}
 use Rattle.machine.specs.Run.{Lent, parameters_of, Limits, list_refusal}
 use Rattle.machine.proofs.Graphs.{Formed}
+use Rattle.std.specs.Prelude.{Ok, Err}
+use Rattle.image_check.specs.declared.BadImage.TheVariants.{Header, Record, Incidence}
+use Rattle.image_check.specs.Checks.{Verdict}
 
 chain_zero : (t : Bool) (n r : ℕ) → ((t ⇒ suc n else r) == 0) ≡ true → (t ≡ false) × ((r == 0) ≡ true)
 chain_zero true n r h = absurd (omega (arith, eqb-true (suc n) 0 h))
@@ -32,10 +33,10 @@ start_rows v r = (code_of v == 105) ⇒ 105 else (code_of v == 108) ⇒ 108 else
 
 start_zero : (v : Verdict) (r : ℕ) → (start_rows v r == 0) ≡ true → (code_of v ≡ 0) × ((r == 0) ≡ true)
 unfolding start_rows
-start_zero Sound r h = (refl, h)
-start_zero BadHeader r h = absurd (omega (arith, eqb-true 105 0 h))
-start_zero (BadRecord at) r h = absurd (omega (arith, eqb-true 108 0 h))
-start_zero (BadIncidence at) r h = absurd (omega (arith, eqb-true 109 0 h))
+start_zero (Ok tt) r h = (refl, h)
+start_zero (Err Header) r h = absurd (omega (arith, eqb-true 105 0 h))
+start_zero (Err (Record at)) r h = absurd (omega (arith, eqb-true 108 0 h))
+start_zero (Err (Incidence at)) r h = absurd (omega (arith, eqb-true 109 0 h))
 
 pub limits_in : (w : Parameters) → Limits w → InRange (bounds_in w)
 limits_in w k = record { vertices = k.few_vertices; edges = k.few_edges; types = k.few_types }

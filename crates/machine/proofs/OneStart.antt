@@ -13,12 +13,13 @@ use Rattle.lists.specs.Choice.{◌⇒◌else◌}
 use Rattle.graph.specs.WellFormed.{Bounds}
 use Rattle.image.specs.Image.{vertex_count, edge_count, sound_header}
 use Rattle.image_check.specs.Checks.{sound_counts, verdict, code_of, offset_of, load_code, load_offset}
-use Rattle.image_check.specs.declared.Verdict.{Verdict}
-use Rattle.image_check.specs.declared.Verdict.TheVariants.{Sound, BadHeader, BadRecord, BadIncidence}
 use Rattle.image.proofs.Headers.{header_words, sound_length}
 use Rattle.image_check.proofs.HeaderCode.{header_code}
 use Rattle.image_check.proofs.LoadCodes.{no_offset}
 use Rattle.machine.specs.StoreRun.{stated_length, starts_code, starts_offset, NoneBehind}
+use Rattle.std.specs.Prelude.{Ok, Err}
+use Rattle.image_check.specs.declared.BadImage.TheVariants.{Header, Record, Incidence}
+use Rattle.image_check.specs.Checks.{Verdict}
 
 -- under six words, or with a word behind it, an image has no sound header
 module _ (b : Bounds) (ws : List ℕ) where
@@ -48,16 +49,16 @@ pub whole : (ws : List ℕ) → length ws ≤ stated_length ws → (cut ws ≡ w
 whole ws h = (take_all (stated_length ws) ws h, drop_of_length-le ws {i = stated_length ws} h)
 
 same_code : (v : Verdict) → ◌≡◌ {A = ℕ} ((code_of v == 0) ⇒ 0 else code_of v) (code_of v)
-same_code Sound = refl
-same_code BadHeader = refl
-same_code (BadRecord at) = refl
-same_code (BadIncidence at) = refl
+same_code (Ok tt) = refl
+same_code (Err Header) = refl
+same_code (Err (Record at)) = refl
+same_code (Err (Incidence at)) = refl
 
 same_offset : (v : Verdict) → ◌≡◌ {A = ℕ} ((code_of v == 0) ⇒ 0 else (0 + offset_of v)) (offset_of v)
-same_offset Sound = refl
-same_offset BadHeader = refl
-same_offset (BadRecord at) = omega arith
-same_offset (BadIncidence at) = omega arith
+same_offset (Ok tt) = refl
+same_offset (Err Header) = refl
+same_offset (Err (Record at)) = omega arith
+same_offset (Err (Incidence at)) = omega arith
 
 pub start_one : (b : Bounds) (ws : List ℕ) → NoneBehind ws → starts_code b 1 ws ≡ load_code b ws
 unfolding starts_code
@@ -73,10 +74,10 @@ offset_one b ws (inr h) =
 
 -- what the words behind an image make of its verdict
 unfoldable pub left : Verdict → ℕ
-left Sound = 105
-left BadHeader = 105
-left (BadRecord at) = 108
-left (BadIncidence at) = 109
+left (Ok tt) = 105
+left (Err Header) = 105
+left (Err (Record at)) = 108
+left (Err (Incidence at)) = 109
 
 module _ (b : Bounds) (ws : List ℕ) (h : stated_length ws < length ws) where
   pub left_code : starts_code b 1 ws ≡ left (verdict b (cut ws))
@@ -86,10 +87,10 @@ module _ (b : Bounds) (ws : List ℕ) (h : stated_length ws < length ws) where
       rw e (go (verdict b (cut ws)))
     where
       go : (v : Verdict) → ◌≡◌ {A = ℕ} ((code_of v == 0) ⇒ 105 else code_of v) (left v)
-      go Sound = refl
-      go BadHeader = refl
-      go (BadRecord at) = refl
-      go (BadIncidence at) = refl
+      go (Ok tt) = refl
+      go (Err Header) = refl
+      go (Err (Record at)) = refl
+      go (Err (Incidence at)) = refl
 
   pub left_offset : starts_offset b 0 1 ws ≡ offset_of (verdict b (cut ws))
   unfolding starts_offset

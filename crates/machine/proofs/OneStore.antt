@@ -18,8 +18,6 @@ use Rattle.graph.specs.WellFormed.{Bounds}
 use Rattle.graph.specs.Limits.{most_vertices, most_edges, most_changes}
 use Rattle.image.specs.Image.{image_length, save, load, loadable}
 use Rattle.image_check.specs.Checks.{verdict, code_of, offset_of, load_code, load_offset}
-use Rattle.image_check.specs.declared.Verdict.{Verdict}
-use Rattle.image_check.specs.declared.Verdict.TheVariants.{Sound, BadHeader, BadRecord, BadIncidence}
 use Rattle.image.proofs.Loads.{loaded}
 use Rattle.graph.specs.Graph.{Graph}
 use Rattle.history.specs.Machine.{Machine, fresh, present}
@@ -40,6 +38,9 @@ use Rattle.machine.proofs.Demands.{refused_is}
 use Rattle.machine.proofs.Rooms.{roomed_is}
 use Rattle.machine.proofs.StoreWhole.{refused_in}
 use Rattle.machine.proofs.StoreLaws.{limits_stay, own_step, own_answer, limits_last}
+use Rattle.std.specs.Prelude.{Ok, Err}
+use Rattle.image_check.specs.declared.BadImage.TheVariants.{Header, Record, Incidence}
+use Rattle.image_check.specs.Checks.{Verdict}
 
 one_part : (n : ℕ) → n / 1 ≡ n
 one_part n = omega arith
@@ -318,7 +319,7 @@ module _ (l : Lent) where
     one_store_behind = ⊎_elim (λ k. inl (early k.0 k.1 k.2)) (λ is. go is (verdict b (cut l.start)) refl) before_either
       where
         go : ((r : ℕ) → before r ≡ r) → (v : Verdict) → verdict b (cut l.start) ≡ v → (run_in (as_one l) ≡ run l) ⊎ Differs
-        go is Sound e = inl (equal (ap left e) (ap offset_of e))
-        go is BadHeader e = inl (equal (ap left e) (ap offset_of e))
-        go is (BadRecord at) e = inr (bad 107 (ap left e) (ap code_of e) refl (inl refl) refl is)
-        go is (BadIncidence at) e = inr (bad 108 (ap left e) (ap code_of e) refl (inr refl) refl is)
+        go is (Ok tt) e = inl (equal (ap left e) (ap offset_of e))
+        go is (Err Header) e = inl (equal (ap left e) (ap offset_of e))
+        go is (Err (Record at)) e = inr (bad 107 (ap left e) (ap code_of e) refl (inl refl) refl is)
+        go is (Err (Incidence at)) e = inr (bad 108 (ap left e) (ap code_of e) refl (inr refl) refl is)

@@ -15,14 +15,15 @@ use Rattle.graph.specs.Graph.{Graph}
 use Rattle.graph.specs.WellFormed.{Bounds, well_formed}
 use Rattle.image.specs.Image.{SavesAs, load, loadable}
 use Rattle.image_check.specs.Checks.{verdict, code_of, load_code}
-use Rattle.image_check.specs.declared.Verdict.{Verdict}
-use Rattle.image_check.specs.declared.Verdict.TheVariants.{Sound, BadHeader, BadRecord, BadIncidence}
 use Rattle.image.proofs.Headers.{sound_length}
 use Rattle.image_check.proofs.LoadCodes.{code_loads}
 use Rattle.image.proofs.Loads.{loads_back, saves_loads, loaded}
 use Rattle.machine.specs.StoreRun.{LentStores, stated_length, image_at, start_of, starts_code}
 use Rattle.machine.specs.StoreDemands.{SaveInTurn, start_graphs}
 use Rattle.machine.proofs.OneStart.{stated}
+use Rattle.std.specs.Prelude.{Ok, Err}
+use Rattle.image_check.specs.declared.BadImage.TheVariants.{Header, Record, Incidence}
+use Rattle.image_check.specs.Checks.{Verdict}
 
 -- ---- the code
 
@@ -32,8 +33,8 @@ unfolding starts_code
 starts_verdict b zero ws = go (length ws == 0)
   where
     go : (t : Bool) → (v : Verdict) × (◌≡◌ {A = ℕ} (t ⇒ 0 else 105) (code_of v))
-    go true = (Sound, refl)
-    go false = (BadHeader, refl)
+    go true = (Ok tt, refl)
+    go false = (Err Header, refl)
 starts_verdict b (suc k) ws = go (load_code b (take (stated_length ws) ws) == 0) (starts_verdict b k (drop (stated_length ws) ws))
   where
     go : (t : Bool) → (v : Verdict) × (starts_code b k (drop (stated_length ws) ws) ≡ code_of v) →
@@ -46,10 +47,10 @@ pub none_of_three : (b : Bounds) (k : ℕ) (ws : List ℕ) → (starts_code b k 
 none_of_three b k ws e f g = let v = starts_verdict b k ws in go v.0 v.1
   where
     go : (v : Verdict) → starts_code b k ws ≡ code_of v → starts_code b k ws ≡ 0
-    go Sound i = i
-    go BadHeader i = absurd (eqb-false _ 105 e i)
-    go (BadRecord at) i = absurd (eqb-false _ 108 f i)
-    go (BadIncidence at) i = absurd (eqb-false _ 109 g i)
+    go (Ok tt) i = i
+    go (Err Header) i = absurd (eqb-false _ 105 e i)
+    go (Err (Record at)) i = absurd (eqb-false _ 108 f i)
+    go (Err (Incidence at)) i = absurd (eqb-false _ 109 g i)
 
 -- ---- the graphs of k images
 

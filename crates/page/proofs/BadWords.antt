@@ -12,21 +12,22 @@ use borrow.Author.Tests.{ltb-true, ltb-false, eqb-true, eqb-false}
 use Rattle.image.specs.Image.{vertex_size, vertex_offset, incidence_offset, vertex_count, edge_count, record_size}
 use Rattle.image_check.specs.Checks.{code_of, offset_of, load_code, load_offset, verdict}
 use Rattle.image_check.specs.FirstBad.{is_degree, FirstBad, FirstDegree}
-use Rattle.image_check.specs.declared.Verdict.{Verdict}
-use Rattle.image_check.specs.declared.Verdict.TheVariants.{Sound, BadHeader, BadRecord, BadIncidence}
 use Rattle.image_check.proofs.LoadCodes.{no_offset, bad_record, bad_degree, bad_incidence}
 use Rattle.page.specs.Page.{PageResult, page_bounds, page_bytes, page_of}
 use Rattle.page.proofs.PageLaws.{page_refused, page_under, page_full}
+use Rattle.std.specs.Prelude.{Ok, Err}
+use Rattle.image_check.specs.declared.BadImage.TheVariants.{Header, Record, Incidence}
+use Rattle.image_check.specs.Checks.{Verdict}
 
 -- the offset is at most the number of words
 pub offset_inside : (ws : List ℕ) → load_offset page_bounds ws ≤ length ws
 offset_inside ws = go (verdict page_bounds ws) refl
   where
     go : (v : Verdict) → verdict page_bounds ws ≡ v → load_offset page_bounds ws ≤ length ws
-    go Sound e = omega (arith, ap offset_of e)
-    go BadHeader e = omega (arith, ap offset_of e)
-    go (BadRecord at) e = omega (arith, ((bad_record page_bounds ws (ap code_of e)).2 (omega arith)).inside)
-    go (BadIncidence at) e = omega (arith, (bad_incidence page_bounds ws (ap code_of e)).1.inside)
+    go (Ok tt) e = omega (arith, ap offset_of e)
+    go (Err Header) e = omega (arith, ap offset_of e)
+    go (Err (Record at)) e = omega (arith, ((bad_record page_bounds ws (ap code_of e)).2 (omega arith)).inside)
+    go (Err (Incidence at)) e = omega (arith, (bad_incidence page_bounds ws (ap code_of e)).1.inside)
 
 module _ (ws page : List ℕ) where
   -- the words' own code and offset, or 107 and 0, or 0

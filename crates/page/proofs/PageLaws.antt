@@ -16,8 +16,6 @@ use Rattle.graph.specs.Graph.{Graph}
 use Rattle.graph.specs.WellFormed.{well_formed}
 use Rattle.image.specs.Image.{SavesAs, record_size, part, edge_count, edge_part, load, loadable}
 use Rattle.image_check.specs.Checks.{code_of, load_code, load_offset, verdict}
-use Rattle.image_check.specs.declared.Verdict.{Verdict}
-use Rattle.image_check.specs.declared.Verdict.TheVariants.{Sound, BadHeader, BadRecord, BadIncidence}
 use Rattle.image_check.proofs.Verdicts.{zero_sound}
 use Rattle.image_check.proofs.LoadCodes.{code_loads}
 use Rattle.image.proofs.Loads.{loads, loads_back, saves_loads, loaded}
@@ -28,6 +26,9 @@ use Rattle.image.proofs.EdgePart.{part_two, eseq_count}
 use Rattle.page.specs.Rows.{row_bytes, rows_of, rows_from}
 use Rattle.page.specs.Page.{PageResult, page_bounds, page_bytes, page_code, page_of}
 use Rattle.page.proofs.RowLaws.{rows_length}
+use Rattle.std.specs.Prelude.{Ok, Err}
+use Rattle.image_check.specs.declared.BadImage.TheVariants.{Header, Record, Incidence}
+use Rattle.image_check.specs.Checks.{Verdict}
 
 abbrev pub answer : ℕ → ℕ → List ℕ → PageResult
 answer code bytes page = record { code = code; bytes = bytes; page = page }
@@ -88,10 +89,10 @@ page_loads ws page = (λ o. go (load_code page_bounds ws == 0) refl o, λ w. fro
     own n = sym (ap (λ (x : PageResult). x.code) (page_refused ws page _ _ refl refl n))
 
     no_107 : (v : Verdict) → code_of v ≡ 107 → ⊥
-    no_107 Sound e = omega arith
-    no_107 BadHeader e = omega arith
-    no_107 (BadRecord at) e = omega arith
-    no_107 (BadIncidence at) e = omega arith
+    no_107 (Ok tt) e = omega arith
+    no_107 (Err Header) e = omega arith
+    no_107 (Err (Record at)) e = omega arith
+    no_107 (Err (Incidence at)) e = omega arith
 
     go : (t : Bool) → (load_code page_bounds ws == 0) ≡ t → (((page_of ws page).code ≡ 0) ⊎ ((page_of ws page).code ≡ 107)) →
         (g : Graph) × (well_formed page_bounds g ≡ true) × SavesAs g ws

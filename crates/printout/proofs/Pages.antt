@@ -22,8 +22,7 @@ use Rattle.page.proofs.PageLaws.{page_refused, page_full}
 use Rattle.page.proofs.BadWords.{offset_inside}
 use Rattle.text.specs.Writing.{refused_line}
 use Rattle.text.specs.ImageLine.{other, read_image, line_words, line_verdict}
-use Rattle.text.specs.declared.image_line.LineVerdict.{LineVerdict}
-use Rattle.text.specs.declared.image_line.LineVerdict.TheVariants.{Words, Unreadable}
+use Rattle.std.specs.Prelude.{Option, Some, None}
 use Rattle.text.proofs.ImageLines.{image_few, told_words, told_other}
 use Rattle.printout.specs.Printout.{rows_or_code, printed_line, printout}
 
@@ -70,8 +69,8 @@ pub record WordsRead (input words : List ℕ) (n : ℕ) : Type 0 where
   pub few : length (take n words) ≤ 200000
   pub text : rows_or_code (take n words) ≡ printout input
 
-module _ (input : List ℕ) (v : LineVerdict) (read : v ≡ line_verdict (read_image input)) where
-  pub words_read : (n : ℕ) (slice slice' : List ℕ) → v ≡ Words n → slice' ≡ overwritten (line_words (read_image input)) slice →
+module _ (input : List ℕ) (v : Option ℕ) (read : v ≡ line_verdict (read_image input)) where
+  pub words_read : (n : ℕ) (slice slice' : List ℕ) → v ≡ Some n → slice' ≡ overwritten (line_words (read_image input)) slice →
       WordsRead input slice' n
   unfolding printout printed_line
   words_read n slice slice' e f =
@@ -83,6 +82,6 @@ module _ (input : List ℕ) (v : LineVerdict) (read : v ≡ line_verdict (read_i
         text = ap rows_or_code (over_front ws slice slice' n t.1 f) ∙ sym (ap printed_line t.0);
       }
 
-  pub other_read : v ≡ Unreadable → printed_line other ≡ printout input
+  pub other_read : v ≡ None → printed_line other ≡ printout input
   unfolding printout
   other_read e = sym (ap printed_line (told_other (read_image input) (sym e ∙ read)))

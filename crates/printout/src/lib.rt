@@ -7,30 +7,28 @@ ghost use Rattle.printout.specs.Printout.{rows_or_code, printout};
 
 use decimal::bytes;
 use page::print;
-use text::{LineVerdict, read_image, write_refused};
+use text::{read_image, write_refused};
 
 // There is room for the rows of 4,000 edges.
 fn print_words(words: &[u32], out: &mut [u8; 100000]) -> usize
     requires { length words.now ≤ 200000 }
     ensures { WrittenAt (rows_or_code words.now) result out.old out.new }
 {
-    let r = print(words, out);
-    let code = r.code;
-    let bytes = r.bytes;
-    if code == 0 {
-        return bytes;
+    let printed = print(words, out);
+    if printed.code == 0 {
+        printed.bytes
+    } else {
+        write_refused(printed.code, printed.bytes as u32, out)
     }
-    write_refused(code, bytes as u32, out)
 }
 
-// Writes the whole output for the input to the front of out, and answers how many bytes it has.
+/// Writes the whole output for the input to the front of out, and answers how many bytes it has.
 pub fn print_image(input: &[u8], out: &mut [u8; 100000]) -> usize
     ensures { WrittenAt (printout input.now) result out.old out.new }
 {
     let mut words = [0u32; 200000];
-    let verdict = read_image(input, &mut words);
-    match verdict {
-        LineVerdict::Words(count) => print_words(&words[..count], out),
-        LineVerdict::Unreadable => bytes(out, 0, b"unreadable\n"),
+    match read_image(input, &mut words) {
+        Some(count) => print_words(&words[..count], out),
+        None => bytes(out, 0, b"unreadable\n"),
     }
 }

@@ -12,7 +12,7 @@ use Rattle.lists.specs.Lists.{all, concat_map, All, done, more}
 use Rattle.lists.proofs.Bools.{ft, and_true}
 use Rattle.lists.proofs.Sums.{all_append, all_bool}
 use Rattle.decimal.specs.Decimal.{digits, value_of}
-use Rattle.text.specs.declared.reading.Number.TheVariants.{Empty}
+use Rattle.text.specs.declared.number.Number.TheVariants.{Empty}
 use Rattle.text.specs.Reading.{calls, digit, pieces, good_number, words_in, read_text}
 use Rattle.text.specs.Scan.{words_from}
 use Rattle.text.specs.Writing.{spaced, image_word, line_of}

@@ -1,43 +1,66 @@
 -- The first line found byte by byte, and what the two readers' answers are together.
 use Rattle.std.specs.Prelude.{◌==◌}
-use Prim.Native.Nat.{ℕ, ◌+◌, ◌-◌, ◌≤◌, ◌<◌}
-use mathlib.Core.Path.{◌≡◌, refl, sym, ap, ◌∙◌}
-use mathlib.Core.Bool.{Bool, true, false}
+use Prim.Native.Nat.{ℕ, suc, ◌+◌, ◌-◌, ◌≤◌, ◌<◌}
+use mathlib.Core.Path.{◌≡◌, refl, ap, ◌∙◌}
+use mathlib.Core.Bool.{Bool, true, false, not, cond}
 use mathlib.Core.List.{List, [], ◌∷◌}
 use native.Mathlib.Omega.{arith}
-use lib.ListN.{length, get_or, take, drop, drop_of_length-le}
+use lib.ListN.{length, take, drop}
+use Rattle.std.specs.List.{position_or_len}
 use lib.Dec.{ltb}
-use borrow.Author.Tests.{eq-eqb, ne_eqb, ltb-false}
+use borrow.Author.Tests.{ltb-true, ltb-false}
 use Rattle.lists.specs.Choice.{◌⇒◌else◌}
-use Rattle.lists.specs.Lists.{overwritten}
 use Rattle.decimal.proofs.Stores.{rest_all}
-use Rattle.lists.proofs.WordLaws.{one_drop}
-use Rattle.text.specs.declared.reading.ReadVerdict.{ReadVerdict}
-use Rattle.text.specs.declared.reading.ReadVerdict.TheVariants.{Calls, Unreadable as Bad}
-use Rattle.text.specs.Reading.{Verdict, calls, unreadable, pieces, good_line, line_count, first_bad, words_in, read_text, call_words, verdict_of}
-use Rattle.text.specs.declared.image_line.LineVerdict.{LineVerdict}
-use Rattle.text.specs.declared.image_line.LineVerdict.TheVariants.{Words, Unreadable as Other}
+use Rattle.std.specs.Prelude.{Ok, Err, Option, Some, None}
+use Rattle.text.specs.declared.reading.Unreadable.{Unreadable}
+use Rattle.text.specs.Reading.{Verdict, calls, unreadable, pieces, good_line, line_count, first_bad, words_in, read_text, call_words}
 use Rattle.text.specs.ImageLine.{ImageLine, image, other, read_image, line_words, line_verdict}
-use Rattle.text.proofs.Verdicts.{told_calls, told_unreadable}
 use Rattle.text.proofs.ImageLines.{told_other}
-use Rattle.resume_text.specs.declared.InputVerdict.{InputVerdict}
-use Rattle.resume_text.specs.declared.InputVerdict.TheVariants.{Saved, Unreadable}
-use Rattle.resume_text.specs.Input.{Input, saved, bad_line, first_length, first_line, later_lines, line_of_all, behind, joined, read_input, behind_verdict, input_verdict, words_behind, calls_in}
+use Rattle.resume_text.specs.declared.Lengths.{Lengths}
+use Rattle.resume_text.specs.Input.{Input, saved, bad_line, first_length, first_line, later_lines, joined, read_input, behind_verdict, input_verdict, words_behind, calls_in}
 
 -- ---- the first line
 
-module _ (xs : List ℕ) (i : ℕ) where
-  pub first_here : i < length xs → get_or xs i 0 ≡ 10 → i + first_length (drop i xs) ≡ i + 1
-  unfolding first_length
-  first_here h e = rw (one_drop xs i h, eq-eqb (get_or xs i 0) 10 e)
+abbrev pub newline : ℕ → Bool
+newline x = x == 10
 
-  pub first_later : i < length xs → (get_or xs i 0 ≡ 10 → ⊥) → i + first_length (drop i xs) ≡ i + 1 + first_length (drop (i + 1) xs)
-  unfolding first_length
-  first_later h n = rw (one_drop xs i h, ne_eqb (get_or xs i 0) 10 n) (omega arith)
+first_newline : (xs : List ℕ) → position_or_len newline xs < length xs → position_or_len newline xs + 1 ≡ first_length xs
+unfolding first_length
+first_newline [] h = absurd (omega arith)
+first_newline (x ∷ xs) h = go (first_newline xs) (x == 10) h
+  where
+    go : (position_or_len newline xs < length xs → position_or_len newline xs + 1 ≡ first_length xs) → (t : Bool) →
+        cond (not t) (1 + position_or_len newline xs) 0 < suc (length xs) → cond (not t) (1 + position_or_len newline xs) 0 + 1 ≡ (t ⇒ 1 else suc (first_length xs))
+    go ih true h = refl
+    go ih false h = omega (arith, ih (omega arith))
 
-  pub first_none : length xs ≤ i → i + first_length (drop i xs) ≡ i
-  unfolding first_length
-  first_none h = rw (drop_of_length-le xs h) (omega arith)
+no_newline : (xs : List ℕ) → length xs ≤ position_or_len newline xs → length xs ≡ first_length xs
+unfolding first_length
+no_newline [] h = refl
+no_newline (x ∷ xs) h = go (no_newline xs) (x == 10) h
+  where
+    go : (length xs ≤ position_or_len newline xs → length xs ≡ first_length xs) → (t : Bool) →
+        suc (length xs) ≤ cond (not t) (1 + position_or_len newline xs) 0 → suc (length xs) ≡ (t ⇒ 1 else suc (first_length xs))
+    go ih true h = absurd (omega arith)
+    go ih false h = omega (arith, ih (omega arith))
+
+module _ (xs : List ℕ) where
+  abbrev pub found : Option ℕ
+  found = cond (ltb (position_or_len newline xs) (length xs)) (Some (position_or_len newline xs)) None
+
+  pub found_first : (k : ℕ) → found ≡ Some k → k + 1 ≡ first_length xs
+  found_first k = go (ltb (position_or_len newline xs) (length xs)) refl
+    where
+      go : (t : Bool) → ltb (position_or_len newline xs) (length xs) ≡ t → cond t (Some (position_or_len newline xs)) None ≡ Some k → k + 1 ≡ first_length xs
+      go true e f = let p : position_or_len newline xs ≡ k = cc in omega (arith, first_newline xs (ltb-true _ _ e))
+      go false e f = cc
+
+  pub found_none : found ≡ None → length xs ≡ first_length xs
+  found_none = go (ltb (position_or_len newline xs) (length xs)) refl
+    where
+      go : (t : Bool) → ltb (position_or_len newline xs) (length xs) ≡ t → cond t (Some (position_or_len newline xs)) None ≡ None → length xs ≡ first_length xs
+      go true e f = cc
+      go false e f = no_newline xs (ltb-false _ _ e)
 
 -- ---- the number of a bad line is at most 1,001
 
@@ -71,59 +94,45 @@ line_most bytes n = go (ltb 60000 (length bytes)) (ltb 1000 (line_count (pieces 
     go false false b false e =
         this (first_bad 1 (pieces 10 bytes)) (omega (arith, bad_most 1 (pieces 10 bytes), ltb-false 1000 (line_count (pieces 10 bytes)) b)) e
 
--- ---- the calls behind the image
+-- ---- what the two readers' answers are together
 
-module _ (count n : ℕ) (v : Verdict) (r : ReadVerdict) (read : r ≡ verdict_of v) where
-  pub calls_behind : r ≡ Calls n → Saved count n ≡ behind_verdict count v
-  calls_behind e = let t = told_calls v n (sym e ∙ read) in rw (t.0, t.1)
+module _ (bytes : List ℕ) (end : ℕ) (cut : end ≡ first_length bytes) where
+  pub first_cut : read_image (take end bytes) ≡ read_image (first_line bytes)
+  first_cut = ap (λ (k : ℕ). read_image (take k bytes)) cut
 
-  pub line_behind : (m : ℕ) → m ≡ line_of_all n → r ≡ Bad n → Unreadable m ≡ behind_verdict count v
-  line_behind m p e = rw (told_unreadable v n (sym e ∙ read)) (ap Unreadable p)
+  pub later_cut : read_text (take (length bytes - end) (drop end bytes)) ≡ read_text (later_lines bytes)
+  later_cut = ap read_text (rest_all bytes end ∙ ap (λ (k : ℕ). drop k bytes) cut)
 
-behind_image : (start : List ℕ) (v : Verdict) → behind_verdict (length start) v ≡ input_verdict (behind start v)
-behind_image start (calls ws) = refl
-behind_image start (unreadable n) = refl
-
-told_image : (l : ImageLine) (v : Verdict) (n : ℕ) → Words n ≡ line_verdict l →
-    (behind_verdict n v ≡ input_verdict (joined l v)) × (call_words v ≡ words_behind l v)
-told_image (image start) v n e =
-    let p : n ≡ length start = cc in
-    (ap (λ (k : ℕ). behind_verdict k v) p ∙ behind_image start v, refl)
-told_image other v n e = let z : ◌≡◌ {A = ℕ} 0 1 = cc in absurd (omega arith)
-
--- ---- the whole input, cut behind its first line
-
-module _ (bytes : List ℕ) (end : ℕ) (cut : end ≡ first_length bytes) (l : LineVerdict) (read : l ≡ line_verdict (read_image (take end bytes)))
-    (r : InputVerdict) (words words' slice slice' : List ℕ) (e : words' ≡ overwritten (line_words (read_image (take end bytes))) words) where
-  abbrev pub ReadAs : Type 0
-  ReadAs =
-      (r ≡ input_verdict (read_input bytes))
-      × ((words' ≡ overwritten (line_words (read_image (first_line bytes))) words) × (slice' ≡ overwritten (calls_in bytes) slice))
-
-  line_read : l ≡ line_verdict (read_image (first_line bytes))
-  line_read = read ∙ ap (λ (k : ℕ). line_verdict (read_image (take k bytes))) cut
-
-  words_here : words' ≡ overwritten (line_words (read_image (first_line bytes))) words
-  words_here = e ∙ ap (λ (k : ℕ). overwritten (line_words (read_image (take k bytes))) words) cut
-
-  pub image_read : (n : ℕ) → l ≡ Words n → r ≡ behind_verdict n (read_text (take (length bytes - end) (drop end bytes))) →
-      slice' ≡ overwritten (call_words (read_text (take (length bytes - end) (drop end bytes)))) slice → ReadAs
+module _ (bytes : List ℕ) where
+  -- no image in the first line
+  pub none_read : None ≡ line_verdict (read_image (first_line bytes)) →
+      (Err (record { 0 = 1 }) ≡ input_verdict (read_input bytes)) × (calls_in bytes ≡ [])
   unfolding read_input
-  image_read n f p q =
-      let t = told_image (read_image (first_line bytes)) (read_text (later_lines bytes)) n (sym f ∙ line_read) in
-      let w : read_text (take (length bytes - end) (drop end bytes)) ≡ read_text (later_lines bytes) =
-      ap read_text (rest_all bytes end ∙ ap (λ (k : ℕ). drop k bytes) cut) in (
-        p ∙ ap (behind_verdict n) w ∙ t.0,
-        (words_here, q ∙ ap (λ (v : Verdict). overwritten (call_words v) slice) w ∙ ap (λ (x : List ℕ). overwritten x slice) t.1),
-      )
+  none_read e = rw (told_other (read_image (first_line bytes)) e) (refl, refl)
 
-  pub other_read : l ≡ Other → r ≡ Unreadable 1 → slice' ≡ slice → ReadAs
+  -- an image, and a bad line behind it
+  pub bad_read : (n : ℕ) (u : Unreadable) → Some n ≡ line_verdict (read_image (first_line bytes)) → Err u ≡ behind_verdict (read_text (later_lines bytes)) →
+      (Err u ≡ input_verdict (read_input bytes)) × (calls_in bytes ≡ call_words (read_text (later_lines bytes)))
   unfolding read_input
-  other_read f p q =
-      let o = told_other (read_image (first_line bytes)) (sym f ∙ line_read) in (
-        p ∙ ap (λ (x : ImageLine). input_verdict (joined x (read_text (later_lines bytes)))) (sym o),
-        (words_here, q ∙ ap (λ (x : ImageLine). overwritten (words_behind x (read_text (later_lines bytes))) slice) (sym o)),
-      )
+  bad_read n u e f = go (read_image (first_line bytes)) (read_text (later_lines bytes)) e f
+    where
+      go : (l : ImageLine) (v : Verdict) → Some n ≡ line_verdict l → Err u ≡ behind_verdict v →
+          (Err u ≡ input_verdict (joined l v)) × (words_behind l v ≡ call_words v)
+      go (image ws) (calls cs) a b = cc
+      go (image ws) (unreadable k) a b = (cc, refl)
+      go other v a b = cc
+
+  -- an image and calls
+  pub both_read : (n k : ℕ) → Some n ≡ line_verdict (read_image (first_line bytes)) → Ok k ≡ behind_verdict (read_text (later_lines bytes)) →
+      (Ok (record { image = n; calls = k }) ≡ input_verdict (read_input bytes)) × (calls_in bytes ≡ call_words (read_text (later_lines bytes)))
+  unfolding read_input
+  both_read n k e f = go (read_image (first_line bytes)) (read_text (later_lines bytes)) e f
+    where
+      go : (l : ImageLine) (v : Verdict) → Some n ≡ line_verdict l → Ok k ≡ behind_verdict v →
+          (Ok (record { image = n; calls = k }) ≡ input_verdict (joined l v)) × (words_behind l v ≡ call_words v)
+      go (image ws) (calls cs) a b = (cc, refl)
+      go (image ws) (unreadable i) a b = cc
+      go other v a b = cc
 
 -- ---- what an answer tells
 
@@ -133,24 +142,22 @@ pub record SavedRead (bytes : List ℕ) (n k : ℕ) : Type 0 where
   pub length_calls : k ≡ length (calls_in bytes)
   pub calls_read : read_text (later_lines bytes) ≡ calls (calls_in bytes)
 
-module _ (bytes : List ℕ) (n k : ℕ) where
-  pub told_saved : Saved n k ≡ input_verdict (read_input bytes) → SavedRead bytes n k
+module _ (bytes : List ℕ) where
+  pub told_saved : (r : Lengths) → Ok r ≡ input_verdict (read_input bytes) → SavedRead bytes r.image r.calls
   unfolding read_input
-  told_saved e = go (read_image (first_line bytes)) refl (read_text (later_lines bytes)) refl e
+  told_saved r e = go (read_image (first_line bytes)) refl (read_text (later_lines bytes)) refl e
     where
-      none : {X : Type 0} (i : ℕ) → Saved n k ≡ Unreadable i → X
-      none i f = let z : ◌≡◌ {A = ℕ} 0 1 = cc in absurd (omega arith)
-
       go : (l : ImageLine) → read_image (first_line bytes) ≡ l → (v : Verdict) → read_text (later_lines bytes) ≡ v →
-          Saved n k ≡ input_verdict (joined l v) → SavedRead bytes n k
-      go other p v q f = none 1 f
-      go (image start) p (unreadable i) q f = none (line_of_all i) f
+          Ok r ≡ input_verdict (joined l v) → SavedRead bytes r.image r.calls
+      go other p v q f = cc
+      go (image start) p (unreadable i) q f = cc
       go (image start) p (calls ws) q f =
-          record { input = rw (p, q); image_words = rw p (cc); length_calls = rw (p, q) (cc); calls_read = rw (p, q) }
+          let d : r ≡ record { image = length start; calls = length ws } = cc in
+          record { input = rw (p, q); image_words = rw p (ap (λ (x : Lengths). x.image) d); length_calls = rw (p, q) (ap (λ (x : Lengths). x.calls) d); calls_read = rw (p, q) }
 
-  pub told_bad : Unreadable n ≡ input_verdict (read_input bytes) → read_input bytes ≡ bad_line n
-  told_bad e = go (read_input bytes) e
+  pub told_bad : (u : Unreadable) → Err u ≡ input_verdict (read_input bytes) → read_input bytes ≡ bad_line u.0
+  told_bad u e = go (read_input bytes) e
     where
-      go : (i : Input) → Unreadable n ≡ input_verdict i → i ≡ bad_line n
-      go (saved start ws) f = let z : ◌≡◌ {A = ℕ} 0 1 = cc in absurd (omega arith)
-      go (bad_line k) f = cc
+      go : (i : Input) → Err u ≡ input_verdict i → i ≡ bad_line u.0
+      go (saved start ws) f = cc
+      go (bad_line k) f = ap (λ (x : Unreadable). bad_line x.0) (let d : record { 0 = k } ≡ u = cc in d)

@@ -1,10 +1,10 @@
 -- chartresume's input: the line of an image, and lines of calls behind it (REFERENCE 11.8, 11.9).
-use Rattle.std.specs.Prelude.{ℕ, suc, ◌+◌, List, [], ◌∷◌, length, take, drop, ◌==◌}
+use Rattle.std.specs.Prelude.{ℕ, suc, ◌+◌, List, [], ◌∷◌, length, take, drop, ◌==◌, Result, Ok, Err}
 use Rattle.lists.specs.Choice.{◌⇒◌else◌}
 use Rattle.text.specs.Reading.{Verdict, calls, unreadable, read_text, call_words}
 use Rattle.text.specs.ImageLine.{ImageLine, image, other, read_image}
-use Rattle.resume_text.specs.declared.InputVerdict.{InputVerdict}
-use Rattle.resume_text.specs.declared.InputVerdict.TheVariants.{Saved, Unreadable}
+use Rattle.text.specs.declared.reading.Unreadable.{Unreadable}
+use Rattle.resume_text.specs.declared.Lengths.{Lengths}
 
 -- what the input is: the words of its image and of its calls, or the number that is printed after unreadable
 pub data Input : Type 0 where
@@ -43,14 +43,14 @@ read_input bytes = joined (read_image (first_line bytes)) (read_text (later_line
 
 -- ---- as the code gives it
 
--- so many words of the image, and the verdict on the calls
-abbrev pub behind_verdict : ℕ → Verdict → InputVerdict
-behind_verdict n (calls ws) = Saved n (length ws)
-behind_verdict n (unreadable k) = Unreadable (line_of_all k)
+-- how many words the calls behind an image have, or the number of the bad line
+abbrev pub behind_verdict : Verdict → Result ℕ Unreadable
+behind_verdict (calls ws) = Ok (length ws)
+behind_verdict (unreadable n) = Err (record { 0 = line_of_all n })
 
-abbrev pub input_verdict : Input → InputVerdict
-input_verdict (saved start ws) = Saved (length start) (length ws)
-input_verdict (bad_line n) = Unreadable n
+abbrev pub input_verdict : Input → Result Lengths Unreadable
+input_verdict (saved start ws) = Ok (record { image = length start; calls = length ws })
+input_verdict (bad_line n) = Err (record { 0 = n })
 
 -- the words of calls that are read: none where the first line is no image's
 abbrev pub words_behind : ImageLine → Verdict → List ℕ

@@ -16,14 +16,15 @@ use Rattle.type_rows.specs.Rows.{row_fits, good_rows}
 use Rattle.graph.specs.WellFormed.{Bounds}
 use Rattle.image.specs.Image.{image_length}
 use Rattle.image_check.specs.Checks.{bounds, code_of}
-use Rattle.image_check.specs.declared.Verdict.{Verdict}
-use Rattle.image_check.specs.declared.Verdict.TheVariants.{Sound, BadHeader, BadRecord, BadIncidence}
 use Rattle.machine.specs.Calls.{Parameters, bounds_in}
 use Rattle.machine.specs.Run.{Limits, number_beside}
 use Rattle.machine.specs.StoreRun.{LentStores, parameters_in, starts_code, starts_offset, stores_refusal, stores_number}
 use Rattle.machine.proofs.StoreStarts.{starts_verdict}
 use Rattle.engine.proofs.RefusalLaws.{Beside, stopped, gone_on}
 use Rattle.stores.specs.Refusals.{in_limits_in, lengths_in, LendsIn}
+use Rattle.std.specs.Prelude.{Ok, Err}
+use Rattle.image_check.specs.declared.BadImage.TheVariants.{Header, Record, Incidence}
+use Rattle.image_check.specs.Checks.{Verdict}
 
 -- ---- three tests first
 
@@ -71,10 +72,10 @@ abbrev start_rows : ℕ → ℕ → ℕ
 start_rows c r = (c == 105) ⇒ 105 else (c == 108) ⇒ 108 else (c == 109) ⇒ 109 else r
 
 bad_rows : (v : Verdict) (r : ℕ) → (code_of v ≡ 0 → ⊥) → code_of v ≡ start_rows (code_of v) r
-bad_rows Sound r n = absurd (n refl)
-bad_rows BadHeader r n = refl
-bad_rows (BadRecord at) r n = refl
-bad_rows (BadIncidence at) r n = refl
+bad_rows (Ok tt) r n = absurd (n refl)
+bad_rows (Err Header) r n = refl
+bad_rows (Err (Record at)) r n = refl
+bad_rows (Err (Incidence at)) r n = refl
 
 bad_starts : (b : Bounds) (k : ℕ) (ws : List ℕ) (r : ℕ) → (starts_code b k ws ≡ 0 → ⊥) → starts_code b k ws ≡ start_rows (starts_code b k ws) r
 bad_starts b k ws r n =
@@ -183,10 +184,10 @@ chain_zero true n r h = absurd (omega (arith, h))
 chain_zero false n r h = (refl, h)
 
 rows_zero : (v : Verdict) (r : ℕ) → start_rows (code_of v) r ≡ 0 → (code_of v ≡ 0) × (r ≡ 0)
-rows_zero Sound r h = (refl, h)
-rows_zero BadHeader r h = absurd (omega (arith, h))
-rows_zero (BadRecord at) r h = absurd (omega (arith, h))
-rows_zero (BadIncidence at) r h = absurd (omega (arith, h))
+rows_zero (Ok tt) r h = (refl, h)
+rows_zero (Err Header) r h = absurd (omega (arith, h))
+rows_zero (Err (Record at)) r h = absurd (omega (arith, h))
+rows_zero (Err (Incidence at)) r h = absurd (omega (arith, h))
 
 pub record PassedIn (l : LentStores) : Type 0 where
   pub some : 1 ≤ l.count

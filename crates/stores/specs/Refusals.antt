@@ -4,16 +4,15 @@ use Rattle.std.specs.Prelude.{ℕ, ◌+◌, ◌*◌, ◌/◌, ◌%◌, ◌≡◌
 use Rattle.lists.specs.Choice.{◌⇒◌else◌, within}
 use Rattle.graph.specs.Limits.{most_vertices, most_edges, most_changes}
 use Rattle.machine.specs.StoreRun.{LentStores, most_stores}
-use Rattle.image_check.specs.declared.Verdict.{Verdict}
-use Rattle.image_check.specs.declared.Verdict.TheVariants.{Sound, BadHeader, BadRecord, BadIncidence}
 use Rattle.engine.specs.Refusals.{Lends}
+use Rattle.image_check.specs.declared.BadImage.{BadImage}
+use Rattle.image_check.specs.declared.BadImage.TheVariants.{Header, Record, Incidence}
 
--- the number beside the code of a verdict on the image that stands at a place
-abbrev pub number_at : ℕ → Verdict → ℕ
-number_at at Sound = 0
-number_at at BadHeader = 0
-number_at at (BadRecord bad) = at + bad
-number_at at (BadIncidence bad) = at + bad
+-- the number beside the code of what is bad in the image that stands at a place
+abbrev pub number_at : ℕ → BadImage → ℕ
+number_at at Header = 0
+number_at at (Record offset) = at + offset
+number_at at (Incidence offset) = at + offset
 
 -- the stores and the capacities of a part
 abbrev pub in_limits_in : ℕ → ℕ → ℕ → ℕ → Bool

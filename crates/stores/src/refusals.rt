@@ -10,8 +10,8 @@ ghost use Rattle.stores.specs.Refusals.{number_at, lengths_in, LendsIn};
 use crate::starts::first_length;
 use engine::refusals::{at_most, in_limits};
 use image::layout::length;
-use image_check::{Verdict, check, code_of};
-use type_rows::{RowsVerdict, check_rows};
+use image_check::{BadImage, check};
+use type_rows::are_good;
 
 pub const MOST_STORES: u32 = 8;
 
@@ -23,16 +23,14 @@ pub struct Refused {
     pub number: usize,
 }
 
-// The number beside the code of a verdict on the image that stands at a place.
-fn number_at(at: usize, found: Verdict) -> usize
+/// The number beside the code of what is bad in the image that stands at a place.
+fn number_at(at: usize, bad: BadImage) -> usize
     requires { at < 2 ^ 63 }
-    ensures { result ≡ number_at at found }
+    ensures { result ≡ number_at at bad }
 {
-    match found {
-        Verdict::Sound => 0,
-        Verdict::BadHeader => 0,
-        Verdict::BadRecord(bad) => at + bad as usize,
-        Verdict::BadIncidence(bad) => at + bad as usize,
+    match bad {
+        BadImage::Header => 0,
+        BadImage::Record(offset) | BadImage::Incidence(offset) => at + offset as usize,
     }
 }
 
@@ -77,12 +75,10 @@ fn starts(start: &[u32], vertices: u32, edges: u32, types: u32, stores: usize) -
     let mut k = 0;
     while k < stores {
         let n = first_length(&start[at..]);
-        let found = check(&start[at..at + n], vertices, edges, types);
-        let code = code_of(found);
-        if code != 0 {
+        if let Err(bad) = check(&start[at..at + n], vertices, edges, types) {
             return Refused {
-                code,
-                number: number_at(at, found),
+                code: bad.code(),
+                number: number_at(at, bad),
             };
         }
         at += n;
@@ -117,12 +113,12 @@ pub fn refusal(
     if code != 0 {
         return Refused { code, number: 0 };
     }
-    let RowsVerdict::Good = check_rows(rows) else {
+    if !are_good(rows) {
         return Refused {
             code: 104,
             number: 0,
         };
-    };
+    }
     let v = (vertices / stores / 8) as u32;
     let e = (edges / stores / 12) as u32;
     let found = starts(start, v, e, rows.len() as u32, stores);

@@ -13,8 +13,8 @@ use Rattle.decimal.specs.Decimal.{value_of}
 use Rattle.text.specs.Reading.{pieces, good_number}
 use Rattle.text.specs.Scan.{scan, digit_in, is_value, words_from}
 use Rattle.text.specs.ImageLine.{field_in}
-use Rattle.text.specs.declared.reading.Number.{Number}
-use Rattle.text.specs.declared.reading.Number.TheVariants.{Empty, Bad}
+use Rattle.text.specs.declared.number.Number.{Number}
+use Rattle.text.specs.declared.number.Number.TheVariants.{Empty, Bad}
 use Rattle.text.proofs.Pieces.{Free, Parts, rest, cut, parts, pieces_rest, pieces_cut}
 use Rattle.text.proofs.Numbers.{and_true_right, run_append, bad_digit, number_good}
 use Rattle.text.proofs.Scans.{line_words}

@@ -5,12 +5,11 @@ use mathlib.Core.Path.{◌≡◌, refl, sym, ap, ◌∙◌}
 use mathlib.Core.Bool.{Bool, true, false, ◌&&◌}
 use mathlib.Core.List.{List, [], ◌∷◌, ◌++◌, map}
 use native.Mathlib.Omega.{arith}
-use lib.ListN.{length, get_or, take, drop, drop_of_length-le, length-append, length-drop, length-map}
+use lib.ListN.{length, get_or, take, drop, length-append, length-drop, length-map}
 use lib.Dec.{leb}
 use lib.Seq.{take-suc, take_all, get_or-drop}
-use borrow.Author.Tests.{le-leb, lt-leb, eq-eqb, ne_eqb, leb-true, leb-false, eqb-true, eqb-false}
-use Rattle.lists.specs.Choice.{within}
-use Rattle.lists.specs.Lists.{all, equal_lists, overwritten}
+use borrow.Author.Tests.{le-leb, lt-leb, eq-eqb, ne_eqb, leb-true, eqb-true, eqb-false}
+use Rattle.lists.specs.Lists.{all, equal_lists}
 use Rattle.lists.proofs.Bools.{and_false}
 use Rattle.decimal.specs.Decimal.{value_of}
 use Rattle.lists.proofs.WordLaws.{one_drop}
@@ -18,68 +17,42 @@ use Rattle.text.specs.Reading.{on_first, pieces, good_number}
 use Rattle.text.specs.Scan.{scan, is_value, words_from}
 use Rattle.text.specs.Writing.{image_word}
 use Rattle.text.specs.ImageLine.{ImageLine, image, other, framed, framed_in, fields_in, read_image, line_words, line_verdict, field_in}
-use Rattle.text.specs.declared.reading.Number.TheVariants.{Empty}
-use Rattle.text.specs.declared.image_line.LineVerdict.TheVariants.{Words, Unreadable}
+use Rattle.text.specs.declared.number.Number.TheVariants.{Empty}
+use Rattle.std.specs.Prelude.{Some, None}
 use Rattle.text.proofs.Fields.{fields_law, fields_words, few_fields}
 
--- ---- a word at the front, byte by byte
-
-module _ (xs ys : List ℕ) where
-  -- what is left to compare from i on
-  abbrev pub left : ℕ → Bool
-  left i = equal_lists (take (length ys - i) (drop i xs)) (drop i ys)
-
-  pub left_all : left 0 ≡ equal_lists (take (length ys) xs) ys
-  left_all = let e : length ys - 0 ≡ length ys = omega arith in rw e
-
-  module _ (i : ℕ) (h : i < length ys) (k : length ys ≤ length xs) where
-    left_next : left i ≡ ((get_or xs i 0 == get_or ys i 0) && left (i + 1))
-    left_next =
-        let e : length ys - i ≡ suc (length ys - (i + 1)) = omega arith in
-        let m : i < length xs = omega arith in
-        rw (e, one_drop xs i m, one_drop ys i h)
-
-    pub left_same : get_or xs i 0 ≡ get_or ys i 0 → left (i + 1) ≡ left i
-    left_same e = sym (left_next ∙ ap (λ (t : Bool). t && left (i + 1)) (eq-eqb _ _ e))
-
-    pub left_differs : (get_or xs i 0 ≡ get_or ys i 0 → ⊥) → false ≡ left i
-    left_differs n = sym (left_next ∙ ap (λ (t : Bool). t && left (i + 1)) (ne_eqb _ _ n))
-
-  pub left_none : (i : ℕ) → length ys ≤ i → i ≤ length ys → true ≡ left i
-  left_none i h k =
-      let e : length ys - i ≡ 0 = omega arith in
-      let d : drop i ys ≡ [] = drop_of_length-le ys h in
-      rw (e, d)
-
 -- ---- the word, the newline and what stands between
-
-module _ (bytes : List ℕ) where
-  pub short_other : length bytes < 6 → read_image bytes ≡ other
-  unfolding read_image framed
-  short_other h = rw (lt-leb 6 (length bytes) h)
-
-  pub long_other : 400000 < length bytes → read_image bytes ≡ other
-  unfolding read_image framed
-  long_other h = rw (lt-leb (length bytes) 400000 h, and_false (leb 6 (length bytes)))
-
-  pub unnamed_other : false ≡ equal_lists (take 5 bytes) image_word → read_image bytes ≡ other
-  unfolding read_image framed
-  unnamed_other e = rw (sym e, and_false (within 6 400000 (length bytes)))
-
-  pub unended_other : (get_or bytes (length bytes - 1) 0 ≡ 10 → ⊥) → read_image bytes ≡ other
-  unfolding read_image framed
-  unended_other n =
-      rw (
-        ne_eqb (get_or bytes (length bytes - 1) 0) 10 n,
-        and_false (equal_lists (take 5 bytes) image_word),
-        and_false (within 6 400000 (length bytes)),
-      )
 
 pub record Framed (bytes : List ℕ) : Type 0 where
   pub least : 6 ≤ length bytes
   pub most : length bytes ≤ 400000
-  pub named : true ≡ equal_lists (take 5 bytes) image_word
+  pub named : equal_lists (take 5 bytes) image_word ≡ true
   pub ended : get_or bytes (length bytes - 1) 0 ≡ 10
+
+pub framed_is : (bytes : List ℕ) → framed bytes ≡ true → Framed bytes
+unfolding framed
+framed_is bytes e = go (leb 6 (length bytes)) (leb (length bytes) 400000) (equal_lists (take 5 bytes) image_word) (get_or bytes (length bytes - 1) 0 == 10) e refl refl refl refl
+  where
+    go : (a b c d : Bool) → ((a && b) && (c && d)) ≡ true → leb 6 (length bytes) ≡ a → leb (length bytes) 400000 ≡ b → equal_lists (take 5 bytes) image_word ≡ c →
+        (get_or bytes (length bytes - 1) 0 == 10) ≡ d → Framed bytes
+    go true true true true e i j k l = record {
+      least = leb-true 6 (length bytes) i;
+      most = leb-true (length bytes) 400000 j;
+      named = k;
+      ended = eqb-true (get_or bytes (length bytes - 1) 0) 10 l;
+    }
+    go true true true false e i j k l = absurd cc
+    go true true false d e i j k l = absurd cc
+    go true false c d e i j k l = absurd cc
+    go false b c d e i j k l = absurd cc
+
+pub unframed_other : (bytes : List ℕ) → framed bytes ≡ false → read_image bytes ≡ other
+unfolding read_image
+unframed_other bytes e = rw e refl
+
+pub long_other : (bytes : List ℕ) → 400000 < length bytes → read_image bytes ≡ other
+unfolding framed
+long_other bytes h = unframed_other bytes (rw (lt-leb (length bytes) 400000 h, and_false (leb 6 (length bytes))))
 
 -- the bytes behind the word and its space, without the newline
 abbrev pub inner : List ℕ → List ℕ
@@ -98,7 +71,7 @@ module _ (bytes : List ℕ) (f : Framed bytes) where
       rw (
         le-leb 6 (length bytes) f.least,
         le-leb (length bytes) 400000 f.most,
-        sym f.named,
+        f.named,
         eq-eqb (get_or bytes (length bytes - 1) 0) 10 f.ended,
       )
 
@@ -196,35 +169,18 @@ module _ (bytes : List ℕ) where
       go false false i j = few_as other (unspaced_other bytes f (more i) (eqb-false (get_or bytes 5 0) 32 j)) (omega arith)
 
   pub image_few : Few
-  image_few = go (leb 6 (length bytes)) (leb (length bytes) 400000) (equal_lists (take 5 bytes) image_word) (get_or bytes (length bytes - 1) 0 == 10) refl refl refl refl
+  image_few = go (framed bytes) refl
     where
-      go : (a b c d : Bool) → leb 6 (length bytes) ≡ a → leb (length bytes) 400000 ≡ b → equal_lists (take 5 bytes) image_word ≡ c →
-          (get_or bytes (length bytes - 1) 0 == 10) ≡ d → Few
-      go false b c d i j k l = few_as other (short_other bytes (leb-false 6 (length bytes) i)) (omega arith)
-      go true false c d i j k l = few_as other (long_other bytes (leb-false (length bytes) 400000 j)) (omega arith)
-      go true true false d i j k l = few_as other (unnamed_other bytes (sym k)) (omega arith)
-      go true true true false i j k l = few_as other (unended_other bytes (eqb-false (get_or bytes (length bytes - 1) 0) 10 l)) (omega arith)
-      go true true true true i j k l =
-          framed_few (record {
-            least = leb-true 6 (length bytes) i;
-            most = leb-true (length bytes) 400000 j;
-            named = sym k;
-            ended = eqb-true (get_or bytes (length bytes - 1) 0) 10 l;
-          })
+      go : (b : Bool) → framed bytes ≡ b → Few
+      go true e = framed_few (framed_is bytes e)
+      go false e = few_as other (unframed_other bytes e) (omega arith)
 
--- ---- the two answers, and what they tell
+-- ---- what an answer tells
 
-pub line_other : (v : ImageLine) (l : List ℕ) → v ≡ other → (Unreadable ≡ line_verdict v) × (l ≡ overwritten (line_words v) l)
-line_other v l e = rw e (refl, refl)
-
-pub line_image : (v : ImageLine) (ws l l' : List ℕ) (k : ℕ) → v ≡ image ws → k ≡ length ws → l' ≡ overwritten ws l →
-    (Words k ≡ line_verdict v) × (l' ≡ overwritten (line_words v) l)
-line_image v ws l l' k e p q = rw e (ap Words p, q)
-
-pub told_words : (v : ImageLine) (n : ℕ) → Words n ≡ line_verdict v → (v ≡ image (line_words v)) × (n ≡ length (line_words v))
+pub told_words : (v : ImageLine) (n : ℕ) → Some n ≡ line_verdict v → (v ≡ image (line_words v)) × (n ≡ length (line_words v))
 told_words (image ws) n e = (refl, cc)
-told_words other n e = let z : ◌≡◌ {A = ℕ} 0 1 = cc in absurd (omega arith)
+told_words other n e = cc
 
-pub told_other : (v : ImageLine) → Unreadable ≡ line_verdict v → v ≡ other
-told_other (image ws) e = let z : ◌≡◌ {A = ℕ} 0 1 = cc in absurd (omega arith)
+pub told_other : (v : ImageLine) → None ≡ line_verdict v → v ≡ other
+told_other (image ws) e = cc
 told_other other e = refl

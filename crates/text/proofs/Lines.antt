@@ -12,9 +12,9 @@ use Rattle.lists.specs.Choice.{◌⇒◌else◌}
 use Rattle.lists.specs.Lists.{all, done, more}
 use Rattle.lists.proofs.Picks.{same, differ, same?}
 use Rattle.text.specs.Reading.{digit, pieces, good_number, good_line}
-use Rattle.text.specs.declared.reading.Number.{Number}
-use Rattle.text.specs.declared.reading.Number.TheVariants.{Empty, Value, Bad}
-use Rattle.text.specs.declared.reading.Line.{Line}
+use Rattle.text.specs.declared.number.Number.{Number}
+use Rattle.text.specs.declared.number.Number.TheVariants.{Empty, Value, Bad}
+use Rattle.text.specs.declared.line.Line.{Line}
 use Rattle.text.specs.Scan.{scan, more_digit, add_digit, digit_in, is_value, blank, fresh_line, space_in, line_in, line_good, line_blank}
 use Rattle.text.proofs.Pieces.{Free, Parts, rest, cut, parts, pieces_rest, pieces_cut, NonEmpty, nonempty, pieces_nonempty}
 use Rattle.text.proofs.Numbers.{and_true_right, run_append, bad_digit, number_good}

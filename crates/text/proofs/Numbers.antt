@@ -13,8 +13,8 @@ use Rattle.lists.specs.Lists.{all}
 use Rattle.lists.proofs.Bools.{and_true, ft, and_false}
 use Rattle.decimal.specs.Decimal.{value_of}
 use Rattle.text.specs.Reading.{digit, good_number}
-use Rattle.text.specs.declared.reading.Number.{Number}
-use Rattle.text.specs.declared.reading.Number.TheVariants.{Empty, Value, Bad}
+use Rattle.text.specs.declared.number.Number.{Number}
+use Rattle.text.specs.declared.number.Number.TheVariants.{Empty, Value, Bad}
 use Rattle.text.specs.Scan.{scan, more_digit, add_digit, digit_in, is_value}
 
 pub and_true_right : (a : Bool) → (a && true) ≡ a

@@ -12,10 +12,10 @@ use Rattle.lists.specs.Lists.{all, done, more}
 use Rattle.lists.proofs.Bools.{ft, and_true}
 use Rattle.decimal.specs.Decimal.{value_of}
 use Rattle.text.specs.Reading.{digit, pieces, good_number, good_line, line_count, first_bad, words_in}
-use Rattle.text.specs.declared.reading.Number.{Number}
-use Rattle.text.specs.declared.reading.Number.TheVariants.{Empty}
-use Rattle.text.specs.declared.reading.Line.{Line}
-use Rattle.text.specs.declared.reading.Lines.{Lines}
+use Rattle.text.specs.declared.number.Number.{Number}
+use Rattle.text.specs.declared.number.Number.TheVariants.{Empty}
+use Rattle.text.specs.declared.line.Line.{Line}
+use Rattle.text.specs.declared.line.Lines.{Lines}
 use Rattle.text.specs.Scan.{scan, digit_in, fresh_line, fresh_lines, line_in, line_blank, bad_after, newline_in, byte_in, rest_in, field_ends, number_after, word_at, words_from}
 use Rattle.text.proofs.Pieces.{Free, Parts, rest, cut, parts, pieces_rest, pieces_cut, NonEmpty, nonempty, pieces_nonempty}
 use Rattle.text.proofs.Numbers.{run_append, number_value}

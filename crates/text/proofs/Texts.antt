@@ -5,7 +5,7 @@ use mathlib.Core.Path.{◌≡◌, refl, sym, ap}
 use mathlib.Core.Bool.{Bool, true, false}
 use mathlib.Core.List.{List, [], ◌∷◌, ◌++◌}
 use native.Mathlib.Omega.{arith}
-use lib.ListN.{length, get_or, drop, length-append, drop_of_length-le, length-drop}
+use lib.ListN.{length, get_or, drop, length-append, drop_of_length-le}
 use borrow.Author.Tests.{eq-eqb, ne_eqb, lt-ltb, le-ltb}
 use Rattle.lists.specs.Choice.{◌⇒◌else◌}
 use Rattle.lists.specs.Lists.{concat_map}
@@ -39,14 +39,6 @@ line_most word ns = omega (arith, line_length word ns, numbers_most ns)
 pub unreadable_most : (n : ℕ) → length (unreadable_text n) ≤ 22
 unfolding unreadable_text
 unreadable_most n = omega (arith, line_most unreadable_word (n ∷ []))
-
-pub answer_done : (code number : ℕ) → code ≡ 0 → answer_line code number ≡ line_of done_word (number ∷ [])
-unfolding answer_line
-answer_done code number e = rw (eq-eqb code 0 e)
-
-pub answer_refused : (code number : ℕ) → (code ≡ 0 → ⊥) → answer_line code number ≡ line_of refused_word (code ∷ [])
-unfolding answer_line
-answer_refused code number e = rw (ne_eqb code 0 e)
 
 answer_most : (code number : ℕ) → length (answer_line code number) ≤ 19
 unfolding answer_line
@@ -91,25 +83,25 @@ module _ (answers image : List ℕ) where
 
 -- ---- turns of the loops
 
+-- two words more, and what is left behind them
+pub answers_turn : (ws pair left : List ℕ) → ws ≡ pair ++ left → length pair ≡ 2 → answer_lines ws ≡ answer_line (get_or pair 0 0) (get_or pair 1 0) ++ answer_lines left
+unfolding answer_lines
+answers_turn ws [] left e h = absurd (omega arith)
+answers_turn ws (x ∷ []) left e h = absurd (omega arith)
+answers_turn ws (code ∷ number ∷ []) left e h = rw e refl
+answers_turn ws (x ∷ y ∷ z ∷ zs) left e h = absurd (omega arith)
+
+pub answers_length : (ws pair left : List ℕ) → ws ≡ pair ++ left → length pair ≡ 2 →
+    length (answer_lines ws) ≡ length (answer_line (get_or pair 0 0) (get_or pair 1 0)) + length (answer_lines left)
+answers_length ws pair left e h = simp length-append at (ap length (answers_turn ws pair left e h))
+
+pub answers_end : (ws : List ℕ) → length ws ≤ 1 → answer_lines ws ≡ []
+unfolding answer_lines
+answers_end [] h = refl
+answers_end (x ∷ []) h = refl
+answers_end (x ∷ y ∷ ws) h = absurd (omega arith)
+
 module _ (ws : List ℕ) (k : ℕ) where
-  pub answers_turn : k + 1 < length ws → answer_line (get_or ws k 0) (get_or ws (k + 1) 0) ++ answer_lines (drop (k + 2) ws) ≡ answer_lines (drop k ws)
-  unfolding answer_lines
-  answers_turn h =
-      let e : k + 1 + 1 ≡ k + 2 = omega arith in
-      rw (one_drop ws k (omega arith), one_drop ws (k + 1) h, e)
-
-  pub answers_length : k + 1 < length ws → length (answer_line (get_or ws k 0) (get_or ws (k + 1) 0)) + length (answer_lines (drop (k + 2) ws)) ≡ length (answer_lines (drop k ws))
-  answers_length h = simp length-append at (ap length (answers_turn h))
-
-  pub answers_end : length ws ≤ k + 1 → answer_lines (drop k ws) ≡ []
-  unfolding answer_lines
-  answers_end h = go (drop k ws) (omega (arith, length-drop k ws))
-    where
-      go : (l : List ℕ) → length l ≤ 1 → answer_lines l ≡ []
-      go [] i = refl
-      go (x ∷ []) i = refl
-      go (x ∷ y ∷ l) i = absurd (omega arith)
-
   pub numbers_turn : k < length ws → spaced (get_or ws k 0) ++ concat_map spaced (drop (k + 1) ws) ≡ concat_map spaced (drop k ws)
   numbers_turn h = rw (one_drop ws k h)
 

@@ -8,11 +8,11 @@ use lib.ListN.{length}
 use lib.Dec.{ltb}
 use borrow.Author.Tests.{lt-ltb, le-ltb, eq-eqb, ne_eqb}
 use Rattle.lists.specs.Choice.{◌⇒◌else◌}
-use Rattle.lists.specs.Lists.{overwritten}
 use Rattle.text.specs.Reading.{Verdict, calls, unreadable, pieces, line_count, first_bad, words_in, read_text, call_words, verdict_of}
-use Rattle.text.specs.declared.reading.Number.TheVariants.{Empty}
-use Rattle.text.specs.declared.reading.ReadVerdict.TheVariants.{Calls, Unreadable}
-use Rattle.text.specs.declared.reading.Lines.{Lines}
+use Rattle.text.specs.declared.number.Number.TheVariants.{Empty}
+use Rattle.std.specs.Prelude.{Ok, Err}
+use Rattle.text.specs.declared.reading.Unreadable.{Unreadable}
+use Rattle.text.specs.declared.line.Lines.{Lines}
 use Rattle.text.specs.Scan.{scan, fresh_lines, byte_in, rest_in, words_from}
 use Rattle.text.proofs.Pieces.{parts}
 use Rattle.text.proofs.Scans.{Counted, lines_law, Good, good, words_law, words_count}
@@ -54,18 +54,11 @@ module _ (bytes : List ℕ) (s : Lines) (short : length bytes ≤ 60000) (e : s 
       let c = subst (λ (t : Lines). Counted t 0 0 (pieces 10 bytes)) (sym e) (lines_law bytes) in
       omega (arith, c.count, ap length (words_law (all_good z)), words_count (all_good z))
 
--- the two answers
-pub refused : (v : Verdict) (n : ℕ) (l : List ℕ) → v ≡ unreadable n → (Unreadable n ≡ verdict_of v) × (l ≡ overwritten (call_words v) l)
-refused v n l e = rw e (refl, refl)
-
-pub accepted : (v : Verdict) (ws l l' : List ℕ) (k : ℕ) → v ≡ calls ws → k ≡ length ws → l' ≡ overwritten ws l → (Calls k ≡ verdict_of v) × (l' ≡ overwritten (call_words v) l)
-accepted v ws l l' k e p q = rw e (ap Calls p, q)
-
 -- what an answer tells
-pub told_calls : (v : Verdict) (n : ℕ) → Calls n ≡ verdict_of v → (v ≡ calls (call_words v)) × (n ≡ length (call_words v))
+pub told_calls : (v : Verdict) (n : ℕ) → Ok n ≡ verdict_of v → (v ≡ calls (call_words v)) × (n ≡ length (call_words v))
 told_calls (calls ws) n e = (refl, cc)
-told_calls (unreadable k) n e = let z : ◌≡◌ {A = ℕ} 0 1 = cc in absurd (omega arith)
+told_calls (unreadable k) n e = cc
 
-pub told_unreadable : (v : Verdict) (n : ℕ) → Unreadable n ≡ verdict_of v → v ≡ unreadable n
-told_unreadable (calls ws) n e = let z : ◌≡◌ {A = ℕ} 0 1 = cc in absurd (omega arith)
-told_unreadable (unreadable k) n e = cc
+pub told_unreadable : (v : Verdict) (u : Unreadable) → Err u ≡ verdict_of v → v ≡ unreadable u.0
+told_unreadable (calls ws) u e = cc
+told_unreadable (unreadable k) u e = cc

@@ -10,8 +10,8 @@ use lib.Seq.{sets}
 use Rattle.lists.specs.Choice.{◌⇒◌else◌}
 use Rattle.decimal.proofs.Stores.{then}
 use Rattle.lists.proofs.WordLaws.{one_drop}
-use Rattle.text.specs.declared.reading.Number.{Number}
-use Rattle.text.specs.declared.reading.Lines.{Lines}
+use Rattle.text.specs.declared.number.Number.{Number}
+use Rattle.text.specs.declared.line.Lines.{Lines}
 use Rattle.text.specs.Scan.{scan, line_in, byte_in, newline_in, number_after, word_at, words_from}
 
 module _ {S : Type 0} (f : S → ℕ → S) (xs : List ℕ) (i : ℕ) where

@@ -6,10 +6,9 @@ use Rattle.decimal.specs.Decimal.{value_of}
 use Rattle.text.specs.Reading.{pieces, good_number}
 use Rattle.text.specs.Scan.{is_value, digit_in}
 use Rattle.text.specs.Writing.{image_word}
-use Rattle.text.specs.declared.reading.Number.{Number}
-use Rattle.text.specs.declared.reading.Number.TheVariants.{Empty, Bad}
-use Rattle.text.specs.declared.image_line.LineVerdict.{LineVerdict}
-use Rattle.text.specs.declared.image_line.LineVerdict.TheVariants.{Words, Unreadable}
+use Rattle.text.specs.declared.number.Number.{Number}
+use Rattle.text.specs.declared.number.Number.TheVariants.{Empty, Bad}
+use Rattle.std.specs.Prelude.{Option, Some, None}
 
 -- what the input is: the line of these words, or another text
 pub data ImageLine : Type 0 where
@@ -39,10 +38,10 @@ abbrev pub line_words : ImageLine → List ℕ
 line_words (image ws) = ws
 line_words other = []
 
--- the answer as the code gives it: how many words, or unreadable
-abbrev pub line_verdict : ImageLine → LineVerdict
-line_verdict (image ws) = Words (length ws)
-line_verdict other = Unreadable
+-- the answer as the code gives it: how many words, or none
+abbrev pub line_verdict : ImageLine → Option ℕ
+line_verdict (image ws) = Some (length ws)
+line_verdict other = None
 
 -- ---- byte by byte, as the code does it
 

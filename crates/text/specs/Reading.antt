@@ -4,8 +4,8 @@ use Rattle.std.specs.Prelude.{ℕ, ◌+◌, ◌^◌, Bool, false, not, ◌&&◌,
 use Rattle.lists.specs.Choice.{◌⇒◌else◌, within}
 use Rattle.lists.specs.Lists.{all}
 use Rattle.decimal.specs.Decimal.{value_of}
-use Rattle.text.specs.declared.reading.ReadVerdict.{ReadVerdict}
-use Rattle.text.specs.declared.reading.ReadVerdict.TheVariants.{Calls, Unreadable}
+use Rattle.std.specs.Prelude.{Result, Ok, Err}
+use Rattle.text.specs.declared.reading.Unreadable.{Unreadable}
 
 -- what the input is: the words of its calls, or the number that is printed after unreadable
 pub data Verdict : Type 0 where
@@ -71,6 +71,6 @@ call_words (calls ws) = ws
 call_words (unreadable n) = []
 
 -- the answer as the code gives it: how many words, or the number after unreadable
-abbrev pub verdict_of : Verdict → ReadVerdict
-verdict_of (calls ws) = Calls (length ws)
-verdict_of (unreadable n) = Unreadable n
+abbrev pub verdict_of : Verdict → Result ℕ Unreadable
+verdict_of (calls ws) = Ok (length ws)
+verdict_of (unreadable n) = Err (record { 0 = n })

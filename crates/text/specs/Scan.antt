@@ -2,10 +2,10 @@
 use Rattle.std.specs.Prelude.{ℕ, ◌+◌, ◌-◌, ◌*◌, ◌^◌, Bool, true, false, ◌&&◌, ◌||◌, List, [], ◌∷◌, ◌++◌, ltb, ◌==◌}
 use Rattle.lists.specs.Choice.{◌⇒◌else◌}
 use Rattle.text.specs.Reading.{digit}
-use Rattle.text.specs.declared.reading.Number.{Number}
-use Rattle.text.specs.declared.reading.Number.TheVariants.{Empty, Value, Bad}
-use Rattle.text.specs.declared.reading.Line.{Line}
-use Rattle.text.specs.declared.reading.Lines.{Lines}
+use Rattle.text.specs.declared.number.Number.{Number}
+use Rattle.text.specs.declared.number.Number.TheVariants.{Empty, Value, Bad}
+use Rattle.text.specs.declared.line.Line.{Line}
+use Rattle.text.specs.declared.line.Lines.{Lines}
 
 -- the state after all elements
 abbrev pub scan {ℓ} : {S : Type ℓ} → (S → ℕ → S) → S → List ℕ → S
@@ -72,6 +72,11 @@ fresh_lines = record { ended = 0; bad = 0; line = fresh_line }
 -- the first bad line, after line n
 unfoldable pub bad_after : ℕ → ℕ → Bool → ℕ
 bad_after bad n good = (bad == 0) ⇒ (good ⇒ 0 else n) else bad
+
+-- the line since has ended, good or bad
+unfoldable pub line_ended : Bool → Lines → Lines
+unfolding bad_after
+line_ended good s = record { ended = s.ended + 1; bad = bad_after s.bad (s.ended + 1) good; line = fresh_line }
 
 unfoldable pub newline_in : Lines → Lines
 unfolding bad_after

@@ -8,16 +8,21 @@ ghost use Rattle.text.specs.Writing.{unreadable_text, refused_line};
 
 use decimal::bytes;
 
+// What the lent bytes have room for: 1,000 answers, and the image of 200 vertices and 800 edges.
+const MOST_CODES: usize = 2000;
+
+const MOST_IMAGE: usize = 7206;
+
 fn digits(out: &mut [u8], at: usize, n: u32) -> usize
     requires { at + length (digits 10 n) ≤ length out.old }
     ensures { Stored (digits 10 n) at out.old out.new result }
 {
     if n < 10 {
-        out[at] = (48 + n) as u8;
+        out[at] = b'0' + n as u8;
         return at + 1;
     }
     let p = digits(out, at, n / 10);
-    out[p] = (48 + n % 10) as u8;
+    out[p] = b'0' + (n % 10) as u8;
     p + 1
 }
 
@@ -25,7 +30,7 @@ fn spaced(out: &mut [u8], at: usize, n: u32) -> usize
     requires { at + length (spaced n) ≤ length out.old }
     ensures { Stored (spaced n) at out.old out.new result }
 {
-    out[at] = 32;
+    out[at] = b' ';
     digits(out, at + 1, n)
 }
 
@@ -34,10 +39,8 @@ fn numbers(out: &mut [u8], at: usize, words: &[u32]) -> usize
     ensures { Stored (concat_map spaced words.now) at out.old out.new result }
 {
     let mut p = at;
-    let mut k = 0;
-    while k < words.len() {
-        p = spaced(out, p, words[k]);
-        k += 1;
+    for &n in words {
+        p = spaced(out, p, n);
     }
     p
 }
@@ -49,7 +52,7 @@ fn line(out: &mut [u8], at: usize, word: &[u8], ns: &[u32]) -> usize
 {
     let p = bytes(out, at, word);
     let q = numbers(out, p, ns);
-    out[q] = 10;
+    out[q] = b'\n';
     q + 1
 }
 
@@ -58,9 +61,10 @@ fn answer(out: &mut [u8], at: usize, code: u32, number: u32) -> usize
     ensures { Stored (answer_line code number) at out.old out.new result }
 {
     if code == 0 {
-        return line(out, at, b"done", &[number]);
+        line(out, at, b"done", &[number])
+    } else {
+        line(out, at, b"refused", &[code])
     }
-    line(out, at, b"refused", &[code])
 }
 
 fn answers(out: &mut [u8], words: &[u32]) -> usize
@@ -68,10 +72,8 @@ fn answers(out: &mut [u8], words: &[u32]) -> usize
     ensures { Stored (answer_lines words.now) 0 out.old out.new result }
 {
     let mut at = 0;
-    let mut k = 0;
-    while k + 1 < words.len() {
-        at = answer(out, at, words[k], words[k + 1]);
-        k += 2;
+    for pair in words.chunks_exact(2) {
+        at = answer(out, at, pair[0], pair[1]);
     }
     at
 }
@@ -87,33 +89,31 @@ fn lines(codes: &[u32], image: &[u32], out: &mut [u8]) -> usize
     line(out, p, b"image", image)
 }
 
-// There is room for 1,000 answers and the image of 200 vertices and 800 edges; of more nothing is written.
+/// There is room for 1,000 answers and the image of 200 vertices and 800 edges; of more nothing is written.
 pub fn write(codes: &[u32], image: &[u32], out: &mut [u8; 100000]) -> usize
     ensures { WrittenAt (bounded_text codes.now image.now) result out.old
         out.new }
 {
-    if 2000 < codes.len() {
-        return 0;
-    }
-    if 7206 < image.len() {
+    if codes.len() > MOST_CODES || image.len() > MOST_IMAGE {
         return 0;
     }
     lines(codes, image, out)
 }
 
-// The line of unreadable input.
+/// The line of unreadable input.
 pub fn write_unreadable(n: u32, out: &mut [u8; 100000]) -> usize
     ensures { WrittenAt (unreadable_text n) result out.old out.new }
 {
     line(out, 0, b"unreadable", &[n])
 }
 
-// The line of an image that does not load.
+/// The line of an image that does not load.
 pub fn write_refused(code: u32, offset: u32, out: &mut [u8; 100000]) -> usize
     ensures { WrittenAt (refused_line code offset) result out.old out.new }
 {
     if code == 105 {
-        return line(out, 0, b"refused", &[code]);
+        line(out, 0, b"refused", &[code])
+    } else {
+        line(out, 0, b"refused", &[code, offset])
     }
-    line(out, 0, b"refused", &[code, offset])
 }

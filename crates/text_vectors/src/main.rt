@@ -1,9 +1,7 @@
 // Runs the text functions on worked examples (REFERENCE 11.2 to 11.4): a line of output for each.
 #![tactic(auto)]
 
-ghost use Rattle.std.specs.Prelude.{◌≤◌};
-
-use text::ReadVerdict;
+use text::Unreadable;
 
 // A write that fails is not told.
 fn write_bytes(rt: &impl Print, bytes: &[u8]) {
@@ -20,107 +18,45 @@ fn report(rt: &impl Print, good: bool, name: &[u8]) {
     write_bytes(rt, b"\n");
 }
 
-fn word(s: &[u32], i: usize) -> u32 {
-    if i < s.len() {
-        return s[i];
-    }
-    0
-}
-
-fn byte(s: &[u8], i: usize) -> u8 {
-    if i < s.len() {
-        return s[i];
-    }
-    0
-}
-
-// a begins with the words of b
-fn begins(a: &[u32], b: &[u32]) -> bool {
-    let mut i = 0;
-    while i < b.len() {
-        if word(a, i) != word(b, i) {
-            return false;
-        }
-        i += 1;
-    }
-    true
-}
-
-fn all_sevens(a: &[u32], from: usize) -> bool {
-    let mut i = from;
-    while i < a.len() {
-        if word(a, i) != 7 {
-            return false;
-        }
-        i += 1;
-    }
-    true
+fn all_sevens(words: &[u32]) -> bool {
+    words.iter().all(|&word| word == 7)
 }
 
 // 1 2 3 4 5 1 2 3 4 5 ..
-fn counts(a: &[u32]) -> bool {
-    let mut i = 0;
-    while i < a.len() {
-        if word(a, i) as usize != i % 5 + 1 {
+fn counts(words: &[u32]) -> bool {
+    for (i, &word) in words.iter().enumerate() {
+        if word as usize != i % 5 + 1 {
             return false;
         }
-        i += 1;
     }
     true
 }
 
-fn next(k: usize, n: usize) -> usize
-    requires { k ≤ n }
-    ensures { result ≤ n }
-{
-    if k < n {
-        return k + 1;
+// The bytes of line, again and again.
+fn repeat(text: &mut [u8], line: &[u8]) {
+    if line.is_empty() {
+        return;
     }
-    0
-}
-
-// The bytes of line up to the one at last, again and again.
-fn repeat(text: &mut [u8], line: &[u8], last: usize) {
-    let mut k = 0;
-    let mut i = 0;
-    while i < text.len() {
-        text[i] = byte(line, k);
-        k = next(k, last);
-        i += 1;
+    for i in 0..text.len() {
+        text[i] = line[i % line.len()];
     }
 }
 
 fn read_as(bytes: &[u8], calls: &mut [u32; 5000], want: &[u32]) -> bool {
-    let ReadVerdict::Calls(n) = text::read(bytes, calls) else {
-        return false;
-    };
-    if n != want.len() {
-        return false;
+    match text::read(bytes, calls) {
+        Ok(count) => {
+            count == want.len() && calls.starts_with(want) && all_sevens(&calls[want.len()..])
+        }
+        Err(_) => false,
     }
-    if begins(calls, want) {
-        return all_sevens(calls, n);
-    }
-    false
 }
 
 fn lines_as(bytes: &[u8], calls: &mut [u32; 5000]) -> bool {
-    let ReadVerdict::Calls(n) = text::read(bytes, calls) else {
-        return false;
-    };
-    if n != 5000 {
-        return false;
-    }
-    counts(calls)
+    text::read(bytes, calls) == Ok(5000) && counts(calls)
 }
 
 fn refused_as(bytes: &[u8], calls: &mut [u32; 5000], want: u32) -> bool {
-    let ReadVerdict::Unreadable(n) = text::read(bytes, calls) else {
-        return false;
-    };
-    if n != want {
-        return false;
-    }
-    all_sevens(calls, 0)
+    text::read(bytes, calls) == Err(Unreadable(want)) && all_sevens(calls)
 }
 
 fn reads(rt: &impl Print, bytes: &[u8], want: &[u32], name: &[u8]) {
@@ -148,22 +84,10 @@ fn reads_front(rt: &impl Print, text: &[u8], n: usize, name: &[u8]) {
 }
 
 // The text and then 255s.
-fn same_text(out: &[u8; 100000], n: usize, want: &[u8]) -> bool {
-    if n != want.len() {
-        return false;
-    }
-    let mut i = 0;
-    while i < out.len() {
-        if i < n {
-            if byte(out, i) != byte(want, i) {
-                return false;
-            }
-        } else if byte(out, i) != 255 {
-            return false;
-        }
-        i += 1;
-    }
-    true
+fn same_text(out: &[u8; 100000], count: usize, want: &[u8]) -> bool {
+    count == want.len()
+        && out.starts_with(want)
+        && out[want.len()..].iter().all(|&byte| byte == 255)
 }
 
 fn writes(rt: &impl Print, codes: &[u32], image: &[u32], want: &[u8], name: &[u8]) {
@@ -242,13 +166,13 @@ fn rests(rt: &impl Print) {
 
 // A text of 60,001 bytes, of which each takes the front.
 fn zeros(rt: &impl Print, text: &mut [u8]) {
-    repeat(text, b"0", 0);
+    repeat(text, b"0");
     refuses_front(rt, text, 60000, 1, b"60,000 bytes");
     refuses_front(rt, text, 60001, 0, b"60,001 bytes");
 }
 
 fn newlines(rt: &impl Print, text: &mut [u8]) {
-    repeat(text, b"\n", 0);
+    repeat(text, b"\n");
     refuses_front(rt, text, 1000, 1, b"1,000 empty lines");
     refuses_front(rt, text, 1001, 1001, b"1,001 empty lines");
     refuses_front(rt, text, 60000, 1001, b"60,000 empty lines");
@@ -256,7 +180,7 @@ fn newlines(rt: &impl Print, text: &mut [u8]) {
 }
 
 fn lines(rt: &impl Print, text: &mut [u8]) {
-    repeat(text, b"1 2 3 4 5\n", 9);
+    repeat(text, b"1 2 3 4 5\n");
     refuses_front(rt, text, 9991, 1000, b"999 lines and a rest");
     reads_front(rt, text, 10000, b"1,000 lines");
     refuses_front(rt, text, 10001, 1001, b"1,000 lines and a rest");

@@ -10,8 +10,9 @@ use Rattle.text.specs.Writing.{unreadable_text}
 use Rattle.text.specs.ImageLine.{read_image, line_words}
 use Rattle.text.proofs.Accepts.{five_a_line, words_most}
 use Rattle.text.proofs.ImageLines.{image_few}
-use Rattle.resume_text.specs.declared.InputVerdict.{InputVerdict}
-use Rattle.resume_text.specs.declared.InputVerdict.TheVariants.{Saved, Unreadable}
+use Rattle.std.specs.Prelude.{Result, Ok, Err}
+use Rattle.text.specs.declared.reading.Unreadable.{Unreadable}
+use Rattle.resume_text.specs.declared.Lengths.{Lengths}
 use Rattle.resume_text.specs.Input.{first_line, later_lines, input_verdict, read_input, calls_in}
 use Rattle.resume_text.proofs.Inputs.{told_saved, told_bad}
 use Rattle.resume_text.proofs.Front.{front_enough}
@@ -26,13 +27,15 @@ pub record InputRead (bytes words calls : List ℕ) (n k : ℕ) : Type 0 where
   pub calls_few : length (take k calls) ≤ 5000
   pub text : response (take n words) (take k calls) ≡ resumption bytes
 
-module _ (bytes : List ℕ) (v : InputVerdict) (read : v ≡ input_verdict (read_input bytes)) where
-  pub input_read : (n k : ℕ) (words words' slice slice' : List ℕ) → v ≡ Saved n k →
+module _ (bytes : List ℕ) (v : Result Lengths Unreadable) (read : v ≡ input_verdict (read_input bytes)) where
+  pub input_read : (r : Lengths) (words words' slice slice' : List ℕ) → v ≡ Ok r →
       words' ≡ overwritten (line_words (read_image (first_line bytes))) words → slice' ≡ overwritten (calls_in bytes) slice →
-      InputRead bytes words' slice' n k
+      InputRead bytes words' slice' r.image r.calls
   unfolding resumption
-  input_read n k words words' slice slice' e f g =
-      let t = told_saved bytes n k (sym e ∙ read) in
+  input_read r words words' slice slice' e f g =
+      let n = r.image in
+      let k = r.calls in
+      let t = told_saved bytes r (sym e ∙ read) in
       let start = line_words (read_image (first_line bytes)) in
       let ws = calls_in bytes in
       let p : take n words' ≡ start = over_front start words words' n t.image_words f in
@@ -46,9 +49,9 @@ module _ (bytes : List ℕ) (v : InputVerdict) (read : v ≡ input_verdict (read
         text = (λ i. response (p i) (q i)) ∙ sym (ap response_to t.input);
       }
 
-  pub bad_read : (n : ℕ) → v ≡ Unreadable n → unreadable_text n ≡ resumption bytes
+  pub bad_read : (u : Unreadable) → v ≡ Err u → unreadable_text u.0 ≡ resumption bytes
   unfolding resumption
-  bad_read n e = sym (ap response_to (told_bad bytes n 0 (sym e ∙ read)))
+  bad_read u e = sym (ap response_to (told_bad bytes u (sym e ∙ read)))
 
 -- a program that reads 460,001 bytes, or more, reads enough
 pub resumption_front : (bytes : List ℕ) (n : ℕ) → 460001 ≤ n → resumption (take n bytes) ≡ resumption bytes

@@ -9,8 +9,6 @@ use Rattle.lists.specs.Lists.{overwritten}
 use Rattle.lists.proofs.Picks.{same, differ, same?}
 use Rattle.image.specs.Image.{load, save}
 use Rattle.image_check.specs.Checks.{code_of, offset_of, verdict, load_code, load_offset}
-use Rattle.image_check.specs.declared.Verdict.{Verdict}
-use Rattle.image_check.specs.declared.Verdict.TheVariants.{Sound, BadHeader, BadRecord, BadIncidence}
 use Rattle.history.specs.Machine.{fresh, present}
 use Rattle.commands.specs.Calls.{calls_of}
 use Rattle.machine.specs.Machine.{answers, last}
@@ -19,8 +17,8 @@ use Rattle.machine.proofs.ListRows.{start_rows}
 use Rattle.machine.proofs.BadStart.{record_number, incidence_number, no_number}
 use Rattle.machine.proofs.Whole.{demand_3, answers_length}
 use Rattle.decimal.proofs.Stores.{over_front, over_fits}
-use Rattle.text.specs.declared.reading.ReadVerdict.{ReadVerdict}
-use Rattle.text.specs.declared.reading.ReadVerdict.TheVariants.{Calls, Unreadable}
+use Rattle.std.specs.Prelude.{Result, Ok, Err}
+use Rattle.text.specs.declared.reading.Unreadable.{Unreadable}
 use Rattle.text.specs.Reading.{read_text, call_words, verdict_of}
 use Rattle.text.specs.Writing.{write_text, unreadable_text, refused_line}
 use Rattle.text.proofs.Verdicts.{told_calls, told_unreadable}
@@ -29,6 +27,9 @@ use Rattle.engine.specs.declared.run.RunResult.{RunResult}
 use Rattle.engine.specs.Outcomes.{run_result}
 use Rattle.engine.proofs.Demand.{leaves_refused}
 use Rattle.transcript.specs.Transcript.{program_parameters, program_bounds, reply, reply_from, reply_to, transcript, response, run_text}
+use Rattle.std.specs.Prelude.{Ok, Err}
+use Rattle.image_check.specs.declared.BadImage.TheVariants.{Header, Record, Incidence}
+use Rattle.image_check.specs.Checks.{Verdict}
 
 -- what the programs lend beside start and calls
 abbrev pub lends : List ℕ → List ℕ → List ℕ → List ℕ → Lent
@@ -45,16 +46,16 @@ lends start calls answers end = record {
 
 start_rows_lem : (v : Verdict) → start_rows v 0 ≡ code_of v
 unfolding start_rows
-start_rows_lem Sound = refl
-start_rows_lem BadHeader = refl
-start_rows_lem (BadRecord at) = refl
-start_rows_lem (BadIncidence at) = refl
+start_rows_lem (Ok tt) = refl
+start_rows_lem (Err Header) = refl
+start_rows_lem (Err (Record at)) = refl
+start_rows_lem (Err (Incidence at)) = refl
 
 beside : (v : Verdict) → number_beside (code_of v) (offset_of v) ≡ offset_of v
-beside Sound = refl
-beside BadHeader = refl
-beside (BadRecord at) = refl
-beside (BadIncidence at) = refl
+beside (Ok tt) = refl
+beside (Err Header) = refl
+beside (Err (Record at)) = refl
+beside (Err (Incidence at)) = refl
 
 -- ---- the text of what a run left
 
@@ -152,10 +153,10 @@ pub record CallsRead (bytes calls : List ℕ) (n : ℕ) : Type 0 where
   pub few : length (take n calls) ≤ 5000
   pub text : response empty_words (take n calls) ≡ transcript bytes
 
-module _ (bytes : List ℕ) (n : ℕ) (v : ReadVerdict) (read : v ≡ verdict_of (read_text bytes)) where
-  pub calls_read : (slice slice' : List ℕ) → v ≡ Calls n → slice' ≡ overwritten (call_words (read_text bytes)) slice → CallsRead bytes slice' n
+module _ (bytes : List ℕ) (v : Result ℕ Unreadable) (read : v ≡ verdict_of (read_text bytes)) where
+  pub calls_read : (n : ℕ) (slice slice' : List ℕ) → v ≡ Ok n → slice' ≡ overwritten (call_words (read_text bytes)) slice → CallsRead bytes slice' n
   unfolding transcript
-  calls_read slice slice' e f =
+  calls_read n slice slice' e f =
       let t = told_calls (read_text bytes) n (sym e ∙ read) in
       let ws = call_words (read_text bytes) in
       let p : take n slice' ≡ ws = over_front ws slice slice' n t.1 f in
@@ -166,6 +167,6 @@ module _ (bytes : List ℕ) (n : ℕ) (v : ReadVerdict) (read : v ≡ verdict_of
         text = from_nothing (take n slice') ∙ ap reply p ∙ sym (ap reply_to t.0);
       }
 
-  pub unreadable_read : v ≡ Unreadable n → unreadable_text n ≡ transcript bytes
+  pub unreadable_read : (u : Unreadable) → v ≡ Err u → unreadable_text u.0 ≡ transcript bytes
   unfolding transcript
-  unreadable_read e = sym (ap reply_to (told_unreadable (read_text bytes) n (sym e ∙ read)))
+  unreadable_read u e = sym (ap reply_to (told_unreadable (read_text bytes) u (sym e ∙ read)))

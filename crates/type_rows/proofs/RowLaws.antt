@@ -1,6 +1,6 @@
 -- Which rows are taken, as facts, and what a verdict tells.
 use Prim.Native.Nat.{ℕ, zero, suc, ◌+◌, ◌/◌, ◌%◌, ◌^◌, ◌≤◌, ◌<◌}
-use mathlib.Core.Path.{◌≡◌, refl, sym, ap, ◌∙◌}
+use mathlib.Core.Path.{◌≡◌, refl, sym, ◌∙◌}
 use mathlib.Core.Logic.{◌↔◌}
 use mathlib.Core.Bool.{Bool, true, false}
 use mathlib.Core.List.{List, [], ◌∷◌}
@@ -8,14 +8,13 @@ use native.Mathlib.Omega.{arith}
 use native.Mathlib.Nat.{pow-suc, div-eq_of_lt, div-lt_iff_lt-mul, add-zero, add-suc, lt_of_lt_of_le, mod-eq_of_lt}
 use lib.Dec.{eqb, ltb, leb}
 use lib.ListN.{length, get_or, get_or-eq_default}
+use Rattle.std.specs.Prelude.{EachIndex}
 use lib.Pow.{pow_pos, pow_mono}
 use borrow.Author.Tests.{lt-ltb, ltb-true, ltb-false, le-leb, leb-true, eq-eqb, ne_eqb}
 use Rattle.lists.specs.Choice.{◌⇒◌else◌, within}
 use Rattle.lists.specs.Lists.{all}
 use Rattle.lists.proofs.Bools.{tf, and_true, and_both}
-use Rattle.type_rows.specs.declared.RowsVerdict.{RowsVerdict}
-use Rattle.type_rows.specs.declared.RowsVerdict.TheVariants.{Good, Bad}
-use Rattle.type_rows.specs.Rows.{row_fits, good_rows, rows_code, code_of_rows}
+use Rattle.type_rows.specs.Rows.{row_fits, good_rows, rows_code}
 use Rattle.type_rows.proofs.Words.{high_bits}
 
 -- ---- a row
@@ -86,47 +85,42 @@ unfolding good_rows
 facts_good rows h =
     and_both _ _ (and_both _ _ (le-leb 1 (length rows) h.some) (le-leb (length rows) 64 h.few)) (fit_all (length rows) rows h.fits)
 
--- ---- the verdict
+-- ---- the code of rows
 
-pub verdict_good : (rows : List ℕ) (v : RowsVerdict) → code_of_rows v ≡ rows_code rows → v ≡ Good → good_rows rows ≡ true
-verdict_good rows v e p = go (good_rows rows) (sym (ap code_of_rows p) ∙ e)
+pub verdict_good : (rows : List ℕ) → rows_code rows ≡ 0 → good_rows rows ≡ true
+verdict_good rows e = go (good_rows rows) e
   where
-    go : (b : Bool) → code_of_rows Good ≡ (b ⇒ 0 else 104) → b ≡ true
+    go : (b : Bool) → ◌≡◌ {A = ℕ} (b ⇒ 0 else 104) 0 → b ≡ true
     go true f = refl
     go false f = absurd (omega arith)
 
-pub verdict_bad : (rows : List ℕ) (v : RowsVerdict) → code_of_rows v ≡ rows_code rows → v ≡ Bad → good_rows rows ≡ false
-verdict_bad rows v e p = go (good_rows rows) (sym (ap code_of_rows p) ∙ e)
+pub verdict_bad : (rows : List ℕ) → rows_code rows ≡ 104 → good_rows rows ≡ false
+verdict_bad rows e = go (good_rows rows) e
   where
-    go : (b : Bool) → code_of_rows Bad ≡ (b ⇒ 0 else 104) → b ≡ false
+    go : (b : Bool) → ◌≡◌ {A = ℕ} (b ⇒ 0 else 104) 104 → b ≡ false
     go true f = absurd (omega arith)
     go false f = refl
 
--- ---- the ways through `check_rows`
+-- ---- the answer of `are_good`: what a test of every row, and what the number of rows alone answers
 
-bad : (rows : List ℕ) → (good_rows rows ≡ true → ⊥) → code_of_rows Bad ≡ rows_code rows
-bad rows h = go (good_rows rows) refl
+every_row : (rows : List ℕ) → EachIndex rows (λ s. get_or rows s 0 < 2 ^ length rows) → (s : ℕ) → get_or rows s 0 < 2 ^ length rows
+every_row rows h s = go (ltb s (length rows)) refl
   where
-    go : (b : Bool) → good_rows rows ≡ b → code_of_rows Bad ≡ (b ⇒ 0 else 104)
+    go : (b : Bool) → ltb s (length rows) ≡ b → get_or rows s 0 < 2 ^ length rows
+    go true l = h s (ltb-true s (length rows) l)
+    go false l = rw (get_or-eq_default rows 0 (ltb-false s (length rows) l)) (pow_pos (length rows))
+
+none_good : (rows : List ℕ) → (good_rows rows ≡ true → ⊥) → false ≡ good_rows rows
+none_good rows h = go (good_rows rows) refl
+  where
+    go : (b : Bool) → good_rows rows ≡ b → false ≡ b
     go true e = absurd (h e)
     go false e = refl
 
-pub no_row : (rows : List ℕ) → length rows ≡ 0 → code_of_rows Bad ≡ rows_code rows
-no_row rows z = bad rows (λ e. omega (arith, (good_facts rows e).some))
+pub good_by : (rows : List ℕ) (b : Bool) → 1 ≤ length rows → length rows ≤ 64
+    → (b ≡ true ↔ EachIndex rows (λ s. get_or rows s 0 < 2 ^ length rows)) → b ≡ good_rows rows
+good_by rows true some few h = sym (facts_good rows (record { some = some; few = few; fits = every_row rows (h.0 refl) }))
+good_by rows false some few h = none_good rows (λ e. tf (sym (h.1 (λ s l. (good_facts rows e).fits s))))
 
-pub over_64 : (rows : List ℕ) → 64 < length rows → code_of_rows Bad ≡ rows_code rows
-over_64 rows h = bad rows (λ e. omega (arith, (good_facts rows e).few))
-
-pub high_bit : (rows : List ℕ) (s : ℕ) → row_fits (length rows) (get_or rows s 0) ≡ false → code_of_rows Bad ≡ rows_code rows
-high_bit rows s e = bad rows (λ g. tf (sym (lt-ltb _ _ ((good_facts rows g).fits s)) ∙ e))
-
--- the rows before s fit
-abbrev pub Fit_to : List ℕ → ℕ → Type 0
-Fit_to rows s = (i : ℕ) → i < s → row_fits (length rows) (get_or rows i 0) ≡ true
-
-pub all_fitted : (rows : List ℕ) (s : ℕ) → 1 ≤ length rows → length rows ≤ 64 → length rows ≤ s → Fit_to rows s → code_of_rows Good ≡ rows_code rows
-all_fitted rows s some few h f = rw (facts_good rows (record { some = some; few = few; fits = λ i. go i (ltb i (length rows)) refl }))
-  where
-    go : (i : ℕ) (b : Bool) → ltb i (length rows) ≡ b → get_or rows i 0 < 2 ^ length rows
-    go i true l = ltb-true _ _ (f i (omega (arith, ltb-true i (length rows) l)))
-    go i false l = rw (get_or-eq_default rows 0 (ltb-false i (length rows) l)) (pow_pos (length rows))
+pub bad_by : (rows : List ℕ) → (1 ≤ length rows → 64 < length rows) → false ≡ good_rows rows
+bad_by rows h = none_good rows (λ e. let f = good_facts rows e in omega (arith, h f.some, f.few))

@@ -2,8 +2,6 @@
 use Rattle.std.specs.Prelude.{ℕ, ◌^◌, Bool, ◌&&◌, List, ltb, length}
 use Rattle.lists.specs.Choice.{◌⇒◌else◌, within}
 use Rattle.lists.specs.Lists.{all}
-use Rattle.type_rows.specs.declared.RowsVerdict.{RowsVerdict}
-use Rattle.type_rows.specs.declared.RowsVerdict.TheVariants.{Good, Bad}
 
 -- a row that has no bit n or above
 abbrev pub row_fits : ℕ → ℕ → Bool
@@ -16,8 +14,3 @@ good_rows rows = within 1 64 (length rows) && all (row_fits (length rows)) rows
 -- 104 where the rows are refused, 0 where they are taken
 abbrev pub rows_code : List ℕ → ℕ
 rows_code rows = good_rows rows ⇒ 0 else 104
-
--- the code of each verdict
-abbrev pub code_of_rows : RowsVerdict → ℕ
-code_of_rows Good = 0
-code_of_rows Bad = 104

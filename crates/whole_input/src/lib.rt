@@ -7,7 +7,7 @@ ghost use Rattle.whole_input.specs.Input.{count_of};
 
 use std::io::Read;
 
-// Reads until the bytes are full, the input ends or a read fails. How many there are: Err if a read failed after them.
+/// Reads until the bytes are full, the input ends or a read fails. How many there are: Err if a read failed after them.
 pub fn read_whole<R: Read>(reader: &mut R, bytes: &mut [u8]) -> Result<usize, usize>
     ensures in_bounds { count_of result ≤ length bytes.new }
     ensures in_order { Consumes (R.remaining reader.old) (R.remaining reader.new) (take (count_of result) bytes.new) }

@@ -1,47 +1,49 @@
-use mathlib.Core.Path.{sym, ap, ◌∙◌}
+use mathlib.Core.Path.{refl, sym, ap, ◌∙◌}
 use borrow.Author.Tests.{not-true, not-false}
-use lib.ListN.{length, replicate}
+use lib.ListN.{length, get_or, replicate}
 use Rattle.lists.specs.Lists.{member}
 use Rattle.graph.specs.WellFormed.{words_at}
 use Rattle.image.specs.Image.{edges_from, numbers_in}
 use Rattle.image_check.specs.Checks.{code_of}
+use Rattle.image_check.proofs.Verdicts.{code_not_zero}
 use Rattle.arrangement.specs.Scratch.{marked, settled}
 use Rattle.arrangement.proofs.Settles.{refused_is}
-use Rattle.arrangement.proofs.Items.{words_refused, words_missing, words_settled}
+use Rattle.arrangement.proofs.Items.{size_least, vertices_whole, edges_whole, words_refused, words_missing, words_settled}
 use Rattle.arrangement.proofs.arrange_words.Goals as goal
 
-pub returns-then-code-ne0 : goal.returns-then-code-ne0
-returns-then-code-ne0 c =
+pub returns-in-Err : goal.returns-in-Err
+returns-in-Err c =
     let a = c.args in
-    refused_is c.refused.result a.list.now c.code_of-code.result c.refused.ensures
-    ∙ words_refused a.words.now a.wanted.now a.list.now c.code_of-code.result
-    (c.code_of-code.ensures ∙ ap code_of c.check_saved.ensures) c.if-code-ne0.true a.vertex
+    refused_is c.refused.result a.list.now c.code.result c.refused.ensures
+    ∙ words_refused a.words.now a.wanted.now a.list.now c.code.result
+    (c.code.ensures ∙ ap code_of (sym c.in-Err.is ∙ c.check_saved.ensures)) (λ z. code_not_zero _ (sym c.code.ensures ∙ z)) a.vertex
+
+pub has_number-requires : goal.has_number-requires
+has_number-requires c = size_least c.args.words.now _ c.record_size.ensures.0
 
 pub returns-then-not-has_number : goal.returns-then-not-has_number
 returns-then-not-has_number c =
     let a = c.args in
-    let z = sym (c.code_of-code.ensures
-    ∙ ap code_of c.check_saved.ensures) ∙ c.if-code-ne0.false in
+    let z = ap code_of (sym c.check_saved.ensures ∙ c.in_default.is) in
     let size = c.record_size.ensures.0 in
-    let count = c.get.ensures in
     let part = c.part.ensures.0 in
+    let v = get_or a.words.now 0 0 in
+    let has = c.has_number.ensures v (vertices_whole a.words.now z _ v size refl _ part) in
     refused_is c.refused-then-not-has_number.result a.list.now 4 c.refused-then-not-has_number.ensures
     ∙ words_missing a.words.now z a.vertex a.wanted.now a.list.now
-    (sym (c.has_number.ensures ∙ (λ i. member a.vertex (numbers_in (size i) (count i) (part i)))) ∙ not-true _ c.if-not-has_number.true-raw)
+    (sym (has ∙ (λ i. member a.vertex (numbers_in (size i) v (part i)))) ∙ not-true _ c.if-not-has_number.true-raw)
 
 pub returns : goal.returns
 returns c =
     let a = c.args in
-    let z = sym (c.code_of-code.ensures
-    ∙ ap code_of c.check_saved.ensures)
-    ∙ c.if-code-ne0.false in
+    let z = ap code_of (sym c.check_saved.ensures ∙ c.in_default.is) in
     let size = c.record_size.ensures.0 in
-    let vs = c.get.ensures in
     let part = c.part.ensures.0 in
-    let es = c.get-2.ensures in
     let part2 = c.part-2.ensures.0 in
-    c.order_words.ensures
-    ∙ (λ i. settled 16 a.wanted.now (length (words_at (edges_from (es i) (part2 i)) a.vertex)) (marked (words_at (edges_from (es i) (part2 i)) a.vertex) (replicate 8002 0)) a.list.now)
+    let v = get_or a.words.now 0 0 in
+    let e = get_or a.words.now 1 0 in
+    let has = c.has_number.ensures v (vertices_whole a.words.now z _ v size refl _ part) in
+    c.order_words.ensures e (edges_whole a.words.now z e refl _ part2)
+    ∙ (λ i. settled 16 a.wanted.now (length (words_at (edges_from e (part2 i)) a.vertex)) (marked (words_at (edges_from e (part2 i)) a.vertex) (replicate 8002 0)) a.list.now)
     ∙ words_settled a.words.now z a.vertex a.wanted.now a.list.now
-    (sym (c.has_number.ensures ∙ (λ i. member a.vertex (numbers_in (size i) (vs i) (part i))))
-    ∙ not-false _ c.if-not-has_number.false-raw)
+    (sym (has ∙ (λ i. member a.vertex (numbers_in (size i) v (part i)))) ∙ not-false _ c.if-not-has_number.false-raw)

@@ -1,40 +1,43 @@
-use Prim.Native.Nat.{◌-◌, ◌≤◌}
-use mathlib.Core.Path.{◌≡◌, sym, ap, ◌∙◌}
+use mathlib.Core.Path.{sym, ap, ◌∙◌}
 use native.Mathlib.Omega.{arith}
+use Rattle.std.proofs.Common.{rules}
 use Rattle.lists.specs.Lists.{member}
-use Rattle.arrangement.proofs.Turns.{has_here, has_turn, none_left}
+use Rattle.image_check.proofs.Turns.{piece_of, none_left}
+use Rattle.arrangement.proofs.Turns.{has_here, has_turn, no_numbers}
 use Rattle.arrangement.proofs.has_number.Goals as goal
 
-pub loop-i-init : goal.loop-i-init
-loop-i-init c = let e : c.args.count - 0 ≡ c.args.count = omega arith in (omega arith, omega arith, rw e)
-
-pub returns-then-get-number : goal.returns-then-get-number
-returns-then-get-number c =
+pub returns-then-record-number : goal.returns-then-record-number
+returns-then-record-number c =
     let a = c.args in
-    let l = c.loop-i in
-    has_here a.size a.part.now a.count l.i l.at c.loop-i-test.true a.number c.get.result c.get.ensures c.if-get-number.true ∙ l.invariant.2
+    let l = c.loop-record in
+    let st = c.in-Some.ensures.steps in
+    let cut = st.1.0 in
+    let long = st.1.1 ∙ l.invariant.2 in
+    λ count e.
+    let v = l.invariant.3 count e in
+    let t = piece_of a.size v.0 _ _ _ c.requires cut long v.1 in
+    has_here a.size v.0 t.0 _ _ _ c.requires t.1 cut long a.number c.if-record-number.true ∙ v.2
 
-pub loop-i-preserved : goal.loop-i-preserved
-loop-i-preserved c =
+pub loop-record-preserved : goal.loop-record-preserved
+loop-record-preserved c =
     let a = c.args in
-    let l = c.loop-i in (
-      omega arith,
-      omega (arith, l.invariant.1, c.requires),
-      has_turn a.size a.part.now a.count l.i l.at c.loop-i-test.true a.number c.get.result c.get.ensures c.if-get-number.false ∙ l.invariant.2,
+    let l = c.loop-record in
+    let st = c.in-Some.ensures.steps in
+    let cut = st.1.0 in
+    let long = st.1.1 ∙ l.invariant.2 in (
+      search rules,
+      search rules,
+      st.0 ∙ l.invariant.2,
+      λ count e.
+          let v = l.invariant.3 count e in
+          let t = piece_of a.size v.0 _ _ _ c.requires cut long v.1 in
+          (t.0, t.2, has_turn a.size v.0 t.0 _ _ _ c.requires t.1 cut long a.number c.if-record-number.false ∙ v.2),
     )
 
 pub returns : goal.returns
-returns c =
+returns c = λ count e.
     let a = c.args in
-    let l = c.loop-i in
-    let h : a.count ≤ l.i = omega arith in
-    sym (ap (member a.number) (none_left a.size a.part.now a.count l.i l.at h)) ∙ l.invariant.2
-
-pub overflow_add-at : goal.overflow_add-at
-overflow_add-at c = omega (arith, c.loop-i.invariant.1, c.requires)
-
-pub overflow_add-i : goal.overflow_add-i
-overflow_add-i c = omega arith
-
-pub loop-i-smaller : goal.loop-i-smaller
-loop-i-smaller c = omega arith
+    let l = c.loop-record in
+    let v = l.invariant.3 count e in
+    let z = none_left a.size v.0 _ v.1 (omega (arith, c.in-None.ensures.steps.1.0, l.invariant.2)) in
+    sym (ap (member a.number) (no_numbers a.size v.0 l.record-iterator.rest.now z)) ∙ v.2

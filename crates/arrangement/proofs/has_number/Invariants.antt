@@ -1,13 +1,12 @@
-use Prim.Native.Nat.{◌-◌, ◌*◌, ◌≤◌}
+use Prim.Native.Nat.{ℕ, ◌*◌}
 use mathlib.Core.Path.{◌≡◌}
-use lib.ListN.{drop}
+use lib.ListN.{length}
 use Rattle.lists.specs.Lists.{member}
 use Rattle.image.specs.Image.{numbers_in}
 use Rattle.arrangement.proofs.has_number.Given as goal
 
-abbrev pub invariant-loop-i : goal.invariant-loop-i
-invariant-loop-i l =
-    (l.i ≤ l.count) × (l.at ≤ 6 * l.i) × (member l.number (numbers_in l.size (l.count - l.i) (drop l.at l.part)) ≡ member l.number (numbers_in l.size l.count l.part))
-
-abbrev pub decreases-loop-i : goal.decreases-loop-i
-decreases-loop-i l = l.count - l.i
+abbrev pub invariant-loop-record : goal.invariant-loop-record
+invariant-loop-record l =
+    goal.iterator-loop-record.can_next l.record-iterator × goal.iterator-loop-record.is_finite l.record-iterator × (l.record-iterator.size ≡ l.size)
+    × ((count : ℕ) → l.size * count ≡ length l.part → (left : ℕ) × (l.size * left ≡ length l.record-iterator.rest.now)
+    × (member l.number (numbers_in l.size left l.record-iterator.rest.now) ≡ member l.number (numbers_in l.size count l.part)))

@@ -1,83 +1,47 @@
-use Prim.Native.Nat.{ℕ, ◌-◌, ◌*◌, ◌≤◌}
-use mathlib.Core.Path.{◌≡◌, refl, sym, ap, ◌∙◌}
+use mathlib.Core.Path.{sym, ap, ◌∙◌}
 use native.Mathlib.Omega.{arith}
 use lib.ListN.{length}
+use Rattle.std.proofs.Common.{rules}
+use Rattle.image_check.proofs.Turns.{piece_of, parted, none_left}
 use Rattle.arrangement.specs.Scratch.{marked}
 use Rattle.arrangement.proofs.Turns.{ends_turn, ends_count, no_words}
 use Rattle.arrangement.proofs.mark_words.Goals as goal
 
-pub loop-i-init : goal.loop-i-init
-loop-i-init c = let e : c.args.count - 0 ≡ c.args.count = omega arith in (omega arith, omega arith, omega arith, refl, rw e (omega arith), rw e)
-
-pub loop-i-preserved : goal.loop-i-preserved
-loop-i-preserved c =
+pub loop-record-preserved : goal.loop-record-preserved
+loop-record-preserved c =
     let a = c.args in
-    let l = c.loop-i in
-    let t = c.loop-i-test.true in
+    let l = c.loop-record in
+    let st = c.in-Some.ensures.steps in
+    let cut = st.1.0 in
+    let long = st.1.1 ∙ l.invariant.2 in
     let o = c.mark_end-out in
-    let b = c.mark_end-back in
-    let n : 2 * c.wide-word.result ≡ 2 * _ =
-    ap (λ (x : ℕ). 2 * x) (c.wide-word.ensures.0
-    ∙ c.get.ensures) in (
-      omega arith,
-      omega (arith, l.invariant.1),
-      omega (arith, l.invariant.2, o.ensures.1, b.ensures.1),
-      omega (arith, o.auto, b.auto, l.invariant.3),
-      omega (
-        arith,
-        l.invariant.4,
-        ends_count a.vertex a.part.now a.count l.i l.at t
-            (2 * c.wide-word.result)
-            c.get-in-loop-i.result c.get-in-loop-i-2.result o.result b.result n
-            c.get-in-loop-i.ensures c.get-in-loop-i-2.ensures o.ensures.0 b.ensures.0,
-      ),
-      ends_turn a.vertex a.part.now a.count l.i l.at t l.items o.new.items b.new.items
-          (2 * c.wide-word.result)
-          c.get-in-loop-i.result c.get-in-loop-i-2.result n
-          c.get-in-loop-i.ensures c.get-in-loop-i-2.ensures o.ensures.2 b.ensures.2
-          ∙ l.invariant.5,
+    let b = c.mark_end-back in (
+      search rules,
+      search rules,
+      st.0 ∙ l.invariant.2,
+      omega (arith, parted c.in-Some.record.now c.next.new.self.rest.now l.record-iterator.rest.now 6 cut long, o.ensures.1, b.ensures.1, l.invariant.3),
+      λ count e.
+          let v = l.invariant.4 count e in
+          let t = piece_of 6 v.0 _ _ _ (omega arith) cut long v.1 in (
+            t.0,
+            t.2,
+            omega (arith, v.2, ends_count a.vertex v.0 t.0 _ _ _ t.1 cut long _ _ o.ensures.0 b.ensures.0),
+            ends_turn a.vertex v.0 t.0 _ _ _ t.1 cut long l.items o.new.items b.new.items o.ensures.2 b.ensures.2 ∙ v.3,
+          ),
     )
 
-pub returns : goal.returns
-returns c =
+pub returns-clause-value : goal.returns-clause-value
+returns-clause-value c = λ count e.
     let a = c.args in
-    let l = c.loop-i in
-    let h : a.count ≤ l.i = omega arith in
-    let e = no_words a.vertex a.part.now a.count l.i l.at h in (
-      omega (arith, l.invariant.4, ap length e),
-      omega (arith, l.invariant.0, l.invariant.2),
-      sym (ap (λ xs. marked xs l.items) e) ∙ l.invariant.5,
-    )
+    let l = c.loop-record in
+    let v = l.invariant.4 count e in
+    let z = none_left 6 v.0 _ v.1 (omega (arith, c.in-None.ensures.steps.1.0, l.invariant.2)) in
+    omega (arith, v.2, ap length (no_words a.vertex v.0 l.record-iterator.rest.now z))
 
-pub overflow_mul-word : goal.overflow_mul-word
-overflow_mul-word c = omega (arith, c.wide-word.ensures.1)
-
-pub overflow_add-at : goal.overflow_add-at
-overflow_add-at c = omega (arith, c.loop-i.invariant.1)
-
-pub overflow_add-at-in-loop-i : goal.overflow_add-at-in-loop-i
-overflow_add-at-in-loop-i c = omega (arith, c.loop-i.invariant.1)
-
-pub overflow_add-word : goal.overflow_add-word
-overflow_add-word c = omega (arith, c.wide-word.ensures.1)
-
-pub overflow_add-found : goal.overflow_add-found
-overflow_add-found c = omega (arith, c.mark_end-out.ensures.1, c.mark_end-back.ensures.1)
-
-pub overflow_add-found-in-loop-i : goal.overflow_add-found-in-loop-i
-overflow_add-found-in-loop-i c =
-    omega (
-      arith,
-      c.mark_end-out.ensures.1,
-      c.mark_end-back.ensures.1,
-      c.loop-i.invariant.2,
-    )
-
-pub overflow_add-at-in-loop-i-2 : goal.overflow_add-at-in-loop-i-2
-overflow_add-at-in-loop-i-2 c = omega (arith, c.loop-i.invariant.1)
-
-pub overflow_add-i : goal.overflow_add-i
-overflow_add-i c = omega arith
-
-pub loop-i-smaller : goal.loop-i-smaller
-loop-i-smaller c = omega arith
+pub returns-clause-marked : goal.returns-clause-marked
+returns-clause-marked c = λ count e.
+    let a = c.args in
+    let l = c.loop-record in
+    let v = l.invariant.4 count e in
+    let z = none_left 6 v.0 _ v.1 (omega (arith, c.in-None.ensures.steps.1.0, l.invariant.2)) in
+    sym (ap (λ xs. marked xs l.items) (no_words a.vertex v.0 l.record-iterator.rest.now z)) ∙ v.3

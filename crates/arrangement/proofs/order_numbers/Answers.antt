@@ -5,6 +5,4 @@ use Rattle.arrangement.proofs.order_numbers.Goals as goal
 pub returns : goal.returns
 returns c =
     let a = c.args in
-    c.settle.ensures
-    ∙ (λ i. settled a.kind a.wanted.now (c.wide.ensures.0 i)
-    (c.mark_numbers.ensures i) a.list.now)
+    c.settle.ensures ∙ (λ i. settled a.kind a.wanted.now a.count (c.mark_numbers.ensures a.count c.requires.whole i) a.list.now)

@@ -3,8 +3,7 @@ use Rattle.arrangement.specs.Scratch.{settled}
 use Rattle.arrangement.proofs.order_words.Goals as goal
 
 pub returns : goal.returns
-returns c =
+returns c = λ count e.
     let a = c.args in
-    c.settle.ensures
-    ∙ (λ i. settled 16 a.wanted.now (c.mark_words-found.ensures.0 i)
-    (c.mark_words-found.ensures.2 i) a.list.now)
+    let f = c.mark_words-found.ensures in
+    c.settle.ensures ∙ (λ i. settled 16 a.wanted.now (f.value count e i) (f.marked count e i) a.list.now)

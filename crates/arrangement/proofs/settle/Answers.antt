@@ -21,7 +21,7 @@ returns-then-list-calls c =
     refused_is c.refused-then-list-calls.result a.list.now 112 c.refused-then-list-calls.ensures
     ∙ settle_short a.kind a.wanted.now a.count a.items.now a.list.now c.if-wanted-count.false
     c.take_off.result c.take_off.ensures
-    (not-false _ c.if-not-take_off.false-raw) c.one_less-calls.result c.one_less-calls.ensures c.if-list-calls.true
+    (not-false _ c.if-not-take_off.false-raw) c.saturating_sub-calls.result c.saturating_sub-calls.ensures c.if-list-calls.true
 
 pub returns : goal.returns
 returns c =
@@ -29,5 +29,5 @@ returns c =
     settle_written a.kind a.wanted.now a.count a.items.now a.list.now c.if-wanted-count.false
     c.take_off.result
     c.take_off.ensures (not-false _ c.if-not-take_off.false-raw)
-    c.one_less-calls.result c.one_less-calls.ensures c.if-list-calls.false
+    c.saturating_sub-calls.result c.saturating_sub-calls.ensures c.if-list-calls.false
     c.write_calls.new.list c.write_calls.ensures

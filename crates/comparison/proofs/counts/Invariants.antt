@@ -1,15 +1,14 @@
-use Prim.Native.Nat.{◌+◌, ◌-◌, ◌*◌, ◌≤◌}
+use Prim.Native.Nat.{ℕ, ◌+◌, ◌*◌, ◌≤◌}
 use mathlib.Core.Path.{◌≡◌}
-use lib.ListN.{drop}
+use lib.ListN.{length}
 use Rattle.comparison.specs.Comparison.{matches, alike}
 use Rattle.comparison.specs.Walks.{paired_from}
 use Rattle.comparison.proofs.counts.Given as goal
 
-abbrev pub invariant-loop-i : goal.invariant-loop-i
-invariant-loop-i l =
-    (l.i ≤ l.count) × (l.at ≡ 6 * l.i) × (l.matched ≤ l.i) × (l.agreeing ≤ l.i)
-    × (l.matched + paired_from matches l.places l.b (l.count - l.i) (drop l.at l.a) ≡ paired_from matches l.places l.b l.count l.a)
-    × (l.agreeing + paired_from (alike l.tolerance) l.places l.b (l.count - l.i) (drop l.at l.a) ≡ paired_from (alike l.tolerance) l.places l.b l.count l.a)
-
-abbrev pub decreases-loop-i : goal.decreases-loop-i
-decreases-loop-i l = l.count - l.i
+abbrev pub invariant-loop-record : goal.invariant-loop-record
+invariant-loop-record l =
+    goal.iterator-loop-record.can_next l.record-iterator × goal.iterator-loop-record.is_finite l.record-iterator × (l.record-iterator.size ≡ 6)
+    × (l.matched + length l.record-iterator.rest.now ≤ length l.a) × (l.agreeing + length l.record-iterator.rest.now ≤ length l.a)
+    × ((count : ℕ) → 6 * count ≡ length l.a → (left : ℕ) × (6 * left ≡ length l.record-iterator.rest.now)
+    × (l.matched + paired_from matches l.places l.b left l.record-iterator.rest.now ≡ paired_from matches l.places l.b count l.a)
+    × (l.agreeing + paired_from (alike l.tolerance) l.places l.b left l.record-iterator.rest.now ≡ paired_from (alike l.tolerance) l.places l.b count l.a))

@@ -1,13 +1,13 @@
-use Prim.Native.Nat.{◌-◌, ◌*◌, ◌≤◌}
+use Prim.Native.Nat.{ℕ, ◌+◌, ◌-◌, ◌*◌}
 use mathlib.Core.Path.{◌≡◌}
-use lib.ListN.{length, drop}
+use lib.ListN.{length}
 use Rattle.comparison.specs.Walks.{noted}
 use Rattle.comparison.proofs.note.Given as goal
 
 abbrev pub invariant-loop-i : goal.invariant-loop-i
 invariant-loop-i l =
-    (l.i ≤ l.count) × (l.at ≡ 6 * l.i) × (length l.places ≡ length l.initial.places)
-    × (noted l.places l.i (l.count - l.i) (drop l.at l.part) ≡ noted l.initial.places 0 l.count l.part)
-
-abbrev pub decreases-loop-i : goal.decreases-loop-i
-decreases-loop-i l = l.count - l.i
+    goal.iterator-loop-i.can_next l.i-iterator × goal.iterator-loop-i.is_finite l.i-iterator × (l.i-iterator.iter.size ≡ 6)
+    × (6 * l.i-iterator.count + length l.i-iterator.iter.rest.now ≡ length l.part)
+    × ((count : ℕ) → 6 * count ≡ length l.part →
+    (6 * (count - l.i-iterator.count) ≡ length l.i-iterator.iter.rest.now)
+    × (noted l.places l.i-iterator.count (count - l.i-iterator.count) l.i-iterator.iter.rest.now ≡ noted l.initial.places 0 count l.part))

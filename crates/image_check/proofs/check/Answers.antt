@@ -7,6 +7,7 @@ use Rattle.image.specs.Image.{record_size}
 use Rattle.image_check.proofs.Capacity.{counts_le}
 use Rattle.image.proofs.Sizes.{size_range, record_size_lem}
 use Rattle.image_check.proofs.ScratchPass.{bad_head, bad_counts, incidences_few, vertices_all, edges_all, none_sound, verdict_by}
+use native.Mathlib.Nat.{mul-le-mul_right}
 use Rattle.image_check.proofs.check.Goals as goal
 
 pub returns-then-not-sound : goal.returns-then-not-sound
@@ -19,15 +20,14 @@ pub returns-then-not-counts : goal.returns-then-not-counts
 returns-then-not-counts c =
     let a = c.args in
     let s = c.sound in
+    let x = c.get-v in
+    let y = c.get-e in
+    let vc = c.min in
+    let ec = c.min-2 in
     let n = c.counts in
     let k = sym n.ensures ∙ not-true n.result c.if-not-counts.true-raw in
     bad_counts a.words.now (sym s.ensures ∙ not-false s.result c.if-not-sound.false-raw) (checked a.vertices a.edges a.types)
-    (rw (
-      c.get-v.ensures,
-      c.get-e.ensures,
-      c.smaller-vcap.ensures,
-      c.smaller-ecap.ensures,
-    ) at k)
+    (rw (x.ensures, y.ensures, vc.ensures, ec.ensures) at k)
 
 pub returns-then-v-eq0 : goal.returns-then-v-eq0
 returns-then-v-eq0 c =
@@ -35,8 +35,8 @@ returns-then-v-eq0 c =
     let s = c.sound in
     let x = c.get-v in
     let y = c.get-e in
-    let vc = c.smaller-vcap in
-    let ec = c.smaller-ecap in
+    let vc = c.min in
+    let ec = c.min-2 in
     let n = c.counts in
     let h = sym s.ensures ∙ not-false s.result c.if-not-sound.false-raw in
     let k = sym n.ensures ∙ not-false n.result c.if-not-counts.false-raw in
@@ -45,31 +45,31 @@ returns-then-v-eq0 c =
     x.ensures y.ensures k c.if-v-eq0.true
     ∙ ap₂ (λ (m e : ℕ). verdict (bounds m e a.types) a.words.now) vc.ensures ec.ensures
 
-pub all-requires : goal.all-requires
-all-requires c =
+pub invariant_of-parts : goal.invariant_of-parts
+invariant_of-parts c =
     let a = c.args in
     let s = c.sound in
     let x = c.get-v in
     let y = c.get-e in
-    let vc = c.smaller-vcap in
-    let ec = c.smaller-ecap in
+    let vc = c.min in
+    let ec = c.min-2 in
     let n = c.counts in
     let h = sym s.ensures ∙ not-false s.result c.if-not-sound.false-raw in
     let k = sym n.ensures ∙ not-false n.result c.if-not-counts.false-raw in
     let l = counts_le vc.result ec.result x.result y.result k in
     let le : y.result ≤ 4000 = omega (arith, l.1, ec.ensures) in
-    let q = c.part-3 in
-    let z = c.record_size in (
-      z.ensures.1,
-      omega (arith, l.0, vc.ensures),
-      le,
-      omega (arith, ec.ensures),
-      incidences_few a.words.now h y.result y.ensures le q.result.now q.ensures.0,
-      omega (arith, z.ensures.0, (size_range (record_size a.words.now) (record_size_lem a.words.now)).0),
-      omega (arith, vc.ensures),
-      vertices_all a.words.now h z.result x.result z.ensures.0 x.ensures c.part.result.now c.part.ensures.0,
-      edges_all a.words.now h y.result y.ensures c.part-2.result.now c.part-2.ensures.0,
-    )
+    let z = c.record_size in
+    let hv = vertices_all a.words.now h z.result x.result z.ensures.0 x.ensures c.part.result.now c.part.ensures.0 in
+    let he = edges_all a.words.now h y.result y.ensures c.part-2.result.now c.part-2.ensures.0 in
+    record {
+      sizes = record {
+        least = omega (arith, z.ensures.0, (size_range (record_size a.words.now) (record_size_lem a.words.now)).0);
+        most = z.ensures.1;
+        vertices = omega (arith, hv, l.0, vc.ensures, mul-le-mul_right x.result z.ensures.1);
+        edges = omega (arith, he, le);
+        incidences = incidences_few a.words.now h y.result y.ensures le c.part-3.result.now c.part-3.ensures.0;
+      };
+    }
 
 pub returns : goal.returns
 returns c =
@@ -77,8 +77,8 @@ returns c =
     let s = c.sound in
     let x = c.get-v in
     let y = c.get-e in
-    let vc = c.smaller-vcap in
-    let ec = c.smaller-ecap in
+    let vc = c.min in
+    let ec = c.min-2 in
     let n = c.counts in
     let h = sym s.ensures ∙ not-false s.result c.if-not-sound.false-raw in
     let k = sym n.ensures ∙ not-false n.result c.if-not-counts.false-raw in
@@ -89,5 +89,7 @@ returns c =
     verdict_by a.words.now h
     (λ i. omega (arith, c.type_inv.words i)) vc.result
     ec.result a.types z.result x.result y.result
-    z.ensures.0 x.ensures y.ensures k u.result.now v.result.now w.result.now u.ensures.0 v.ensures.0 w.ensures.0 c.all.result c.all.ensures
+    z.ensures.0 x.ensures y.ensures k u.result.now v.result.now w.result.now u.ensures.0 v.ensures.0 w.ensures.0 c.check.result
+    (c.check.ensures x.result y.result (vertices_all a.words.now h z.result x.result z.ensures.0 x.ensures u.result.now u.ensures.0)
+    (edges_all a.words.now h y.result y.ensures v.result.now v.ensures.0))
     ∙ ap₂ (λ (m e : ℕ). verdict (bounds m e a.types) a.words.now) vc.ensures ec.ensures

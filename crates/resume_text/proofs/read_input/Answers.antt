@@ -1,19 +1,34 @@
-use mathlib.Core.Path.{refl}
-use Rattle.resume_text.proofs.Inputs.{image_read, other_read}
+use mathlib.Core.Path.{◌≡◌, sym, ap, ◌∙◌}
+use Rattle.std.proofs.Common.{rules}
+use Rattle.std.specs.Prelude.{Err}
+use Rattle.text.specs.ImageLine.{line_verdict}
+use Rattle.resume_text.specs.Input.{behind_verdict}
+use Rattle.resume_text.proofs.Inputs.{first_cut, later_cut, none_read, bad_read, both_read}
 use Rattle.resume_text.proofs.read_input.Goals as goal
 
-pub returns-in-Words : goal.returns-in-Words
-returns-in-Words c =
-    let a = c.args in
-    let f = c.first_length-end in
-    let i = c.read_image-verdict in
-    let g = c.in-Words in
-    let b = c.read_behind in let all = image_read a.bytes.now f.result f.ensures.0 _ i.ensures.verdict b.result a.words.now i.new.out a.calls.now b.new.calls
-    i.ensures.words g.count g.is b.ensures.value b.ensures.calls_after in record { value = all.0; words_after = all.1.0; calls_after = all.1.1 }
+pub returns-in_err-image-clause-verdict : goal.returns-in_err-image-clause-verdict
+returns-in_err-image-clause-verdict c =
+    let bytes = c.args.bytes.now in
+    let b = c.in_err-image.ensures in
+    let n = none_read bytes (sym b.ok_part ∙ c.read_image.ensures.verdict ∙ ap line_verdict (first_cut bytes _ c.first_length-end.ensures.value)) in
+    let v = b.value in
+    let k = simp b.ok_part at v in
+    let e : c.from_residual.result ≡ Err (record { 0 = 1 }) = search rules in
+    e ∙ n.0
 
-pub returns-in-Unreadable : goal.returns-in-Unreadable
-returns-in-Unreadable c =
-    let a = c.args in
+pub returns-in_err-calls-clause-verdict : goal.returns-in_err-calls-clause-verdict
+returns-in_err-calls-clause-verdict c =
+    let bytes = c.args.bytes.now in
     let f = c.first_length-end in
-    let i = c.read_image-verdict in let all = other_read a.bytes.now f.result f.ensures.0 _ i.ensures.verdict _ a.words.now i.new.out a.calls.now a.calls.now
-    i.ensures.words c.in-Unreadable.is refl refl in record { value = all.0; words_after = all.1.0; calls_after = all.1.1 }
+    let i = sym c.in_ok-image.ensures.ok_part ∙ c.read_image.ensures.verdict ∙ ap line_verdict (first_cut bytes _ f.ensures.value) in
+    let v = c.in_err-calls.ensures.verdict ∙ ap behind_verdict (later_cut bytes _ f.ensures.value) in
+    let e : c.from_residual-in_err-calls.result ≡ Err c.in_err-calls.field-0.0 = search rules in
+    e ∙ (bad_read bytes c.in_ok-image.image c.in_err-calls.field-0.0 i v).0
+
+pub returns-clause-verdict : goal.returns-clause-verdict
+returns-clause-verdict c =
+    let bytes = c.args.bytes.now in
+    let f = c.first_length-end in
+    let i = sym c.in_ok-image.ensures.ok_part ∙ c.read_image.ensures.verdict ∙ ap line_verdict (first_cut bytes _ f.ensures.value) in
+    let v = c.in_ok-calls.ensures.verdict ∙ ap behind_verdict (later_cut bytes _ f.ensures.value) in
+    (both_read bytes _ _ i v).0

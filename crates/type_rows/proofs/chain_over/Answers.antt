@@ -12,16 +12,15 @@ loop-s-init c =
     let a = c.args in
     let p = c.requires in
     let few = (good_facts _ p.rows_value).few in
-    (few, omega arith, chain_word a.rows.now a.k a.words.now p.words_value (omega arith), chain_start a.rows.now a.k a.words.now p.words_value)
+    (few, chain_word a.rows.now a.k a.words.now p.words_value (omega arith), chain_start a.rows.now a.k a.words.now p.words_value)
 
 pub loop-s-preserved : goal.loop-s-preserved
 loop-s-preserved c =
     let l = c.loop-s in (
       l.invariant.0,
-      omega arith,
-      l.invariant.2,
-      chain_turn c.args.rows.now c.args.k l.words _ l.s _ c.requires.k_in_bounds (omega arith) l.invariant.2 c.chained.ensures l.invariant.3,
+      l.invariant.1,
+      chain_turn c.args.rows.now c.args.k l.words _ l.s _ c.requires.k_in_bounds (omega arith) l.invariant.1 c.chained.ensures l.invariant.2,
     )
 
 pub returns : goal.returns
-returns c = chain_end c.args.rows.now _ _ _ c.loop-s-test.false c.loop-s.invariant.3
+returns c = chain_end c.args.rows.now _ _ _ (omega arith) c.loop-s.invariant.2

@@ -10,4 +10,4 @@ returns c =
     let l = c.loop-k in
     let rows = c.args.rows.now in
     let e : l.k ≡ length rows = omega arith in
-    l.invariant.1 ∙ ap (λ (k : ℕ). closure_rows (length rows) (below_by rows k)) e
+    l.invariant ∙ ap (λ (k : ℕ). closure_rows (length rows) (below_by rows k)) e

@@ -1,12 +1,10 @@
 -- `type_rows::closure` meets its contract.
-use mathlib.Core.Path.{sym, ◌∙◌}
-use Rattle.type_rows.proofs.RowLaws.{verdict_good, verdict_bad}
+use Rattle.std.proofs.Common.{sym, ◌∙◌}
 use Rattle.type_rows.proofs.Closing.{closure_good, closure_bad}
 use Rattle.type_rows.proofs.closure.Goals as goal
 
-pub returns-in-Good : goal.returns-in-Good
-returns-in-Good c =
-    c.closed.ensures ∙ sym (closure_good _ (verdict_good _ _ c.check_rows-verdict.ensures c.in-Good.is))
+pub returns-then-are_good : goal.returns-then-are_good
+returns-then-are_good c = c.closed.ensures ∙ sym (closure_good _ (sym c.if-are_good.ensures))
 
-pub returns-in-Bad : goal.returns-in-Bad
-returns-in-Bad c = sym (closure_bad _ (verdict_bad _ _ c.check_rows-verdict.ensures c.in-Bad.is))
+pub returns-else-are_good : goal.returns-else-are_good
+returns-else-are_good c = sym (closure_bad _ (sym c.if-are_good.ensures))

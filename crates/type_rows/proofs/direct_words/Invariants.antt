@@ -1,5 +1,5 @@
--- What the loop of `type_rows::direct_words` keeps, and what it makes less.
-use Rattle.std.proofs.Common.{◌-◌, ◌≤◌, length}
+-- What the loop of `type_rows::direct_words` keeps.
+use Rattle.std.proofs.Common.{◌≤◌, length}
 use Rattle.type_rows.specs.Types.{below_by}
 use Rattle.type_rows.specs.Closure.{word_of}
 use Rattle.type_rows.proofs.Closing.{Filled}
@@ -7,7 +7,4 @@ use Rattle.type_rows.proofs.direct_words.Given as goal
 
 abbrev pub invariant-loop-s : goal.invariant-loop-s
 invariant-loop-s l =
-    (length l.rows ≤ 64) × (l.s ≤ length l.rows) × Filled (λ i. word_of (length l.rows) (below_by l.rows 0 i)) (λ i. 0) l.s l.words
-
-abbrev pub decreases-loop-s : goal.decreases-loop-s
-decreases-loop-s l = length l.rows - l.s
+    (length l.rows ≤ 64) × Filled (λ i. word_of (length l.rows) (below_by l.rows 0 i)) (λ i. 0) l.s l.words

@@ -1,131 +1,74 @@
 use mathlib.Core.Path.{◌≡◌, sym, ap, ◌∙◌}
-use mathlib.Core.Bool.{true}
-use Prim.Native.Nat.{◌≤◌, ◌/◌}
+use mathlib.Core.Bool.{Bool, true, false}
+use Prim.Native.Nat.{ℕ, ◌≤◌, ◌/◌}
+use mathlib.Core.List.{List}
 use native.Mathlib.Omega.{arith}
+use borrow.Author.Tests.{not-true, not-false}
 use lib.ListN.{length}
+use Rattle.std.specs.Prelude.{Ok, Err}
 use Rattle.type_rows.specs.Rows.{good_rows}
-use Rattle.type_rows.proofs.RowLaws.{verdict_good, verdict_bad, good_facts}
+use Rattle.type_rows.proofs.RowLaws.{good_facts}
 use Rattle.graph.specs.WellFormed.{Bounds}
-use Rattle.image_check.specs.Checks.{bounds, verdict}
+use Rattle.image_check.specs.Checks.{Verdict, bounds, checked, verdict, code_of, offset_of}
 use Rattle.image_check.proofs.Capacity.{checked_same}
+use Rattle.image_check.proofs.Verdicts.{code_not_zero}
 use Rattle.engine.specs.Refusals.{lengths_code}
 use Rattle.engine.proofs.RefusalLaws.{capacities, lengths_refused, rows_refused, start_refused, image_refused, none_refused}
 use Rattle.engine.proofs.refusals.refusal.Goals as goal
 
-lengths_pass : (c : goal.In_default) →
-    lengths_code c.args.calls c.args.answers c.args.vertices
-    c.args.edges c.args.journal
-    ≡ 0
-lengths_pass c = sym c.lengths_code-code.ensures ∙ c.if-code-ne0.false
-
-rows_good : (c : goal.In-Good) → good_rows c.args.rows.now ≡ true
-rows_good c = verdict_good _ _ c.check_rows.ensures c.in-Good.is
-
-lengths_pass_at_After_offset_of : (c : goal.After-offset_of) →
-    lengths_code c.args.calls c.args.answers c.args.vertices
-    c.args.edges c.args.journal
-    ≡ 0
-lengths_pass_at_After_offset_of c = sym c.lengths_code-code.ensures ∙ c.if-code-ne0.false
-
-rows_good_at_After_offset_of : (c : goal.After-offset_of) → good_rows c.args.rows.now ≡ true
-rows_good_at_After_offset_of c = verdict_good _ _ c.check_rows.ensures c.in-Good.is
-
-limits : (c : goal.After-offset_of) → (c.args.vertices / 8 ≤ 1000) × (c.args.edges / 12 ≤ 4000)
-limits c = let a = c.args in capacities a.calls a.answers a.vertices a.edges a.journal (lengths_pass_at_After_offset_of c)
-
 -- capacities that 103 lets pass are checked as they are
-found : (c : goal.After-offset_of) → let a = c.args in
-    c.check-found.result ≡ verdict (bounds (a.vertices / 8) (a.edges / 12) (length a.rows.now)) a.start.now
-found c =
-    let a = c.args in
-    let l = limits c in
-    c.check-found.ensures ∙ ap (λ (b : Bounds). verdict b a.start.now) (checked_same (a.vertices / 8) (a.edges / 12) (length a.rows.now) l.0 l.1)
-
-lengths_pass_at_Then_image_length : (c : goal.Then-image-length) →
-    lengths_code c.args.calls c.args.answers c.args.vertices
-    c.args.edges c.args.journal
-    ≡ 0
-lengths_pass_at_Then_image_length c = sym c.lengths_code-code.ensures ∙ c.if-code-ne0.false
-
-rows_good_at_Then_image_length : (c : goal.Then-image-length) → good_rows c.args.rows.now ≡ true
-rows_good_at_Then_image_length c = verdict_good _ _ c.check_rows.ensures c.in-Good.is
-
-limits_at_Then_image_length : (c : goal.Then-image-length) → (c.args.vertices / 8 ≤ 1000) × (c.args.edges / 12 ≤ 4000)
-limits_at_Then_image_length c = let a = c.args in capacities a.calls a.answers a.vertices a.edges a.journal (lengths_pass_at_Then_image_length c)
-
-found_at_Then_image_length : (c : goal.Then-image-length) → let a = c.args in
-    c.check-found.result ≡ verdict (bounds (a.vertices / 8) (a.edges / 12) (length a.rows.now)) a.start.now
-found_at_Then_image_length c =
-    let a = c.args in
-    let l = limits_at_Then_image_length c in
-    c.check-found.ensures ∙ ap (λ (b : Bounds). verdict b a.start.now) (checked_same (a.vertices / 8) (a.edges / 12) (length a.rows.now) l.0 l.1)
-
-lengths_pass_at_Else_image_length : (c : goal.Else-image-length) →
-    lengths_code c.args.calls c.args.answers c.args.vertices
-    c.args.edges c.args.journal
-    ≡ 0
-lengths_pass_at_Else_image_length c = sym c.lengths_code-code.ensures ∙ c.if-code-ne0.false
-
-rows_good_at_Else_image_length : (c : goal.Else-image-length) → good_rows c.args.rows.now ≡ true
-rows_good_at_Else_image_length c = verdict_good _ _ c.check_rows.ensures c.in-Good.is
-
-limits_at_Else_image_length : (c : goal.Else-image-length) → (c.args.vertices / 8 ≤ 1000) × (c.args.edges / 12 ≤ 4000)
-limits_at_Else_image_length c = let a = c.args in capacities a.calls a.answers a.vertices a.edges a.journal (lengths_pass_at_Else_image_length c)
-
-found_at_Else_image_length : (c : goal.Else-image-length) → let a = c.args in
-    c.check-found.result ≡ verdict (bounds (a.vertices / 8) (a.edges / 12) (length a.rows.now)) a.start.now
-found_at_Else_image_length c =
-    let a = c.args in
-    let l = limits_at_Else_image_length c in
-    c.check-found.ensures ∙ ap (λ (b : Bounds). verdict b a.start.now) (checked_same (a.vertices / 8) (a.edges / 12) (length a.rows.now) l.0 l.1)
-
-lengths_pass_at_In_Good : (c : goal.In-Good) →
-    lengths_code c.args.calls c.args.answers c.args.vertices
-    c.args.edges c.args.journal
-    ≡ 0
-lengths_pass_at_In_Good c = sym c.lengths_code-code.ensures ∙ c.if-code-ne0.false
-
-limits_at_In_Good : (c : goal.In-Good) → (c.args.vertices / 8 ≤ 1000) × (c.args.edges / 12 ≤ 4000)
-limits_at_In_Good c = let a = c.args in capacities a.calls a.answers a.vertices a.edges a.journal (lengths_pass_at_In_Good c)
+found : (calls answers vertices edges journal types : ℕ) (start : List ℕ) {v : Verdict} → lengths_code calls answers vertices edges journal ≡ 0
+    → v ≡ verdict (checked (vertices / 8) (edges / 12) types) start → v ≡ verdict (bounds (vertices / 8) (edges / 12) types) start
+found calls answers vertices edges journal types start z e =
+    let l = capacities calls answers vertices edges journal z in
+    e ∙ ap (λ (b : Bounds). verdict b start) (checked_same (vertices / 8) (edges / 12) types l.0 l.1)
 
 pub returns-then-code-ne0 : goal.returns-then-code-ne0
 returns-then-code-ne0 c = λ l h. lengths_refused l _ _ _ _ _ _ _ _ h _ c.lengths_code-code.ensures c.if-code-ne0.true
 
-pub returns-in_default : goal.returns-in_default
-returns-in_default c = λ l h. rows_refused l _ _ _ _ _ _ _ _ h (lengths_pass c) (verdict_bad _ _ c.check_rows.ensures c.in_default.is)
+pub returns-then-not-are_good : goal.returns-then-not-are_good
+returns-then-not-are_good c =
+    λ l h. rows_refused l _ _ _ _ _ _ _ _ h (sym c.lengths_code-code.ensures ∙ c.if-code-ne0.false)
+    (sym c.are_good.ensures ∙ not-true _ c.if-not-are_good.true-raw)
+
+pub overflow_cast-v : goal.overflow_cast-v
+overflow_cast-v c =
+    let a = c.args in
+    omega (arith, (capacities a.calls a.answers a.vertices a.edges a.journal (sym c.lengths_code-code.ensures ∙ c.if-code-ne0.false)).0)
+
+pub overflow_cast-e : goal.overflow_cast-e
+overflow_cast-e c =
+    let a = c.args in
+    omega (arith, (capacities a.calls a.answers a.vertices a.edges a.journal (sym c.lengths_code-code.ensures ∙ c.if-code-ne0.false)).1)
 
 pub overflow_cast-rows : goal.overflow_cast-rows
-overflow_cast-rows c = omega (arith, (good_facts c.args.rows.now (rows_good c)).few)
+overflow_cast-rows c =
+    omega (arith, (good_facts c.args.rows.now (sym c.are_good.ensures ∙ not-false _ c.if-not-are_good.false-raw)).few)
 
-pub returns-then-bad-ne0 : goal.returns-then-bad-ne0
-returns-then-bad-ne0 c =
-    let f = c in
-    let e = f in
+pub returns-in-Err : goal.returns-in-Err
+returns-in-Err c =
+    let a = c.args in
+    let z = sym c.lengths_code-code.ensures ∙ c.if-code-ne0.false in
+    let g = sym c.are_good.ensures ∙ not-false _ c.if-not-are_good.false-raw in
+    let f = found a.calls a.answers a.vertices a.edges a.journal (length a.rows.now) a.start.now z (sym c.in-Err.is ∙ c.check.ensures) in
     λ l h.
-    let r = start_refused l _ _ _ _ _ _ _ _ h (lengths_pass_at_After_offset_of e) (rows_good_at_After_offset_of e) f.check-found.result (found f)
-    (λ z. c.if-bad-ne0.true (f.code_of-bad.ensures ∙ z)) in
-    (f.code_of-bad.ensures ∙ r.0, c.offset_of.ensures ∙ r.1)
+    let r = start_refused l _ _ _ _ _ _ _ _ h z g _ f (code_not_zero _) in
+    (c.code.ensures ∙ r.0, c.offset.ensures ∙ r.1)
 
 pub returns-then-image-length : goal.returns-then-image-length
 returns-then-image-length c =
-    let f = c in
-    let e = f in
+    let a = c.args in
+    let z = sym c.lengths_code-code.ensures ∙ c.if-code-ne0.false in
+    let g = sym c.are_good.ensures ∙ not-false _ c.if-not-are_good.false-raw in
+    let f = found a.calls a.answers a.vertices a.edges a.journal (length a.rows.now) a.start.now z c.check.ensures in
     λ l h.
-    image_refused l _ _ _ _ _ _ _ _ h (lengths_pass_at_Then_image_length e) (rows_good_at_Then_image_length e) f.check-found.result (found_at_Then_image_length f)
-    (sym f.code_of-bad.ensures ∙ c.if-bad-ne0.false)
-    (omega (arith, c.if-image-length.true, c.length.ensures))
+    image_refused l _ _ _ _ _ _ _ _ h z g c.check.result f (ap code_of c.in_default.is) (omega (arith, c.if-image-length.true, c.length.ensures))
 
 pub returns : goal.returns
 returns c =
-    let f = c in
-    let e = f in
+    let a = c.args in
+    let z = sym c.lengths_code-code.ensures ∙ c.if-code-ne0.false in
+    let g = sym c.are_good.ensures ∙ not-false _ c.if-not-are_good.false-raw in
+    let f = found a.calls a.answers a.vertices a.edges a.journal (length a.rows.now) a.start.now z c.check.ensures in
     λ l h.
-    none_refused l _ _ _ _ _ _ _ _ h (lengths_pass_at_Else_image_length e) (rows_good_at_Else_image_length e) f.check-found.result (found_at_Else_image_length f)
-    (sym f.code_of-bad.ensures ∙ c.if-bad-ne0.false)
-    (omega (arith, c.if-image-length.false, c.length.ensures))
-
-pub overflow_cast-v : goal.overflow_cast-v
-overflow_cast-v c = omega (arith, (limits_at_In_Good c).0)
-
-pub overflow_cast-e : goal.overflow_cast-e
-overflow_cast-e c = omega (arith, (limits_at_In_Good c).1)
+    none_refused l _ _ _ _ _ _ _ _ h z g c.check.result f (ap code_of c.in_default.is) (omega (arith, c.if-image-length.false, c.length.ensures))

@@ -1,52 +1,65 @@
-use Prim.Native.Nat.{◌+◌}
-use mathlib.Core.Path.{◌≡◌, sym, ◌∙◌}
+use Prim.Native.Nat.{ℕ, ◌+◌, ◌-◌, ◌*◌}
+use mathlib.Core.Path.{◌≡◌, refl, sym, ap, ◌∙◌, subst}
+use mathlib.Core.List.{List}
 use native.Mathlib.Omega.{arith}
-use lib.ListN.{length, drop}
+use lib.ListN.{length}
+use Rattle.std.proofs.Common.{rules}
+use Rattle.image_check.specs.Checks.{Verdict}
+use Rattle.image_check.specs.Scratch.{degree_run}
 use Rattle.image_check.proofs.DegreePass.{old_run}
-use Rattle.image_check.proofs.Turns.{degree_at, degree_stop, degree_go, degree_end, row_next}
+use Rattle.image_check.proofs.Turns.{turn_of, along, none_left, degree_stop, degree_go, degree_end}
 use Rattle.image_check.proofs.passes.degrees.Goals as goal
+
+-- what holds of records of four words holds of those of this size
+of_four : (size : ℕ) (deg part : List ℕ) (r : Verdict) → size ≡ 4 → ((count : ℕ) → 4 * count ≡ length part → r ≡ degree_run 4 deg count part 6) →
+    (count : ℕ) → size * count ≡ length part → r ≡ degree_run size deg count part 6
+of_four size deg part r four h = subst (λ (s : ℕ). (count : ℕ) → s * count ≡ length part → r ≡ degree_run s deg count part 6) (sym four) h
 
 pub returns-then-size-lt-VERTEX : goal.returns-then-size-lt-VERTEX
 returns-then-size-lt-VERTEX c =
     let a = c.args in
-    sym (old_run a.size a.deg.now a.count a.part.now 6 (omega (arith, c.if-size-lt-VERTEX.true)))
+    λ count e. sym (old_run a.size a.deg.now count a.part.now 6 (omega (arith, c.if-size-lt-VERTEX.true)))
 
-pub returns-then-read-d : goal.returns-then-read-d
-returns-then-read-d c =
-    let s = c in
-    let a = s.args in
+pub returns-then-record-ends : goal.returns-then-record-ends
+returns-then-record-ends c =
+    let a = c.args in
     let l = c.loop-i in
-    let w = c.index in
-    let g = c.get in
-    let d = c.less_one-d in
-    let x = c.read in
-    let four : a.size ≡ 4 = omega (arith, s.requires.0, c.if-size-lt-VERTEX.false) in
-    let degree = degree_at a.deg.now a.part.now l.at w.result g.result d.result w.ensures.0 g.ensures d.ensures in
-    degree_stop a.count l.i a.part.now 6 l.at (omega (arith, c.loop-i-test)) a.size four a.deg.now d.result x.result degree
-    x.ensures c.if-read-d.true
-    ∙ l.invariant.2
+    let i = l.i-iterator.count in
+    let st = c.in-Some.ensures.steps in
+    let cut = st.0.1.0 in
+    let long = st.0.1.1 ∙ l.invariant.2 in
+    let degree = c.saturating_sub-ends.ensures ∙ ap (λ (f : ℕ). f - 1) c.get.ensures in
+    of_four a.size a.deg.now a.part.now _ (omega (arith, c.requires.size.1, c.if-size-lt-VERTEX.false))
+    (λ count e.
+    let v = l.invariant.4 count e in
+    let t = turn_of 4 count i _ _ _ (omega arith) cut long v.0 in
+    rw st.1 (degree_stop 4 count i _ _ _ t.0 cut long refl a.deg.now (6 + 4 * i) _ _ degree refl c.if-record-ends.true ∙ v.1))
 
 pub loop-i-preserved : goal.loop-i-preserved
 loop-i-preserved c =
-    let s = c in
-    let a = s.args in
+    let a = c.args in
     let l = c.loop-i in
-    let w = c.index in
-    let g = c.get in
-    let d = c.less_one-d in
-    let x = c.read in
-    let four : a.size ≡ 4 = omega (arith, s.requires.0, c.if-size-lt-VERTEX.false) in
-    let degree = degree_at a.deg.now a.part.now l.at w.result g.result d.result w.ensures.0 g.ensures d.ensures in (
-      omega (arith, c.loop-i-test),
-      omega (arith, l.invariant.1, s.requires.0),
-      degree_go a.count l.i a.part.now 6 l.at (omega (arith, c.loop-i-test)) a.size four a.deg.now d.result x.result degree
-          x.ensures c.if-read-d.false
-          ∙ l.invariant.2,
-      row_next a.count l.i a.part.now 6 l.at (omega (arith, c.loop-i-test)) a.size (length a.part.now) l.invariant.3,
+    let i = l.i-iterator.count in
+    let st = c.in-Some.ensures.steps in
+    let cut = st.0.1.0 in
+    let long = st.0.1.1 ∙ l.invariant.2 in
+    let degree = c.saturating_sub-ends.ensures ∙ ap (λ (f : ℕ). f - 1) c.get.ensures in (
+      search rules,
+      search rules,
+      st.0.0 ∙ l.invariant.2,
+      rw st.2 (along 4 i _ _ _ _ cut long l.invariant.3),
+      λ count e.
+          let v = l.invariant.4 count e in
+          let t = turn_of 4 count i _ _ _ (omega arith) cut long v.0 in
+          rw st.2 (t.1, degree_go 4 count i _ _ _ t.0 cut long refl a.deg.now (6 + 4 * i) _ _ degree refl c.if-record-ends.false _ (omega arith) ∙ v.1),
     )
 
 pub returns : goal.returns
 returns c =
     let a = c.args in
     let l = c.loop-i in
-    sym (degree_end a.count l.i (drop l.at a.part.now) (6 + l.at) (omega arith) a.size a.deg.now) ∙ l.invariant.2
+    of_four a.size a.deg.now a.part.now _ (omega (arith, c.requires.size.1, c.if-size-lt-VERTEX.false))
+    (λ count e.
+    let v = l.invariant.4 count e in
+    let z = none_left 4 (count - l.i-iterator.count) _ v.0 (omega (arith, c.in-None.ensures.steps.0.1.0, l.invariant.2)) in
+    sym (degree_end _ z _ _ 4 a.deg.now) ∙ v.1)

@@ -1,13 +1,13 @@
-use Prim.Native.Nat.{◌+◌, ◌-◌, ◌*◌, ◌≤◌}
+use Prim.Native.Nat.{ℕ, ◌+◌, ◌-◌, ◌*◌}
 use mathlib.Core.Path.{◌≡◌}
-use lib.ListN.{length, drop}
+use lib.ListN.{length}
 use Rattle.image_check.specs.Scratch.{degree_run}
 use Rattle.image_check.proofs.passes.degrees.Given as goal
 
 abbrev pub invariant-loop-i : goal.invariant-loop-i
 invariant-loop-i l =
-    (l.i ≤ l.count) × (l.at ≤ 4 * l.i) × (degree_run l.size l.deg (l.count - l.i) (drop l.at l.part) (6 + l.at) ≡ degree_run l.size l.deg l.count l.part 6)
-    × (l.at + l.size * (l.count - l.i) ≡ length l.part)
-
-abbrev pub decreases-loop-i : goal.decreases-loop-i
-decreases-loop-i l = l.count - l.i
+    goal.iterator-loop-i.can_next l.i-iterator × goal.iterator-loop-i.is_finite l.i-iterator × (l.i-iterator.iter.size ≡ 4)
+    × (4 * l.i-iterator.count + length l.i-iterator.iter.rest.now ≡ length l.part)
+    × ((count : ℕ) → 4 * count ≡ length l.part →
+    (4 * (count - l.i-iterator.count) ≡ length l.i-iterator.iter.rest.now)
+    × (degree_run 4 l.deg (count - l.i-iterator.count) l.i-iterator.iter.rest.now (6 + 4 * l.i-iterator.count) ≡ degree_run 4 l.deg count l.part 6))

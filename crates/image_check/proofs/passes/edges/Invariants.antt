@@ -1,16 +1,17 @@
-use Prim.Native.Nat.{◌+◌, ◌-◌, ◌*◌, ◌≤◌}
+use Prim.Native.Nat.{ℕ, ◌+◌, ◌-◌, ◌*◌}
 use mathlib.Core.Path.{◌≡◌}
-use lib.ListN.{length, drop}
+use lib.ListN.{length}
 use Rattle.image_check.specs.Checks.{part_limits}
 use Rattle.image_check.specs.Scratch.{NoneAbove, edge_run, edge_degrees, edge_owners}
 use Rattle.image_check.proofs.passes.edges.Given as goal
 
 abbrev pub invariant-loop-i : goal.invariant-loop-i
 invariant-loop-i l =
-    (l.i ≤ l.count) × (l.at ≡ 6 * l.i) × (length l.deg ≡ length l.initial.deg) × (length l.own ≡ length l.initial.own) × NoneAbove (1 + l.at) l.deg
-    × (edge_run (part_limits l.cap l.types) l.deg l.own (l.count - l.i) (drop l.at l.part) (l.from + l.at) ≡ edge_run (part_limits l.cap l.types) l.initial.deg l.initial.own l.count l.part l.from)
-    × (edge_degrees l.deg (l.count - l.i) (drop l.at l.part) ≡ edge_degrees l.initial.deg l.count l.part)
-    × (edge_owners l.own (l.count - l.i) (drop l.at l.part) ≡ edge_owners l.initial.own l.count l.part)
-
-abbrev pub decreases-loop-i : goal.decreases-loop-i
-decreases-loop-i l = l.count - l.i
+    goal.iterator-loop-i.can_next l.i-iterator × goal.iterator-loop-i.is_finite l.i-iterator × (l.i-iterator.iter.size ≡ 6)
+    × (6 * l.i-iterator.count + length l.i-iterator.iter.rest.now ≡ length l.part) × (length l.deg ≡ length l.initial.deg)
+    × (length l.own ≡ length l.initial.own) × NoneAbove (1 + 6 * l.i-iterator.count) l.deg
+    × ((count : ℕ) → 6 * count ≡ length l.part →
+    (6 * (count - l.i-iterator.count) ≡ length l.i-iterator.iter.rest.now)
+    × (edge_run (part_limits l.cap l.types) l.deg l.own (count - l.i-iterator.count) l.i-iterator.iter.rest.now (l.from + 6 * l.i-iterator.count) ≡ edge_run (part_limits l.cap l.types) l.initial.deg l.initial.own count l.part l.from)
+    × (edge_degrees l.deg (count - l.i-iterator.count) l.i-iterator.iter.rest.now ≡ edge_degrees l.initial.deg count l.part)
+    × (edge_owners l.own (count - l.i-iterator.count) l.i-iterator.iter.rest.now ≡ edge_owners l.initial.own count l.part))

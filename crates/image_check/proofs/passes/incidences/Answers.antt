@@ -1,81 +1,75 @@
-use Prim.Native.Nat.{◌+◌}
-use mathlib.Core.Path.{◌≡◌, ◌∙◌}
+use Prim.Native.Nat.{ℕ, ◌+◌, ◌-◌}
+use mathlib.Core.Path.{◌≡◌, ap, ◌∙◌}
 use native.Mathlib.Omega.{arith}
-use lib.ListN.{length, drop, length-drop}
-use Rattle.image_check.proofs.Turns.{degree_by, list_by, incidence_stop, incidence_go, incidence_more, incidence_done, list_le, row_next}
+use lib.ListN.{get_or, drop, length-drop}
+use lib.Seq.{drop-drop}
+use Rattle.std.proofs.Common.{rules}
+use Rattle.image_check.proofs.Turns.{piece_of, none_left, incidence_stop, incidence_go, incidence_more, incidence_done, list_le}
 use Rattle.image_check.proofs.passes.incidences.Goals as goal
 
-pub overflow_add-result-then-good-d : goal.overflow_add-result-then-good-d
-overflow_add-result-then-good-d c =
+pub overflow_add-result-then-good-degree : goal.overflow_add-result-then-good-degree
+overflow_add-result-then-good-degree c =
     let a = c.args in
-    let l = c.loop-i in
-    let v = c.read-v in
-    let w = c.wide in
-    let x = c.get in
-    let d = c.less_one-d in
-    let f = c.list-good in
-    let e = list_le v.result d.result l.own (drop l.at a.part.now) in
-    let m = length-drop l.at a.part.now in
-    omega (
-      arith,
-      f.ensures.0,
-      e.1,
-      m,
-      l.invariant.2,
-      c.requires.2,
-      c.requires.3,
-    )
+    let l = c.loop-record in
+    let e = list_le (get_or c.in-Some.record.now 0 0) c.saturating_sub-degree.result l.own (drop l.at a.part.now) in
+    omega (arith, c.list-good.ensures.0, e.1, length-drop l.at a.part.now, l.invariant.3, c.requires.few, c.requires.near)
 
-pub returns-then-good-d : goal.returns-then-good-d
-returns-then-good-d c =
+pub returns-then-good-degree : goal.returns-then-good-degree
+returns-then-good-degree c =
     let a = c.args in
-    let l = c.loop-i in
-    let v = c.read-v in
-    let w = c.wide in
-    let x = c.get in
-    let d = c.less_one-d in
-    let f = c.list-good in
-    let deg = degree_by a.deg.now a.vs.now l.row v.result w.result x.result d.result v.ensures w.ensures.0 x.ensures d.ensures in
-    let good = list_by l.own a.vs.now (drop l.at a.part.now) l.row v.result d.result f.result v.ensures f.ensures.0 in
-    incidence_stop a.size a.deg.now l.own a.count l.i a.vs.now a.part.now a.from l.row l.at d.result f.result
-    (omega (arith, c.loop-i-test)) deg good c.if-good-d.true
-    ∙ l.invariant.4
+    let l = c.loop-record in
+    let st = c.in-Some.ensures.steps in
+    let cut = st.1.0 in
+    let long = st.1.1 ∙ l.invariant.2 in
+    let degree = c.saturating_sub-degree.ensures ∙ ap (λ (f : ℕ). f - 1) c.get.ensures in
+    λ count e.
+    let v = l.invariant.4 count e in
+    let t = piece_of a.size v.0 _ _ _ c.requires.size.0 cut long v.1 in
+    incidence_stop a.size v.0 t.0 _ _ _ t.1 cut long c.requires.size.0 a.deg.now l.own (drop l.at a.part.now) (a.from + l.at) _ _ degree c.list-good.ensures.0
+    c.if-good-degree.true
+    ∙ v.2
 
-pub loop-i-preserved : goal.loop-i-preserved
-loop-i-preserved c =
+pub loop-record-preserved : goal.loop-record-preserved
+loop-record-preserved c =
     let a = c.args in
-    let l = c.loop-i in
-    let v = c.read-v in
-    let w = c.wide in
-    let x = c.get in
-    let d = c.less_one-d in
+    let l = c.loop-record in
+    let st = c.in-Some.ensures.steps in
+    let cut = st.1.0 in
+    let long = st.1.1 ∙ l.invariant.2 in
+    let d = c.saturating_sub-degree in
     let f = c.list-good in
-    let deg = degree_by a.deg.now a.vs.now l.row v.result w.result x.result d.result v.ensures w.ensures.0 x.ensures d.ensures in
-    let good = list_by l.own a.vs.now (drop l.at a.part.now) l.row v.result d.result f.result v.ensures f.ensures.0 in
-    let e = list_le v.result d.result l.own (drop l.at a.part.now) in
-    let m = length-drop l.at a.part.now in
-    let p = c.requires in
-    let u = c.wide-at in
-    let full : f.result ≡ d.result = omega (arith, f.ensures.0, e.0, c.if-good-d.false) in
-    let turn = c.loop-i-test in
-    let go = incidence_go a.size a.deg.now l.own a.count l.i a.vs.now a.part.now a.from l.row l.at d.result f.result (omega (arith, turn)) deg good
-    c.if-good-d.false in (
-      omega (arith, turn),
-      omega (arith, l.invariant.1, p.0),
-      omega (arith, f.ensures.0, e.1, m, l.invariant.2, full, u.ensures.0),
-      omega (arith, f.auto, l.invariant.3),
-      rw (u.ensures.0, f.ensures.1 full) (go ∙ l.invariant.4),
-      row_next a.count l.i a.vs.now a.from l.row (omega (arith, turn)) a.size (length a.vs.now) l.invariant.5,
+    let degree = d.ensures ∙ ap (λ (f : ℕ). f - 1) c.get.ensures in
+    let x = list_le (get_or c.in-Some.record.now 0 0) d.result l.own (drop l.at a.part.now) in
+    let full : f.result ≡ d.result = omega (arith, f.ensures.0, x.0, c.if-good-degree.false) in
+    let far : a.from + (l.at + d.result) ≡ a.from + l.at + d.result = omega arith in (
+      search rules,
+      search rules,
+      st.0 ∙ l.invariant.2,
+      omega (arith, f.ensures.0, x.1, length-drop l.at a.part.now, l.invariant.3, full),
+      λ count e.
+          let v = l.invariant.4 count e in
+          let t = piece_of a.size v.0 _ _ _ c.requires.size.0 cut long v.1 in (
+            t.0,
+            t.2,
+            rw (f.ensures.1 full, far, ← drop-drop d.result l.at a.part.now)
+                (incidence_go a.size v.0 t.0 _ _ _ t.1 cut long c.requires.size.0 a.deg.now l.own (drop l.at a.part.now) (a.from + l.at) _ _ degree f.ensures.0
+                c.if-good-degree.false
+                ∙ v.2),
+          ),
     )
 
 pub returns-then-at-part : goal.returns-then-at-part
-returns-then-at-part c =
+returns-then-at-part c = λ count e.
     let a = c.args in
-    let l = c.loop-i in
-    incidence_more a.size a.deg.now l.own a.count l.i (drop l.row a.vs.now) a.part.now l.at (a.from + l.at) (omega arith) c.if-at-part.true ∙ l.invariant.4
+    let l = c.loop-record in
+    let v = l.invariant.4 count e in
+    let z = none_left a.size v.0 _ v.1 (omega (arith, c.in-None.ensures.steps.1.0, l.invariant.2)) in
+    incidence_more v.0 z _ (a.from + l.at) a.size a.deg.now l.own a.part.now l.at c.if-at-part.true ∙ v.2
 
 pub returns : goal.returns
-returns c =
+returns c = λ count e.
     let a = c.args in
-    let l = c.loop-i in
-    incidence_done a.size a.deg.now l.own a.count l.i (drop l.row a.vs.now) a.part.now l.at (a.from + l.at) (omega arith) c.if-at-part.false ∙ l.invariant.4
+    let l = c.loop-record in
+    let v = l.invariant.4 count e in
+    let z = none_left a.size v.0 _ v.1 (omega (arith, c.in-None.ensures.steps.1.0, l.invariant.2)) in
+    incidence_done v.0 z _ (a.from + l.at) a.size a.deg.now l.own a.part.now l.at c.if-at-part.false ∙ v.2

@@ -1,16 +1,15 @@
-use Prim.Native.Nat.{◌+◌, ◌-◌, ◌*◌, ◌≤◌}
+use Prim.Native.Nat.{ℕ, ◌+◌, ◌-◌, ◌*◌}
 use mathlib.Core.Path.{◌≡◌}
-use lib.ListN.{length, drop}
+use lib.ListN.{length}
 use Rattle.image_check.specs.Checks.{part_limits}
-use Rattle.image_check.specs.Scratch.{vertex_run, vertex_marks}
+use Rattle.image_check.specs.Scratch.{NoneAbove, vertex_run, vertex_marks}
 use Rattle.image_check.proofs.passes.vertices.Given as goal
 
 abbrev pub invariant-loop-i : goal.invariant-loop-i
 invariant-loop-i l =
-    (l.i ≤ l.count) × (l.at ≤ 4 * l.i) × (length l.deg ≡ length l.initial.deg)
-    × (vertex_run l.size (part_limits l.cap l.types) l.deg (l.count - l.i) (drop l.at l.part) (6 + l.at) ≡ vertex_run l.size (part_limits l.cap l.types) l.initial.deg l.count l.part 6)
-    × (vertex_marks l.size l.deg (l.count - l.i) (drop l.at l.part) ≡ vertex_marks l.size l.initial.deg l.count l.part)
-    × (l.at + l.size * (l.count - l.i) ≡ length l.part)
-
-abbrev pub decreases-loop-i : goal.decreases-loop-i
-decreases-loop-i l = l.count - l.i
+    goal.iterator-loop-i.can_next l.i-iterator × goal.iterator-loop-i.is_finite l.i-iterator × (l.i-iterator.iter.size ≡ l.size)
+    × (l.size * l.i-iterator.count + length l.i-iterator.iter.rest.now ≡ length l.part) × (length l.deg ≡ length l.initial.deg) × (NoneAbove 1 l.initial.deg → NoneAbove 1 l.deg)
+    × ((count : ℕ) → l.size * count ≡ length l.part →
+    (l.size * (count - l.i-iterator.count) ≡ length l.i-iterator.iter.rest.now)
+    × (vertex_run l.size (part_limits l.cap l.types) l.deg (count - l.i-iterator.count) l.i-iterator.iter.rest.now (6 + l.size * l.i-iterator.count) ≡ vertex_run l.size (part_limits l.cap l.types) l.initial.deg count l.part 6)
+    × (vertex_marks l.size l.deg (count - l.i-iterator.count) l.i-iterator.iter.rest.now ≡ vertex_marks l.size l.initial.deg count l.part))

@@ -1,36 +1,34 @@
 use native.Mathlib.Omega.{arith}
-use Rattle.text.specs.Reading.{read_text}
-use Rattle.text.specs.Scan.{words_from}
-use Rattle.text.specs.declared.reading.Number.TheVariants.{Empty}
-use Rattle.text.proofs.Verdicts.{long, many, bad_line, readable, room, refused, accepted}
+use mathlib.Core.Path.{refl, ap}
+use Rattle.std.specs.Prelude.{Ok}
+use Rattle.text.proofs.Verdicts.{long, many, bad_line, readable, room}
 use Rattle.text.proofs.reading.read.Goals as goal
 
 pub returns-then-bytes-gt60000 : goal.returns-then-bytes-gt60000
-returns-then-bytes-gt60000 c = let a = c.args in refused (read_text a.bytes.now) 0 a.calls.now (long a.bytes.now c.if-bytes-gt60000.true)
+returns-then-bytes-gt60000 c =
+    let e = long c.args.bytes.now c.if-bytes-gt60000.true in
+    record { verdict = rw e refl; calls_after = rw e refl }
 
-pub returns-then-ended-gt1000 : goal.returns-then-ended-gt1000
-returns-then-ended-gt1000 c =
-    let a = c.args in
-    let s = c.check_lines-s in
-    refused (read_text a.bytes.now) 1001 a.calls.now (many a.bytes.now s.result c.if-bytes-gt60000.false s.ensures c.if-ended-gt1000.true)
+pub returns-then-lines-gt1000 : goal.returns-then-lines-gt1000
+returns-then-lines-gt1000 c =
+    let s = c.of-lines in
+    let e = many c.args.bytes.now s.result c.if-bytes-gt60000.false s.ensures c.if-lines-gt1000.true in
+    record { verdict = rw e refl; calls_after = rw e refl }
+
+pub returns-then-lines-ne0 : goal.returns-then-lines-ne0
+returns-then-lines-ne0 c =
+    let s = c.of-lines in
+    let e = bad_line c.args.bytes.now s.result c.if-bytes-gt60000.false s.ensures c.if-lines-gt1000.false c.if-lines-ne0.true in
+    record { verdict = rw e refl; calls_after = rw e refl }
 
 pub words-requires : goal.words-requires
 words-requires c =
-    let a = c.args in
-    let s = c.check_lines-s in
-    omega (arith, room a.bytes.now s.result c.if-bytes-gt60000.false s.ensures c.if-ended-gt1000.false c.if-bad-eq0.true)
-
-pub returns-then-bad-eq0 : goal.returns-then-bad-eq0
-returns-then-bad-eq0 c =
-    let a = c.args in
-    let s = c.check_lines-s in
-    let w = c.words in
-    accepted (read_text a.bytes.now) (words_from Empty a.bytes.now) a.calls.now w.new.calls w.result
-    (readable a.bytes.now s.result c.if-bytes-gt60000.false s.ensures c.if-ended-gt1000.false c.if-bad-eq0.true)
-    w.ensures.0 w.ensures.1
+    let s = c.of-lines in
+    omega (arith, room c.args.bytes.now s.result c.if-bytes-gt60000.false s.ensures c.if-lines-gt1000.false c.if-lines-ne0.false)
 
 pub returns : goal.returns
 returns c =
-    let a = c.args in
-    let s = c.check_lines-s in
-    refused (read_text a.bytes.now) s.result.bad a.calls.now (bad_line a.bytes.now s.result c.if-bytes-gt60000.false s.ensures c.if-ended-gt1000.false c.if-bad-eq0.false)
+    let s = c.of-lines in
+    let w = c.words in
+    let e = readable c.args.bytes.now s.result c.if-bytes-gt60000.false s.ensures c.if-lines-gt1000.false c.if-lines-ne0.false in
+    record { verdict = rw e (ap Ok w.ensures.count); calls_after = rw e w.ensures.calls_after }

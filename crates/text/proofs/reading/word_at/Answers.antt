@@ -1,16 +1,23 @@
-use mathlib.Core.Path.{sym, refl}
+use Rattle.std.proofs.Common.{rules}
 use Rattle.text.specs.Scan.{word_at}
-use native.Mathlib.Omega.{arith}
 use Rattle.text.proofs.reading.word_at.Goals as goal
 
-pub bounds-calls-k : goal.bounds-calls-k
+pub returns-then-not-ends_field-clause-place : goal.returns-then-not-ends_field-clause-place
 unfolding word_at
-bounds-calls-k c = omega (arith, simp (sym c.ends.ensures, c.if-ends.true) at c.requires)
+returns-then-not-ends_field-clause-place c = search rules
 
-pub returns-then-ends : goal.returns-then-ends
+pub returns-then-not-ends_field-clause-calls_after : goal.returns-then-not-ends_field-clause-calls_after
 unfolding word_at
-returns-then-ends c = simp (sym c.ends.ensures, c.if-ends.true, sym c.value_in.ensures) (refl, refl)
+returns-then-not-ends_field-clause-calls_after c = search rules
 
-pub returns : goal.returns
+pub bounds-calls-at : goal.bounds-calls-at
 unfolding word_at
-returns c = simp (sym c.ends.ensures, c.if-ends.false) (omega arith, refl)
+bounds-calls-at c = search rules
+
+pub returns-clause-place : goal.returns-clause-place
+unfolding word_at
+returns-clause-place c = search rules
+
+pub returns-clause-calls_after : goal.returns-clause-calls_after
+unfolding word_at
+returns-clause-calls_after c = search rules

@@ -1,4 +1,4 @@
-use Rattle.text.specs.declared.reading.Number.TheVariants.{Empty}
+use Rattle.text.specs.declared.number.Number.TheVariants.{Empty}
 use Prim.Native.Nat.{◌<◌}
 use native.Mathlib.Omega.{arith}
 use mathlib.Core.Path.{refl, sym, ap, ◌∙◌}
@@ -9,27 +9,30 @@ use Rattle.lists.proofs.Stores.{sets_over}
 use Rattle.text.specs.Scan.{words_from}
 use Rattle.text.proofs.reading.words.Goals as goal
 
-pub word_at-k-requires : goal.word_at-k-requires
-word_at-k-requires c =
-    let l = c.loop-i in
-    let a = c.args in
-    omega (arith, words_length a.bytes.now l.i l.n _ (omega arith) refl, c.requires)
+pub word_at-count-requires : goal.word_at-count-requires
+word_at-count-requires c =
+    let l = c.loop-byte in
+    let bytes = c.args.bytes.now in
+    omega (arith, words_length bytes l.byte-index l.number _ (omega arith) refl, l.invariant.0, l.invariant.1, c.requires)
 
-pub loop-i-preserved : goal.loop-i-preserved
-loop-i-preserved c =
-    let l = c.loop-i in
-    let a = c.args in
-    let w = c.word_at-k in
-    let h : l.i < length a.bytes.now = omega arith in (
-      omega arith,
-      w.auto.calls ∙ l.invariant.1,
-      omega (arith, w.ensures.0, words_length a.bytes.now l.i l.n c.number_after-n.result h c.number_after-n.ensures, l.invariant.2),
-      words_stores a.bytes.now l.i l.n l.calls w.new.calls l.k w.result c.number_after-n.result h c.number_after-n.ensures w.ensures.0 w.ensures.1 ∙ l.invariant.3,
+pub loop-byte-preserved : goal.loop-byte-preserved
+loop-byte-preserved c =
+    let l = c.loop-byte in
+    let bytes = c.args.bytes.now in
+    let w = c.word_at-count in
+    let n = c.after-number in
+    let h : l.byte-index < length bytes = omega arith in (
+      w.auto.calls ∙ l.invariant.0,
+      omega (arith, w.ensures.place, words_length bytes l.byte-index l.number n.result h n.ensures, l.invariant.1),
+      words_stores bytes l.byte-index l.number l.calls w.new.calls l.count w.result n.result h n.ensures w.ensures.place w.ensures.calls_after ∙ l.invariant.2,
     )
 
 pub returns : goal.returns
 returns c =
-    let l = c.loop-i in
-    let a = c.args in
-    let e = words_end a.bytes.now l.i l.n (omega arith) in
-    (omega (arith, ap length e, l.invariant.2), sym (ap (sets l.calls l.k) e) ∙ l.invariant.3 ∙ sets_over (words_from Empty a.bytes.now) a.calls.now c.requires)
+    let l = c.loop-byte in
+    let bytes = c.args.bytes.now in
+    let e = words_end bytes l.byte-index l.number (omega arith) in
+    record {
+      count = omega (arith, ap length e, l.invariant.1);
+      calls_after = sym (ap (sets l.calls l.count) e) ∙ l.invariant.2 ∙ sets_over (words_from Empty bytes) c.args.calls.now c.requires;
+    }

@@ -6,7 +6,10 @@ use Rattle.text.proofs.Texts.{line_most, refused_alone, refused_offset}
 use Rattle.text.proofs.writing.write_refused.Goals as goal
 
 pub line-requires : goal.line-requires
-line-requires c = let a = c.args in omega (arith, line_most refused_word (a.code ∷ []))
+line-requires c = omega (arith, line_most refused_word (c.args.code ∷ []))
+
+pub line-requires-else-code-eq105 : goal.line-requires-else-code-eq105
+line-requires-else-code-eq105 c = omega (arith, line_most refused_word (c.args.code ∷ c.args.offset ∷ []))
 
 pub returns-then-code-eq105 : goal.returns-then-code-eq105
 returns-then-code-eq105 c =
@@ -15,12 +18,9 @@ returns-then-code-eq105 c =
     written_as _ _ l.result _ _ (refused_alone a.code a.offset c.if-code-eq105.true)
     (stored_over (omega (arith, line_most refused_word (a.code ∷ []))) l.ensures)
 
-pub line-requires-2 : goal.line-requires-2
-line-requires-2 c = let a = c.args in omega (arith, line_most refused_word (a.code ∷ a.offset ∷ []))
-
-pub returns : goal.returns
-returns c =
+pub returns-else-code-eq105 : goal.returns-else-code-eq105
+returns-else-code-eq105 c =
     let a = c.args in
-    let l = c.line-2 in
+    let l = c.line-else-code-eq105 in
     written_as _ _ l.result _ _ (refused_offset a.code a.offset c.if-code-eq105.false)
     (stored_over (omega (arith, line_most refused_word (a.code ∷ a.offset ∷ []))) l.ensures)
