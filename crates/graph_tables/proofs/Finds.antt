@@ -1,6 +1,7 @@
 -- A look-up finds a number exactly where the graph has it.
 use Rattle.std.specs.Prelude.{◌==◌}
-use Rattle.std.proofs.Common.{◌≡◌, ℕ, ◌+◌, ◌-◌, ◌*◌, ◌%◌, ◌^◌, ◌<◌, ◌≤◌, Bool, true, false, eqb, ltb, ◌≢◌, List, length, get_or, refl, ◌∙◌, arith, le-ltb, lt-ltb, eq-eqb, ne_eqb}
+use Rattle.std.proofs.Math.Nat.{div-le_self, mul-le-mul_left, mul-div-le, lt-mul-div-succ, le_trans}
+use Rattle.std.proofs.Common.{◌≡◌, ℕ, ◌+◌, ◌-◌, ◌*◌, ◌/◌, ◌%◌, ◌^◌, ◌<◌, ◌≤◌, Bool, true, false, eqb, ltb, ◌≢◌, List, length, get_or, refl, ◌∙◌, arith, le-ltb, lt-ltb, eq-eqb, ne_eqb}
 use Rattle.lists.specs.Choice.{◌⇒◌else◌}
 use borrow.Author.Tests.{eqb-false}
 use Rattle.lists.proofs.Picks.{same, differ, same?}
@@ -33,9 +34,18 @@ module _ (size live : ℕ) (table : List ℕ) (n : ℕ) where
     | differ e f ↦ simp (ne_eqb n 0 e, lt-ltb (length table) (size * n) (h e))
   ]
 
--- n less 1 wrapped is n − 1, but for 0 the greatest word
-pub less_one : (n r : ℕ) → r < 2 ^ 64 → (r + 1) % 2 ^ 64 ≡ n → n ≢ 0 → r + 1 ≡ n
-less_one n r l e h = omega (arith, l, e, h)
+-- what the one test says, by n less 1 wrapped, which for 0 is the greatest word
+module _ (size length n : ℕ) (some : 1 ≤ size) (few : n < 2 ^ 32) (short : length < 2 ^ 62) where
+  pub row_there : (n + 18446744073709551615) % 18446744073709551616 < length / size → (n ≢ 0) × (size * n ≤ length)
+  row_there h =
+      let d = div-le_self length size in
+      let m : n ≤ length / size = omega (arith, h, few) in
+      (λ z. omega (arith, h, z, d, short), le_trans (mul-le-mul_left size m) (mul-div-le length size))
+
+  pub row_beyond : length / size ≤ (n + 18446744073709551615) % 18446744073709551616 → n ≢ 0 → length < size * n
+  row_beyond h z =
+      let m : length / size + 1 ≤ n = omega (arith, h, few, z) in
+      le_trans (lt-mul-div-succ length some) (mul-le-mul_left size m)
 
 -- as one equation with the test of codes 3, 4 and 5
 module _ (s : State) (g : Graph) (h : Holds s g) (n : ℕ) where

@@ -8,6 +8,7 @@ use Rattle.graph.specs.declared.Reading.TheVariants.{Untested}
 use Rattle.lists.specs.Choice.{◌⇒◌else◌}
 use Rattle.graph.specs.Graph.{reading_kind, decimetres, reading_of}
 use Rattle.graph_tables.specs.declared.Head.{Head}
+use Rattle.graph_tables.specs.declared.Tables.{Tables}
 use Rattle.graph_tables.specs.declared.EdgeFields.{EdgeFields}
 use Rattle.graph_tables.specs.declared.Lookup.{Lookup}
 use Rattle.graph_tables.specs.declared.Lookup.TheVariants.{Found, Missing}
@@ -115,6 +116,17 @@ pub record State : Type 0 where
 
 abbrev pub state : Head → List ℕ → List ℕ → State
 state h vertices edges = record { head = h; vertices = vertices; edges = edges }
+
+-- the head, and what the lent tables hold
+abbrev pub state_of : Head → Tables → State
+state_of h t = state h t.vertices.now t.edges.now
+
+-- the same two loans, of the same lengths: what is written by the one is read by who lent the other
+pub record SameLoan (old new : Tables) : Type 0 where
+  pub vertices : new.vertices.ghost_name ≡ old.vertices.ghost_name
+  pub edges : new.edges.ghost_name ≡ old.edges.ghost_name
+  pub vertices_length : length new.vertices.now ≡ length old.vertices.now
+  pub edges_length : length new.edges.now ≡ length old.edges.now
 
 abbrev pub vertex_list_ends : Head → Ends
 vertex_list_ends h = record { first = h.vfirst; last = h.vlast }

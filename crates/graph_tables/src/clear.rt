@@ -1,31 +1,25 @@
 // Tables with no vertices and no edges.
-ghost use Rattle.std.specs.Prelude.{◌≡◌, length, replicate};
-ghost use Rattle.graph_tables.specs.Tables.{cleared, state};
+ghost use Rattle.std.specs.Prelude.{◌≡◌};
+ghost use Rattle.graph_tables.specs.Tables.{cleared, state, state_of, SameLoan};
 
-use crate::Head;
+use crate::{Head, Tables};
 
-fn zero(table: &mut [u32])
-    ensures { table.new ≡ replicate (length table.old) 0 }
-{
-    let mut i = 0;
-    while i < table.len() {
-        table[i] = 0;
-        i += 1;
+impl<'t> Tables<'t> {
+    /// Makes the empty graph, whatever words the tables come with.
+    #[inline(always)]
+    pub fn clear(&mut self) -> Head
+        ensures cleared { state_of result self.new ≡ cleared self.old.vertices.now self.old.edges.now }
+        ensures same_loan { SameLoan self.old self.new }
+    {
+        self.vertices.fill(0);
+        self.edges.fill(0);
+        Head::default()
     }
 }
 
-// Makes the empty graph, whatever words the tables come with.
+/// The same, of tables that are lent apart.
 pub fn clear(vertices: &mut [u32], edges: &mut [u32]) -> Head
     ensures { state result vertices.new edges.new ≡ cleared vertices.old edges.old }
 {
-    zero(vertices);
-    zero(edges);
-    Head {
-        vfirst: 0,
-        vlast: 0,
-        efirst: 0,
-        elast: 0,
-        vertices: 0,
-        edges: 0,
-    }
+    Tables { vertices, edges }.clear()
 }

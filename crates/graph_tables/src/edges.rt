@@ -3,35 +3,137 @@
 ghost use Rattle.std.specs.Prelude.{◌≡◌, ◌^◌, ◌<◌};
 ghost use Rattle.linked_lists.specs.Links.{CanMove};
 ghost use Rattle.graph.specs.Graph.{reading_of, IsWords};
-ghost use Rattle.graph_tables.specs.Tables.{state, edge_list_ends, edge_links, EdgeRowIn, state_set_edge};
-ghost use Rattle.graph_tables.specs.Tables.{state_move_edge, state_place_edge};
-ghost use Rattle.graph_tables.specs.Tables.{CanPlaceEdge, state_drop_edge, CanDropEdge, state_insert_edge, CanInsertEdge};
+ghost use Rattle.graph_tables.specs.declared.Head.{Head};
+ghost use Rattle.graph_tables.specs.Tables.{state, state_of, SameLoan, edge_list_ends, edge_links, EdgeRowIn};
+ghost use Rattle.graph_tables.specs.Tables.{state_set_edge, state_move_edge, state_place_edge, CanPlaceEdge};
+ghost use Rattle.graph_tables.specs.Tables.{state_drop_edge, CanDropEdge, state_insert_edge, CanInsertEdge};
 ghost use Rattle.graph_tables.specs.Tables.{state_remove_edge, CanRemoveEdge};
 
 use crate::fields::EDGE_LINKS;
-use crate::incidence::{attach, detach};
 use crate::rows::{put_edge, put_fields, put_this};
-use crate::{EdgeRecord, Head, Places};
+use crate::{EdgeRecord, Head, Places, Tables};
 use graph::Reading;
 use linked_lists::Ends;
 
-// Sets type and reading of e.
-pub fn set_edge(
-    head: Head,
-    vertices: &[u32],
-    edges: &mut [u32],
-    e: u32,
-    sort: u32,
-    reading: Reading,
-)
-    requires { EdgeRowIn edges.old e }
-    ensures { state head vertices.now edges.new ≡ state_set_edge e sort reading
-        (state head vertices.now edges.old) }
-{
-    put_edge(edges, e, 1, sort, reading);
+impl<'t> Tables<'t> {
+    /// Sets type and reading of e.
+    #[inline(always)]
+    pub fn set_edge(&mut self, e: u32, sort: u32, reading: Reading)
+        requires { EdgeRowIn self.old.edges.now e }
+        ensures set { (head : Head) → state_of head self.new ≡ state_set_edge e sort reading (state_of head self.old) }
+        ensures same_loan { SameLoan self.old self.new }
+    {
+        put_edge(self.edges, e, 1, sort, reading);
+    }
+
+    /// The same, by the two words of the reading.
+    #[inline(always)]
+    pub fn set_edge_words(&mut self, e: u32, sort: u32, kind: u32, heard: u32)
+        requires row { EdgeRowIn self.old.edges.now e }
+        requires words { IsWords kind heard }
+        ensures set { (head : Head) → state_of head self.new
+            ≡ state_set_edge e sort (reading_of kind heard) (state_of head self.old) }
+        ensures same_loan { SameLoan self.old self.new }
+    {
+        put_fields(self.edges, e, sort, kind, heard);
+    }
+
+    /// Puts edge n after p in Eseq.
+    #[inline(always)]
+    pub fn move_edge(&mut self, head: Head, n: u32, p: u32) -> Head
+        requires { CanMove edge_links n p self.old.edges.now (edge_list_ends head) }
+        ensures moved { state_of result self.new ≡ state_move_edge n p (state_of head self.old) }
+        ensures same_loan { SameLoan self.old self.new }
+    {
+        let ends = Ends {
+            first: head.efirst,
+            last: head.elast,
+        };
+        let ends = EDGE_LINKS.relink(self.edges, ends, n, p);
+        Head {
+            efirst: ends.first,
+            elast: ends.last,
+            ..head
+        }
+    }
+
+    // An edge's row and its place in Eseq, without its words in the lists.
+    #[inline(always)]
+    fn place_edge(&mut self, head: Head, edge: EdgeRecord, p: u32) -> Head
+        requires { CanPlaceEdge edge.number p (state_of head self.old) }
+        ensures placed { state_of result self.new ≡ state_place_edge edge.number edge.alpha edge.omega edge.sort
+            edge.reading p (state_of head self.old) }
+        ensures same_loan { SameLoan self.old self.new }
+    {
+        let ends = Ends {
+            first: head.efirst,
+            last: head.elast,
+        };
+        let ends = EDGE_LINKS.insert_after(self.edges, ends, p, edge.number);
+        put_edge(self.edges, edge.number, 1, edge.sort, edge.reading);
+        put_this(self.edges, edge.number, edge.alpha, edge.omega);
+        Head {
+            efirst: ends.first,
+            elast: ends.last,
+            edges: head.edges + 1,
+            ..head
+        }
+    }
+
+    #[inline(always)]
+    fn drop_edge(&mut self, head: Head, n: u32) -> Head
+        requires { CanDropEdge n (state_of head self.old) }
+        ensures dropped { state_of result self.new ≡ state_drop_edge n (state_of head self.old) }
+        ensures same_loan { SameLoan self.old self.new }
+    {
+        let ends = Ends {
+            first: head.efirst,
+            last: head.elast,
+        };
+        let ends = EDGE_LINKS.unlink(self.edges, ends, n);
+        put_edge(self.edges, n, 0, 0, Reading::Untested);
+        put_this(self.edges, n, 0, 0);
+        Head {
+            efirst: ends.first,
+            elast: ends.last,
+            edges: head.edges - 1,
+            ..head
+        }
+    }
+
+    /// Puts an edge into Eseq and its words into the lists.
+    #[inline(always)]
+    pub fn insert_edge(&mut self, head: Head, edge: EdgeRecord, at: Places) -> Head
+        requires number { edge.number < 2 ^ 31 }
+        requires can { CanInsertEdge edge.number edge.alpha edge.omega edge.sort edge.reading at.order at.out at.into
+            (state_of head self.old) }
+        ensures inserted { state_of result self.new ≡ state_insert_edge edge.number edge.alpha edge.omega edge.sort
+            edge.reading at.order at.out at.into (state_of head self.old) }
+        ensures same_loan { SameLoan self.old self.new }
+    {
+        let head = self.place_edge(head, edge, at.order);
+        self.attach(edge.alpha, at.out, 2 * edge.number);
+        self.attach(edge.omega, at.into, 2 * edge.number + 1);
+        head
+    }
+
+    /// Takes edge n, from a to z, out of the lists and out of Eseq.
+    #[inline(always)]
+    pub fn remove_edge(&mut self, head: Head, n: u32, a: u32, z: u32) -> Head
+        requires number { n < 2 ^ 31 }
+        requires can { CanRemoveEdge n a z (state_of head self.old) }
+        ensures removed { state_of result self.new ≡ state_remove_edge n a z (state_of head self.old) }
+        ensures same_loan { SameLoan self.old self.new }
+    {
+        self.detach(z, 2 * n + 1);
+        self.detach(a, 2 * n);
+        self.drop_edge(head, n)
+    }
 }
 
-// The same, by the two words of the reading.
+// ---- the same of tables that are lent apart, for the crates that do not hand `Tables` on yet
+
+/// Sets type and reading of e, by the two words of the reading.
 pub fn set_edge_words(
     head: Head,
     vertices: &[u32],
@@ -48,109 +150,47 @@ pub fn set_edge_words(
     put_fields(edges, e, sort, kind, heard);
 }
 
-// Puts edge n after p in Eseq.
+/// Puts edge n after p in Eseq.
 pub fn move_edge(head: Head, vertices: &[u32], edges: &mut [u32], n: u32, p: u32) -> Head
     requires { CanMove edge_links n p edges.old (edge_list_ends head) }
     ensures { state result vertices.now edges.new ≡ state_move_edge n p
         (state head vertices.now edges.old) }
 {
-    let e = linked_lists::relink(
-        edges,
-        EDGE_LINKS,
-        Ends {
-            first: head.efirst,
-            last: head.elast,
-        },
-        n,
-        p,
-    );
+    let ends = Ends {
+        first: head.efirst,
+        last: head.elast,
+    };
+    let ends = EDGE_LINKS.relink(edges, ends, n, p);
     Head {
-        vfirst: head.vfirst,
-        vlast: head.vlast,
-        efirst: e.first,
-        elast: e.last,
-        vertices: head.vertices,
-        edges: head.edges,
+        efirst: ends.first,
+        elast: ends.last,
+        ..head
     }
 }
 
-// An edge's row and its place in Eseq, without its words in the lists.
+/// An edge's row and its place in Eseq, without its words in the lists.
 pub fn place_edge(head: Head, vertices: &[u32], edges: &mut [u32], edge: EdgeRecord, p: u32) -> Head
     requires { CanPlaceEdge edge.number p (state head vertices.now edges.old) }
     ensures { state result vertices.now edges.new
         ≡ state_place_edge edge.number edge.alpha edge.omega edge.sort
         edge.reading p (state head vertices.now edges.old) }
 {
-    let r = edge.reading;
-    let e = linked_lists::insert_after(
-        edges,
-        EDGE_LINKS,
-        Ends {
-            first: head.efirst,
-            last: head.elast,
-        },
-        p,
-        edge.number,
-    );
-    put_edge(edges, edge.number, 1, edge.sort, r);
+    let ends = Ends {
+        first: head.efirst,
+        last: head.elast,
+    };
+    let ends = EDGE_LINKS.insert_after(edges, ends, p, edge.number);
+    put_edge(edges, edge.number, 1, edge.sort, edge.reading);
     put_this(edges, edge.number, edge.alpha, edge.omega);
     Head {
-        vfirst: head.vfirst,
-        vlast: head.vlast,
-        efirst: e.first,
-        elast: e.last,
-        vertices: head.vertices,
+        efirst: ends.first,
+        elast: ends.last,
         edges: head.edges + 1,
+        ..head
     }
 }
 
-fn drop_edge(head: Head, vertices: &[u32], edges: &mut [u32], n: u32) -> Head
-    requires { CanDropEdge n (state head vertices.now edges.old) }
-    ensures { state result vertices.now edges.new ≡ state_drop_edge n
-        (state head vertices.now edges.old) }
-{
-    let e = linked_lists::unlink(
-        edges,
-        EDGE_LINKS,
-        Ends {
-            first: head.efirst,
-            last: head.elast,
-        },
-        n,
-    );
-    put_edge(edges, n, 0, 0, Reading::Untested);
-    put_this(edges, n, 0, 0);
-    Head {
-        vfirst: head.vfirst,
-        vlast: head.vlast,
-        efirst: e.first,
-        elast: e.last,
-        vertices: head.vertices,
-        edges: head.edges - 1,
-    }
-}
-
-// Puts an edge into Eseq and its words into the lists.
-pub fn insert_edge(
-    head: Head,
-    vertices: &mut [u32],
-    edges: &mut [u32],
-    edge: EdgeRecord,
-    at: Places,
-) -> Head
-    requires { (edge.number < 2 ^ 31)
-        × CanInsertEdge edge.number edge.alpha edge.omega edge.sort edge.reading at.order at.out
-        at.into (state head vertices.old edges.old) }
-    ensures { state result vertices.new edges.new ≡ state_insert_edge edge.number edge.alpha edge.omega edge.sort
-        edge.reading at.order at.out at.into (state head vertices.old edges.old) }
-{
-    let h = place_edge(head, vertices, edges, edge, at.order);
-    attach(h, vertices, edges, edge.alpha, at.out, 2 * edge.number);
-    attach(h, vertices, edges, edge.omega, at.into, 2 * edge.number + 1);
-    h
-}
-
-// Takes edge n, from a to z, out of the lists and out of Eseq.
+/// Takes edge n, from a to z, out of the lists and out of Eseq.
 pub fn remove_edge(
     head: Head,
     vertices: &mut [u32],
@@ -162,7 +202,5 @@ pub fn remove_edge(
     requires { (n < 2 ^ 31) × CanRemoveEdge n a z (state head vertices.old edges.old) }
     ensures { state result vertices.new edges.new ≡ state_remove_edge n a z (state head vertices.old edges.old) }
 {
-    detach(head, vertices, edges, z, 2 * n + 1);
-    detach(head, vertices, edges, a, 2 * n);
-    drop_edge(head, vertices, edges, n)
+    Tables { vertices, edges }.remove_edge(head, n, a, z)
 }

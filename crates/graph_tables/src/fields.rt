@@ -1,7 +1,12 @@
 // The words of a row by name (REFERENCE 13.1, 13.2), and where the links of the three kinds of lists stand.
 use linked_lists::LinkLayout;
 
-// Of the row of a vertex, 8 words: whether it is there, type, value, first and last word of its list, neighbours in
+/// How many words the row of a vertex has, and that of an edge.
+pub const VERTEX_WORDS: usize = 8;
+
+pub const EDGE_WORDS: usize = 12;
+
+// Of the row of a vertex: whether it is there, type, value, first and last word of its list, neighbours in
 // Vseq. Word 5 is spare.
 pub const VERTEX_LIVE: usize = 0;
 
@@ -24,7 +29,7 @@ pub const HALF_NEXT: usize = 1;
 
 pub const HALF_THIS: usize = 2;
 
-// Of the row of an edge, 12 words: its two halves, the out half first, have three words more each.
+// Of the row of an edge: its two halves, the out half first, have three words more each.
 pub const EDGE_ALPHA: usize = 2;
 
 pub const EDGE_LIVE: usize = 3;

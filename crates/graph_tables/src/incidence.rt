@@ -1,43 +1,72 @@
 // Words put into incidence lists, taken out and moved.
 // A caller has tables that hold a graph to which the edit applies, or lists that are held: `Can` of the edit.
 ghost use Rattle.std.specs.Prelude.{◌≡◌};
-ghost use Rattle.graph_tables.specs.Tables.{state, HalfRowIn, state_detach, CanDetach, state_attach, CanAttach, state_set_this};
-ghost use Rattle.graph_tables.specs.Tables.{state_move_word};
-ghost use Rattle.graph_tables.specs.Tables.{CanMoveWord};
+ghost use Rattle.graph_tables.specs.declared.Head.{Head};
+ghost use Rattle.graph_tables.specs.Tables.{state, state_of, SameLoan, HalfRowIn, state_detach, CanDetach, state_attach, CanAttach};
+ghost use Rattle.graph_tables.specs.Tables.{state_set_this, state_move_word, CanMoveWord};
 
-use crate::Head;
 use crate::fields::{HALF_THIS, INCIDENCE_LINKS};
-use crate::rows::{ends_of, put_ends};
+use crate::rows::put_ends;
+use crate::{Head, Tables};
 
-// Takes word w out of v's list.
-pub fn detach(head: Head, vertices: &mut [u32], edges: &mut [u32], v: u32, w: u32)
-    requires { CanDetach v w (state head vertices.old edges.old) }
-    ensures { state head vertices.new edges.new ≡ state_detach v w (state head vertices.old edges.old) }
-{
-    let e = ends_of(vertices, v);
-    let r = linked_lists::unlink(edges, INCIDENCE_LINKS, e, w);
-    put_ends(vertices, v, r);
+impl<'t> Tables<'t> {
+    /// Takes word w out of v's list.
+    #[inline(always)]
+    pub fn detach(&mut self, v: u32, w: u32)
+        requires { (head : Head) × CanDetach v w (state_of head self.old) }
+        ensures detached { (head : Head) → state_of head self.new ≡ state_detach v w (state_of head self.old) }
+        ensures same_loan { SameLoan self.old self.new }
+    {
+        let ends = self.ends_of(v);
+        let ends = INCIDENCE_LINKS.unlink(self.edges, ends, w);
+        put_ends(self.vertices, v, ends);
+    }
+
+    /// Puts word w into v's list after p.
+    #[inline(always)]
+    pub fn attach(&mut self, v: u32, p: u32, w: u32)
+        requires { (head : Head) × CanAttach v p w (state_of head self.old) }
+        ensures attached { (head : Head) → state_of head self.new ≡ state_attach v p w (state_of head self.old) }
+        ensures same_loan { SameLoan self.old self.new }
+    {
+        let ends = self.ends_of(v);
+        let ends = INCIDENCE_LINKS.insert_after(self.edges, ends, p, w);
+        put_ends(self.vertices, v, ends);
+    }
+
+    #[inline(always)]
+    fn set_this(&mut self, w: u32, u: u32)
+        requires { HalfRowIn self.old.edges.now w }
+        ensures set { (head : Head) → state_of head self.new ≡ state_set_this w u (state_of head self.old) }
+        ensures same_loan { SameLoan self.old self.new }
+    {
+        self.edges[6 * w as usize - 12 + HALF_THIS] = u;
+    }
+
+    /// Takes word w out of v's list and puts it into u's after p.
+    #[inline(always)]
+    pub fn move_word(&mut self, w: u32, v: u32, u: u32, p: u32)
+        requires { (head : Head) × CanMoveWord w v u p (state_of head self.old) }
+        ensures moved { (head : Head) → state_of head self.new ≡ state_move_word w v u p (state_of head self.old) }
+        ensures same_loan { SameLoan self.old self.new }
+    {
+        self.detach(v, w);
+        self.attach(u, p, w);
+        self.set_this(w, u);
+    }
 }
 
-// Puts word w into v's list after p.
+// ---- the same of tables that are lent apart, for the crates that do not hand `Tables` on yet
+
+/// Puts word w into v's list after p.
 pub fn attach(head: Head, vertices: &mut [u32], edges: &mut [u32], v: u32, p: u32, w: u32)
     requires { CanAttach v p w (state head vertices.old edges.old) }
     ensures { state head vertices.new edges.new ≡ state_attach v p w (state head vertices.old edges.old) }
 {
-    let e = ends_of(vertices, v);
-    let r = linked_lists::insert_after(edges, INCIDENCE_LINKS, e, p, w);
-    put_ends(vertices, v, r);
+    Tables { vertices, edges }.attach(v, p, w)
 }
 
-fn set_this(head: Head, vertices: &[u32], edges: &mut [u32], w: u32, u: u32)
-    requires { HalfRowIn edges.old w }
-    ensures { state head vertices.now edges.new ≡ state_set_this w u
-        (state head vertices.now edges.old) }
-{
-    edges[6 * (w as usize) - 12 + HALF_THIS] = u;
-}
-
-// Takes word w out of v's list and puts it into u's after p.
+/// Takes word w out of v's list and puts it into u's after p.
 pub fn move_word(
     head: Head,
     vertices: &mut [u32],
@@ -50,7 +79,5 @@ pub fn move_word(
     requires { CanMoveWord w v u p (state head vertices.old edges.old) }
     ensures { state head vertices.new edges.new ≡ state_move_word w v u p (state head vertices.old edges.old) }
 {
-    detach(head, vertices, edges, v, w);
-    attach(head, vertices, edges, u, p, w);
-    set_this(head, vertices, edges, w, u);
+    Tables { vertices, edges }.move_word(w, v, u, p)
 }

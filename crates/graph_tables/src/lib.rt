@@ -14,8 +14,15 @@ pub mod edges; // edges put in, taken out, set and moved
 pub mod edits; // the nine edits
 pub mod lookups; // is a number in the graph
 
-// Ends of the two orders (0 is none), and how many vertices and edges there are.
-#[derive(Clone, Copy)]
+/// The lent tables. Nothing outside them is written, and the head is a record of its own.
+#[derive(Drop)]
+pub struct Tables<'t> {
+    pub vertices: &'t mut [u32],
+    pub edges: &'t mut [u32],
+}
+
+/// Ends of the two orders, and how many vertices and edges there are.
+#[derive(Clone, Copy, Debug, Default, PartialEq, Eq)]
 pub struct Head {
     pub vfirst: u32,
     pub vlast: u32,
@@ -25,7 +32,7 @@ pub struct Head {
     pub edges: u32,
 }
 
-// An edge: its number, its ends, its type and its reading.
+/// An edge: its number, its ends, its type and its reading.
 #[derive(Clone, Copy)]
 pub struct EdgeRecord {
     pub number: u32,
@@ -35,8 +42,8 @@ pub struct EdgeRecord {
     pub reading: Reading,
 }
 
-// What the row of an edge says of it, as words: its ends, its type, and kind and decimetres of its reading.
-#[derive(Clone, Copy)]
+/// What the row of an edge says of it, as words: its ends, its type, and kind and decimetres of its reading.
+#[derive(Clone, Copy, Debug, PartialEq, Eq)]
 pub struct EdgeFields {
     pub alpha: u32,
     pub omega: u32,
@@ -45,23 +52,23 @@ pub struct EdgeFields {
     pub decimetres: u32,
 }
 
-// Where an edge is put in: after which edge of Eseq, and after which words of the two incidence lists.
-#[derive(Clone, Copy)]
+/// Where an edge is put in: after which edge of Eseq, and after which words of the two incidence lists.
+#[derive(Clone, Copy, Debug, PartialEq, Eq)]
 pub struct Places {
     pub order: u32,
     pub out: u32,
     pub into: u32,
 }
 
-// What a look-up of a number returns: where its row starts, or that the graph does not have it.
-#[derive(Clone, Copy)]
+/// What a look-up of a number returns: where its row starts, or that the graph does not have it.
+#[derive(Clone, Copy, Debug, PartialEq, Eq)]
 pub enum Lookup {
     Found(usize),
     Missing,
 }
 
-// The same head, built word by word. The compiler keeps the words of a record that is built so in registers; one that
-// is passed through whole, it copies in memory.
+/// The same head, built word by word. The compiler keeps the words of a record that is built so in registers; one that
+/// is passed through whole, it copies in memory.
 pub fn same(head: Head) -> Head
     ensures { result ≡ head }
 {

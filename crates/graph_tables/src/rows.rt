@@ -6,78 +6,139 @@ ghost use Rattle.graph_tables.specs.Tables.{VertexRowIn, EdgeRowIn, HalfRowIn, v
 ghost use Rattle.graph_tables.specs.Tables.{half_field, wnext, reading_at, edge_fields, vertex_ends, put_ends};
 ghost use Rattle.graph_tables.specs.Tables.{table_vertex_row, table_edge_row, table_edge_this};
 
-use crate::EdgeFields;
 use crate::fields::{
     EDGE_ALPHA, EDGE_DECIMETRES, EDGE_KIND, EDGE_LIVE, EDGE_OMEGA, EDGE_TYPE, HALF_NEXT, HALF_THIS,
     VERTEX_FIRST, VERTEX_LAST, VERTEX_LIVE, VERTEX_TYPE, VERTEX_VALUE,
 };
+use crate::{EdgeFields, Tables};
 use graph::Reading;
 use linked_lists::Ends;
 
-// Word `field` of the row of vertex v.
+/// Word `field` of the row of vertex v.
 pub fn vertex_field(vertices: &[u32], v: u32, field: usize) -> u32
     requires { VertexRowIn vertices.now v × (field < 8) }
     ensures { result ≡ vertex_field field vertices.now v }
 {
-    vertices[8 * (v as usize) - 8 + field]
+    vertices[8 * v as usize - 8 + field]
 }
 
-// Word `field` of the row of edge e.
+/// Word `field` of the row of edge e.
 pub fn edge_field(edges: &[u32], e: u32, field: usize) -> u32
     requires { EdgeRowIn edges.now e × (field < 12) }
     ensures { result ≡ edge_field field edges.now e }
 {
-    edges[12 * (e as usize) - 12 + field]
+    edges[12 * e as usize - 12 + field]
 }
 
-// Word `field` of the half of oriented word w.
+/// Word `field` of the half of oriented word w.
 pub fn half_field(edges: &[u32], w: u32, field: usize) -> u32
     requires { HalfRowIn edges.now w × (field < 6) }
     ensures { result ≡ half_field field edges.now w }
 {
-    edges[6 * (w as usize) - 12 + field]
+    edges[6 * w as usize - 12 + field]
 }
 
-// The word after w in its list: a cursor's step.
+/// The word after w in its list: the step of a cursor, which is walked by hand and has no field as a parameter.
 pub fn word_next(edges: &[u32], w: u32) -> u32
     requires { HalfRowIn edges.now w }
     ensures { result ≡ wnext edges.now w }
 {
-    edges[6 * (w as usize) - 12 + HALF_NEXT]
+    edges[6 * w as usize - 12 + HALF_NEXT]
 }
 
-// The ends of v's incidence list.
+/// The ends of v's incidence list.
 pub fn ends_of(vertices: &[u32], v: u32) -> Ends
     requires { VertexRowIn vertices.now v }
     ensures { result ≡ vertex_ends vertices.now v }
 {
-    let at = 8 * (v as usize) - 8;
-    let first = vertices[at + VERTEX_FIRST];
-    let last = vertices[at + VERTEX_LAST];
-    Ends { first, last }
+    let at = 8 * v as usize - 8;
+    Ends {
+        first: vertices[at + VERTEX_FIRST],
+        last: vertices[at + VERTEX_LAST],
+    }
 }
 
-// Writes the ends of v's incidence list.
+impl<'t> Tables<'t> {
+    /// Word `field` of the row of vertex v.
+    #[inline(always)]
+    pub fn vertex_field(&self, v: u32, field: usize) -> u32
+        requires row { VertexRowIn self.now.vertices.now v }
+        requires field { field < 8 }
+        ensures { result ≡ vertex_field field self.now.vertices.now v }
+    {
+        vertex_field(self.vertices, v, field)
+    }
+
+    /// Word `field` of the row of edge e.
+    #[inline(always)]
+    pub fn edge_field(&self, e: u32, field: usize) -> u32
+        requires row { EdgeRowIn self.now.edges.now e }
+        requires field { field < 12 }
+        ensures { result ≡ edge_field field self.now.edges.now e }
+    {
+        edge_field(self.edges, e, field)
+    }
+
+    /// Word `field` of the half of oriented word w.
+    #[inline(always)]
+    pub fn half_field(&self, w: u32, field: usize) -> u32
+        requires row { HalfRowIn self.now.edges.now w }
+        requires field { field < 6 }
+        ensures { result ≡ half_field field self.now.edges.now w }
+    {
+        half_field(self.edges, w, field)
+    }
+
+    /// The ends of v's incidence list.
+    #[inline(always)]
+    pub fn ends_of(&self, v: u32) -> Ends
+        requires { VertexRowIn self.now.vertices.now v }
+        ensures { result ≡ vertex_ends self.now.vertices.now v }
+    {
+        ends_of(self.vertices, v)
+    }
+
+    /// What the row of edge e says of it.
+    #[inline(always)]
+    pub fn edge_fields(&self, e: u32) -> EdgeFields
+        requires { EdgeRowIn self.now.edges.now e }
+        ensures { result ≡ edge_fields self.now.edges.now e }
+    {
+        edge_fields(self.edges, e)
+    }
+
+    /// The reading of edge e.
+    #[inline(always)]
+    pub fn reading_at(&self, e: u32) -> Reading
+        requires { EdgeRowIn self.now.edges.now e }
+        ensures { result ≡ reading_at self.now.edges.now e }
+    {
+        reading_at(self.edges, e)
+    }
+}
+
+/// Writes the ends of v's incidence list.
 pub fn put_ends(vertices: &mut [u32], v: u32, ends: Ends)
     requires { VertexRowIn vertices.old v }
     ensures { vertices.new ≡ put_ends v ends vertices.old }
 {
-    let at = 8 * (v as usize) - 8;
+    let at = 8 * v as usize - 8;
     vertices[at + VERTEX_FIRST] = ends.first;
     vertices[at + VERTEX_LAST] = ends.last;
 }
 
-// Writes v's own words: whether it is there, type and value.
+/// Writes v's own words: whether it is there, type and value.
 pub fn put_vertex(vertices: &mut [u32], v: u32, live: u32, sort: u32, value: u32)
     requires { VertexRowIn vertices.old v }
     ensures { vertices.new ≡ table_vertex_row v live sort value vertices.old }
 {
-    let at = 8 * (v as usize) - 8;
+    let at = 8 * v as usize - 8;
     vertices[at + VERTEX_LIVE] = live;
     vertices[at + VERTEX_TYPE] = sort;
     vertices[at + VERTEX_VALUE] = value;
 }
 
+/// The kind of a reading, as a word.
 pub fn kind_of(reading: Reading) -> u32
     ensures { result ≡ reading_kind reading }
 {
@@ -88,91 +149,83 @@ pub fn kind_of(reading: Reading) -> u32
     }
 }
 
+/// The decimetres of a reading, 0 where none were heard.
 pub fn decimetres_of(reading: Reading) -> u32
     ensures { result ≡ decimetres reading }
 {
     match reading {
-        Reading::Untested => 0,
-        Reading::Silent => 0,
+        Reading::Untested | Reading::Silent => 0,
         Reading::Heard(d) => d,
     }
 }
 
-// The reading of a kind and decimetres that are one.
+/// The reading of a kind and decimetres that are one.
 pub fn reading_of(k: u32, d: u32) -> Reading
     ensures { result ≡ reading_of k d }
 {
-    if k == 0 {
-        return Reading::Untested;
+    match k {
+        0 => Reading::Untested,
+        1 => Reading::Silent,
+        _ => Reading::Heard(d),
     }
-    if k == 1 {
-        return Reading::Silent;
-    }
-    Reading::Heard(d)
 }
 
-// The reading of edge e.
+/// The reading of edge e.
 pub fn reading_at(edges: &[u32], e: u32) -> Reading
     requires { EdgeRowIn edges.now e }
     ensures { result ≡ reading_at edges.now e }
 {
-    let k = edge_field(edges, e, EDGE_KIND);
-    let d = edge_field(edges, e, EDGE_DECIMETRES);
-    reading_of(k, d)
+    reading_of(
+        edge_field(edges, e, EDGE_KIND),
+        edge_field(edges, e, EDGE_DECIMETRES),
+    )
 }
 
-// What the row of edge e says of it. Save, removal and the edits of type and reading read an edge by this.
+/// What the row of edge e says of it. Save, removal and the edits of type and reading read an edge by this.
 pub fn edge_fields(edges: &[u32], e: u32) -> EdgeFields
     requires { EdgeRowIn edges.now e }
     ensures { result ≡ edge_fields edges.now e }
 {
-    let alpha = edge_field(edges, e, EDGE_ALPHA);
-    let omega = edge_field(edges, e, EDGE_OMEGA);
-    let sort = edge_field(edges, e, EDGE_TYPE);
-    let kind = edge_field(edges, e, EDGE_KIND);
-    let decimetres = edge_field(edges, e, EDGE_DECIMETRES);
     EdgeFields {
-        alpha,
-        omega,
-        sort,
-        kind,
-        decimetres,
+        alpha: edge_field(edges, e, EDGE_ALPHA),
+        omega: edge_field(edges, e, EDGE_OMEGA),
+        sort: edge_field(edges, e, EDGE_TYPE),
+        kind: edge_field(edges, e, EDGE_KIND),
+        decimetres: edge_field(edges, e, EDGE_DECIMETRES),
     }
 }
 
-// Writes e's own words: whether it is there, type and reading.
+/// Writes e's own words: whether it is there, type and reading.
 pub fn put_edge(edges: &mut [u32], e: u32, live: u32, sort: u32, reading: Reading)
     requires { EdgeRowIn edges.old e }
     ensures { edges.new ≡ table_edge_row e live sort reading edges.old }
 {
-    let k = kind_of(reading);
-    let d = decimetres_of(reading);
-    let at = 12 * (e as usize) - 12;
+    let at = 12 * e as usize - 12;
     edges[at + EDGE_LIVE] = live;
     edges[at + EDGE_TYPE] = sort;
-    edges[at + EDGE_KIND] = k;
-    edges[at + EDGE_DECIMETRES] = d;
+    edges[at + EDGE_KIND] = kind_of(reading);
+    edges[at + EDGE_DECIMETRES] = decimetres_of(reading);
 }
 
-// Makes e live, with its type and reading. The two words of a reading are written as they stand, so that no branch asks
-// for its kind.
+/// Makes e live, with its type and reading. The two words of a reading are written as they stand, so that no branch asks
+/// for its kind.
 pub fn put_fields(edges: &mut [u32], e: u32, sort: u32, kind: u32, heard: u32)
     requires { EdgeRowIn edges.old e × IsWords kind heard }
     ensures { edges.new ≡ table_edge_row e 1 sort (reading_of kind heard) edges.old }
 {
-    let at = 12 * (e as usize) - 12;
+    let at = 12 * e as usize - 12;
     edges[at + EDGE_LIVE] = 1;
     edges[at + EDGE_TYPE] = sort;
     edges[at + EDGE_KIND] = kind;
     edges[at + EDGE_DECIMETRES] = heard;
 }
 
-// Writes e's two ends.
+/// Writes e's two ends.
 pub fn put_this(edges: &mut [u32], e: u32, a: u32, z: u32)
     requires { EdgeRowIn edges.old e }
     ensures { edges.new ≡ table_edge_this e a z edges.old }
 {
-    let w = 2 * (e as usize);
+    let w = 2 * e as usize;
     edges[6 * w - 12 + HALF_THIS] = a;
     edges[6 * (w + 1) - 12 + HALF_THIS] = z;
 }

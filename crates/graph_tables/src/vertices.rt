@@ -2,16 +2,92 @@
 // A caller has tables that hold a graph to which the edit applies, or lists that are held: `Can` of the edit.
 ghost use Rattle.std.specs.Prelude.{◌≡◌};
 ghost use Rattle.linked_lists.specs.Links.{CanMove};
-ghost use Rattle.graph_tables.specs.Tables.{state, vertex_list_ends, vertex_links, VertexRowIn};
+ghost use Rattle.graph_tables.specs.declared.Head.{Head};
+ghost use Rattle.graph_tables.specs.Tables.{state, state_of, SameLoan, vertex_list_ends, vertex_links, VertexRowIn};
 ghost use Rattle.graph_tables.specs.Tables.{state_set_vertex, state_move_vertex};
 ghost use Rattle.graph_tables.specs.Tables.{state_insert_vertex, CanInsertVertex, state_remove_vertex, CanRemoveVertex};
 
-use crate::Head;
 use crate::fields::VERTEX_LINKS;
 use crate::rows::put_vertex;
+use crate::{Head, Tables};
 use linked_lists::Ends;
 
-// Sets type and value of v.
+impl<'t> Tables<'t> {
+    /// Sets type and value of v.
+    #[inline(always)]
+    pub fn set_vertex(&mut self, v: u32, sort: u32, value: u32)
+        requires { VertexRowIn self.old.vertices.now v }
+        ensures set { (head : Head) → state_of head self.new ≡ state_set_vertex v sort value (state_of head self.old) }
+        ensures same_loan { SameLoan self.old self.new }
+    {
+        put_vertex(self.vertices, v, 1, sort, value);
+    }
+
+    /// Puts vertex n after p in Vseq.
+    #[inline(always)]
+    pub fn move_vertex(&mut self, head: Head, n: u32, p: u32) -> Head
+        requires { CanMove vertex_links n p self.old.vertices.now (vertex_list_ends head) }
+        ensures moved { state_of result self.new ≡ state_move_vertex n p (state_of head self.old) }
+        ensures same_loan { SameLoan self.old self.new }
+    {
+        let ends = Ends {
+            first: head.vfirst,
+            last: head.vlast,
+        };
+        let ends = VERTEX_LINKS.relink(self.vertices, ends, n, p);
+        Head {
+            vfirst: ends.first,
+            vlast: ends.last,
+            ..head
+        }
+    }
+
+    /// Puts vertex n, with an empty list, into Vseq after p.
+    #[inline(always)]
+    pub fn insert_vertex(&mut self, head: Head, n: u32, sort: u32, value: u32, p: u32) -> Head
+        requires { CanInsertVertex n p (state_of head self.old) }
+        ensures inserted { state_of result self.new ≡ state_insert_vertex n sort value p (state_of head self.old) }
+        ensures same_loan { SameLoan self.old self.new }
+    {
+        let ends = Ends {
+            first: head.vfirst,
+            last: head.vlast,
+        };
+        let ends = VERTEX_LINKS.insert_after(self.vertices, ends, p, n);
+        put_vertex(self.vertices, n, 1, sort, value);
+        Head {
+            vfirst: ends.first,
+            vlast: ends.last,
+            vertices: head.vertices + 1,
+            ..head
+        }
+    }
+
+    /// Takes vertex n, whose list is empty, out of Vseq.
+    #[inline(always)]
+    pub fn remove_vertex(&mut self, head: Head, n: u32) -> Head
+        requires { CanRemoveVertex n (state_of head self.old) }
+        ensures removed { state_of result self.new ≡ state_remove_vertex n (state_of head self.old) }
+        ensures same_loan { SameLoan self.old self.new }
+    {
+        let ends = Ends {
+            first: head.vfirst,
+            last: head.vlast,
+        };
+        let ends = VERTEX_LINKS.unlink(self.vertices, ends, n);
+        put_vertex(self.vertices, n, 0, 0, 0);
+        Head {
+            vfirst: ends.first,
+            vlast: ends.last,
+            vertices: head.vertices - 1,
+            ..head
+        }
+    }
+}
+
+// ---- the same where the vertex table alone is lent for writing, for the crates that do not hand `Tables` on yet
+
+/// Sets type and value of v.
 pub fn set_vertex(head: Head, vertices: &mut [u32], edges: &[u32], v: u32, sort: u32, value: u32)
     requires { VertexRowIn vertices.old v }
     ensures { state head vertices.new edges.now ≡ state_set_vertex v sort value
@@ -20,33 +96,25 @@ pub fn set_vertex(head: Head, vertices: &mut [u32], edges: &[u32], v: u32, sort:
     put_vertex(vertices, v, 1, sort, value);
 }
 
-// Puts vertex n after p in Vseq.
+/// Puts vertex n after p in Vseq.
 pub fn move_vertex(head: Head, vertices: &mut [u32], edges: &[u32], n: u32, p: u32) -> Head
     requires { CanMove vertex_links n p vertices.old (vertex_list_ends head) }
     ensures { state result vertices.new edges.now ≡ state_move_vertex n p
         (state head vertices.old edges.now) }
 {
-    let e = linked_lists::relink(
-        vertices,
-        VERTEX_LINKS,
-        Ends {
-            first: head.vfirst,
-            last: head.vlast,
-        },
-        n,
-        p,
-    );
+    let ends = Ends {
+        first: head.vfirst,
+        last: head.vlast,
+    };
+    let ends = VERTEX_LINKS.relink(vertices, ends, n, p);
     Head {
-        vfirst: e.first,
-        vlast: e.last,
-        efirst: head.efirst,
-        elast: head.elast,
-        vertices: head.vertices,
-        edges: head.edges,
+        vfirst: ends.first,
+        vlast: ends.last,
+        ..head
     }
 }
 
-// Puts vertex n, with an empty list, into Vseq after p.
+/// Puts vertex n, with an empty list, into Vseq after p.
 pub fn insert_vertex(
     head: Head,
     vertices: &mut [u32],
@@ -60,49 +128,36 @@ pub fn insert_vertex(
     ensures { state result vertices.new edges.now ≡ state_insert_vertex n sort value p
         (state head vertices.old edges.now) }
 {
-    let e = linked_lists::insert_after(
-        vertices,
-        VERTEX_LINKS,
-        Ends {
-            first: head.vfirst,
-            last: head.vlast,
-        },
-        p,
-        n,
-    );
+    let ends = Ends {
+        first: head.vfirst,
+        last: head.vlast,
+    };
+    let ends = VERTEX_LINKS.insert_after(vertices, ends, p, n);
     put_vertex(vertices, n, 1, sort, value);
     Head {
-        vfirst: e.first,
-        vlast: e.last,
-        efirst: head.efirst,
-        elast: head.elast,
+        vfirst: ends.first,
+        vlast: ends.last,
         vertices: head.vertices + 1,
-        edges: head.edges,
+        ..head
     }
 }
 
-// Takes vertex n, whose list is empty, out of Vseq.
+/// Takes vertex n, whose list is empty, out of Vseq.
 pub fn remove_vertex(head: Head, vertices: &mut [u32], edges: &[u32], n: u32) -> Head
     requires { CanRemoveVertex n (state head vertices.old edges.now) }
     ensures { state result vertices.new edges.now ≡ state_remove_vertex n
         (state head vertices.old edges.now) }
 {
-    let e = linked_lists::unlink(
-        vertices,
-        VERTEX_LINKS,
-        Ends {
-            first: head.vfirst,
-            last: head.vlast,
-        },
-        n,
-    );
+    let ends = Ends {
+        first: head.vfirst,
+        last: head.vlast,
+    };
+    let ends = VERTEX_LINKS.unlink(vertices, ends, n);
     put_vertex(vertices, n, 0, 0, 0);
     Head {
-        vfirst: e.first,
-        vlast: e.last,
-        efirst: head.efirst,
-        elast: head.elast,
+        vfirst: ends.first,
+        vlast: ends.last,
         vertices: head.vertices - 1,
-        edges: head.edges,
+        ..head
     }
 }

@@ -11,7 +11,7 @@ use graph_tables::fields::{EDGE_LINKS, HALF_THIS, INCIDENCE_LINKS};
 use graph_tables::rows::{ends_of, half_field, put_ends, put_fields, put_this};
 use graph_tables::vertices::insert_vertex;
 use image::layout::EDGE;
-use linked_lists::{Ends, append};
+use linked_lists::Ends;
 
 // Puts the vertex whose record stands at `at` last in Vseq, with an empty list.
 fn vertex(head: Head, part: &[u32], at: usize, vertices: &mut [u32], edges: &[u32]) -> Head
@@ -38,24 +38,18 @@ fn edge(head: Head, part: &[u32], at: usize, vertices: &[u32], edges: &mut [u32]
         (state head vertices.now edges.old) }
 {
     let n = part[at];
-    let ends = append(
-        edges,
-        EDGE_LINKS,
-        Ends {
-            first: head.efirst,
-            last: head.elast,
-        },
-        n,
-    );
+    let ends = Ends {
+        first: head.efirst,
+        last: head.elast,
+    };
+    let ends = EDGE_LINKS.append(edges, ends, n);
     put_fields(edges, n, part[at + 3], part[at + 4], part[at + 5]);
     put_this(edges, n, part[at + 1], part[at + 2]);
     Head {
-        vfirst: head.vfirst,
-        vlast: head.vlast,
         efirst: ends.first,
         elast: ends.last,
-        vertices: head.vertices,
         edges: head.edges + 1,
+        ..head
     }
 }
 
@@ -66,7 +60,7 @@ fn word(head: Head, vertices: &mut [u32], edges: &mut [u32], w: u32)
 {
     let v = half_field(edges, w, HALF_THIS);
     let before = ends_of(vertices, v);
-    let ends = append(edges, INCIDENCE_LINKS, before, w);
+    let ends = INCIDENCE_LINKS.append(edges, before, w);
     put_ends(vertices, v, ends);
 }
 

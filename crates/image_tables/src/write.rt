@@ -59,11 +59,11 @@ pub fn edges(head: Head, edges: &[u32], out: &mut [u32], from: usize)
         last: head.elast,
     };
     let mut at = from;
-    let mut e = linked_lists::next(edges, layout, ends, 0);
+    let mut e = layout.next(edges, ends, 0);
     while e != 0 {
         edge(edges, e, out, at);
         at += EDGE;
-        e = linked_lists::next(edges, layout, ends, e);
+        e = layout.next(edges, ends, e);
     }
 }
 
@@ -78,11 +78,11 @@ fn list(vertices: &[u32], edges: &[u32], v: u32, out: &mut [u32], from: usize) -
     let layout = INCIDENCE_LINKS;
     let ends = ends_of(vertices, v);
     let mut at = from;
-    let mut w = linked_lists::next(edges, layout, ends, 0);
+    let mut w = layout.next(edges, ends, 0);
     while w != 0 {
         out[at] = w;
         at += 1;
-        w = linked_lists::next(edges, layout, ends, w);
+        w = layout.next(edges, ends, w);
     }
     at
 }
@@ -133,11 +133,11 @@ pub fn vertices(
     };
     let mut at = from;
     let mut to = behind;
-    let mut v = linked_lists::next(vertices, layout, ends, 0);
+    let mut v = layout.next(vertices, ends, 0);
     while v != 0 {
         to = vertex(vertices, edges, v, out, at, to);
         at += VERTEX;
-        v = linked_lists::next(vertices, layout, ends, v);
+        v = layout.next(vertices, ends, v);
     }
     to
 }

@@ -32,12 +32,14 @@ module _ (layout : LinkLayout) (t : List ℕ) (e : Ends) where
       (t₁ ≡ table_join layout p n t) × (e₁ ≡ ends_join p n e) → (t₁ ≡ table_unlink layout t e x) × (e₁ ≡ ends_unlink layout t e x)
   unlink_steps x i j q = rw (← i, ← j) q
 
-  module _ {t₁ t₂ : List ℕ} {e₁ e₂ : Ends} where
-    -- the two links of `join`
-    pub join_steps : (a b : ℕ) → (t₁ ≡ table_put forward layout a b t) × (e₁ ≡ ends_put forward a b e) → (t₂ ≡ table_put backward layout b a t₁) × (e₂ ≡ ends_put backward b a e₁) →
-        (t₂ ≡ table_join layout a b t) × (e₂ ≡ ends_join a b e)
-    unfolding table_join ends_join
-    join_steps a b p q = (q.0 ∙ ap (table_put backward layout b a) p.0, q.1 ∙ ap (ends_put backward b a) p.1)
+  -- the two links of `join`
+  pub join_table : (a b : ℕ) {t₁ t₂ : List ℕ} → t₁ ≡ table_put forward layout a b t → t₂ ≡ table_put backward layout b a t₁ → t₂ ≡ table_join layout a b t
+  unfolding table_join
+  join_table a b p q = q ∙ ap (table_put backward layout b a) p
+
+pub join_ends : (e : Ends) (a b : ℕ) {e₁ e₂ : Ends} → e₁ ≡ ends_put forward a b e → e₂ ≡ ends_put backward b a e₁ → e₂ ≡ ends_join a b e
+unfolding ends_join
+join_ends e a b p q = q ∙ ap (ends_put backward b a) p
 
 -- a link of a node is a word of the table
 pub link_word : (layout : LinkLayout) (t : List ℕ) (e : Ends) (s : Direction) (x : ℕ) → (x ≡ 0 → ⊥) → HasAddress layout x → link_of s layout t e x ≡ get_or t (link_address s layout x) 0

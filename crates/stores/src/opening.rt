@@ -8,15 +8,7 @@ use history_calls::Store;
 
 // A store that is not there.
 fn none() -> Store {
-    let head = Head {
-        vfirst: 0,
-        vlast: 0,
-        efirst: 0,
-        elast: 0,
-        vertices: 0,
-        edges: 0,
-    };
-    history_calls::start(head)
+    history_calls::start(Head::default())
 }
 
 // Loads the start images in turn, each into its parts of v and e words. What the parts hold besides, and the stores

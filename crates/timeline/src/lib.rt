@@ -2,7 +2,7 @@
 // A caller has tables and journal that stand for a timeline.
 #![tactic(auto)]
 
-use graph_tables::Head;
+use graph_tables::{Head, Tables};
 
 pub mod lent; // the record that every change updates, lent to thin functions
 
@@ -11,7 +11,7 @@ ghost use Rattle.lists.specs.Choice.{to_bit};
 ghost use Rattle.graph.specs.Graph.{Graph};
 ghost use Rattle.graph.specs.WellFormed.{Bounds, Within};
 ghost use Rattle.history.specs.Machine.{Step, Timeline, begun, placed, onward, made_by};
-ghost use Rattle.graph_tables.specs.Tables.{State, state};
+ghost use Rattle.graph_tables.specs.Tables.{State, state, state_of, SameLoan};
 ghost use Rattle.graph_tables.specs.Capacities.{Sized};
 ghost use Rattle.graph_tables.specs.Holds.{Holds};
 ghost use Rattle.timeline.specs.Current.{no_steps};
@@ -62,30 +62,19 @@ fn row_crossed(u: u32, back: bool) -> u32
     u
 }
 
-// Takes one row back.
-fn undo_row(head: Head, vertices: &mut [u32], edges: &mut [u32], journal: &[u32], u: u32) -> Head
-    requires { (b : Bounds) × (g : Graph) × (n : ℕ) × Reach true 1 u n
-        × JournalRows b journal.now g n (state head vertices.old edges.old) u }
-    ensures { (b : Bounds) → (g : Graph) → (n : ℕ) → Reach true 1 u n
-        → JournalRows b journal.now g n (state head vertices.old edges.old) u
-        → JournalRows b journal.now g n (state result vertices.new edges.new) (shifted true 1 u) }
+// Takes one row back, or carries one out.
+#[inline(always)]
+fn go_row<const BACK: bool>(tables: &mut Tables<'_>, head: Head, journal: &[u32], u: u32) -> Head
+    requires { (b : Bounds) × (g : Graph) × (n : ℕ) × Reach BACK 1 u n
+        × JournalRows b journal.now g n (state_of head tables.old) u }
+    ensures rows { (b : Bounds) → (g : Graph) → (n : ℕ) → Reach BACK 1 u n
+        → JournalRows b journal.now g n (state_of head tables.old) u
+        → JournalRows b journal.now g n (state_of result tables.new) (shifted BACK 1 u) }
+    ensures same_loan { SameLoan tables.old tables.new }
 {
-    let i = row_crossed(u, true);
-    let e = journal::row_at(journal, i, true);
-    graph_tables::edits::apply_undoing(head, vertices, edges, e)
-}
-
-// Carries one row out.
-fn redo_row(head: Head, vertices: &mut [u32], edges: &mut [u32], journal: &[u32], u: u32) -> Head
-    requires { (b : Bounds) × (g : Graph) × (n : ℕ) × Reach false 1 u n
-        × JournalRows b journal.now g n (state head vertices.old edges.old) u }
-    ensures { (b : Bounds) → (g : Graph) → (n : ℕ) → Reach false 1 u n
-        → JournalRows b journal.now g n (state head vertices.old edges.old) u
-        → JournalRows b journal.now g n (state result vertices.new edges.new) (shifted false 1 u) }
-{
-    let i = row_crossed(u, false);
-    let e = journal::row_at(journal, i, false);
-    graph_tables::edits::apply_edit(head, vertices, edges, e)
+    let i = row_crossed(u, BACK);
+    let e = journal::row_at(journal, i, BACK);
+    tables.apply(head, e)
 }
 
 // Is a row left to go through?
@@ -124,8 +113,40 @@ fn next_ahead(journal: &[u32], u: u32, a: Ahead, back: bool) -> Ahead
     }
 }
 
-// So many steps back, row by row. A caller has so many behind it. Which words of the tables hold the graph there is
+// So many steps back or on, row by row. A caller has so many there. Which words of the tables hold the graph then is
 // left open. Back and on are two loops, each with its own edits in it, so that each is compiled as one piece.
+#[inline(always)]
+fn go<const BACK: bool>(
+    tables: &mut Tables<'_>,
+    current: Current,
+    journal: &[u32],
+    steps: u32,
+) -> Current
+    requires reach { Reach BACK steps current.position.place current.position.steps }
+    requires journal { (b : Bounds) × (l : Timeline)
+        × Journal b current.position (state_of current.head tables.old) journal.now l }
+    ensures gone { (b : Bounds) → (l : Timeline)
+        → Journal b current.position (state_of current.head tables.old) journal.now l
+        → Journal b result.position (state_of result.head tables.new) journal.now
+        (placed (shifted BACK steps l.place) l) }
+    ensures same_loan { SameLoan tables.old tables.new }
+{
+    let mut h = current.head;
+    let mut u = current.position.used;
+    let mut a = Ahead {
+        end: u,
+        left: steps,
+    };
+    while unfinished(u, a) {
+        a = next_ahead(journal, u, a, BACK);
+        h = go_row::<BACK>(tables, h, journal, u);
+        u = shifted_by(u, 1, BACK);
+    }
+    let place = shifted_by(current.position.place, steps, BACK);
+    lent::moved(current, h, place, u)
+}
+
+/// So many steps back. A caller has so many behind it. Which words of the tables hold the graph there is left open.
 pub fn back(
     current: Current,
     vertices: &mut [u32],
@@ -141,22 +162,10 @@ pub fn back(
         → Journal b result.position (state result.head vertices.new edges.new) journal.now
         (placed (shifted true steps l.place) l) }
 {
-    let mut h = current.head;
-    let mut u = current.position.used;
-    let mut a = Ahead {
-        end: u,
-        left: steps,
-    };
-    while unfinished(u, a) {
-        a = next_ahead(journal, u, a, true);
-        h = undo_row(h, vertices, edges, journal, u);
-        u = shifted_by(u, 1, true);
-    }
-    let place = shifted_by(current.position.place, steps, true);
-    lent::moved(current, h, place, u)
+    go::<true>(&mut Tables { vertices, edges }, current, journal, steps)
 }
 
-// So many steps on, as back does.
+/// So many steps on, as back does.
 pub fn on(
     current: Current,
     vertices: &mut [u32],
@@ -172,19 +181,7 @@ pub fn on(
         → Journal b result.position (state result.head vertices.new edges.new) journal.now
         (placed (shifted false steps l.place) l) }
 {
-    let mut h = current.head;
-    let mut u = current.position.used;
-    let mut a = Ahead {
-        end: u,
-        left: steps,
-    };
-    while unfinished(u, a) {
-        a = next_ahead(journal, u, a, false);
-        h = redo_row(h, vertices, edges, journal, u);
-        u = shifted_by(u, 1, false);
-    }
-    let place = shifted_by(current.position.place, steps, false);
-    lent::moved(current, h, place, u)
+    go::<false>(&mut Tables { vertices, edges }, current, journal, steps)
 }
 
 // The rows behind the place so many steps on.

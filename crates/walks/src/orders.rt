@@ -11,41 +11,31 @@ use graph_tables::fields::{EDGE_LINKS, HALF_THIS, INCIDENCE_LINKS, VERTEX_LINKS}
 use graph_tables::rows::{ends_of, half_field};
 use linked_lists::Ends;
 
-// Is vertex a before b in Vseq: a walk from a.
+/// Is vertex a before b in Vseq: a walk from a.
 pub fn vertex_before(head: Head, vertices: &[u32], a: u32, b: u32) -> bool
     requires { HeldAt vertex_links vertices.now (vertex_list_ends head) a }
     ensures { result ≡ before a b (nodes vertex_links vertices.now (vertex_list_ends head)) }
 {
-    linked_lists::before(
-        vertices,
-        VERTEX_LINKS,
-        Ends {
-            first: head.vfirst,
-            last: head.vlast,
-        },
-        a,
-        b,
-    )
+    let ends = Ends {
+        first: head.vfirst,
+        last: head.vlast,
+    };
+    VERTEX_LINKS.before(vertices, ends, a, b)
 }
 
-// Is edge a before b in Eseq: a walk from a.
+/// Is edge a before b in Eseq: a walk from a.
 pub fn edge_before(head: Head, edges: &[u32], a: u32, b: u32) -> bool
     requires { HeldAt edge_links edges.now (edge_list_ends head) a }
     ensures { result ≡ before a b (nodes edge_links edges.now (edge_list_ends head)) }
 {
-    linked_lists::before(
-        edges,
-        EDGE_LINKS,
-        Ends {
-            first: head.efirst,
-            last: head.elast,
-        },
-        a,
-        b,
-    )
+    let ends = Ends {
+        first: head.efirst,
+        last: head.elast,
+    };
+    EDGE_LINKS.before(edges, ends, a, b)
 }
 
-// Is word a before b in a's list: a walk from a.
+/// Is word a before b in a's list: a walk from a.
 pub fn word_before(vertices: &[u32], edges: &[u32], a: u32, b: u32) -> bool
     requires { HalfRowIn edges.now a × VertexRowIn vertices.now (wthis edges.now a)
         × HeldAt incidence_links edges.now (vertex_ends vertices.now (wthis edges.now a)) a }
@@ -53,6 +43,5 @@ pub fn word_before(vertices: &[u32], edges: &[u32], a: u32, b: u32) -> bool
         (nodes incidence_links edges.now (vertex_ends vertices.now (wthis edges.now a))) }
 {
     let v = half_field(edges, a, HALF_THIS);
-    let e = ends_of(vertices, v);
-    linked_lists::before(edges, INCIDENCE_LINKS, e, a, b)
+    INCIDENCE_LINKS.before(edges, ends_of(vertices, v), a, b)
 }

@@ -5,4 +5,4 @@ pub returns : goal.returns
 returns c =
     let s = c in
     vertex_inserted s.args.head s.args.vertices.now s.args.edges.now s.args.n s.args.sort s.args.value s.args.p
-    c.insert_after-e.ensures c.put_vertex.ensures
+    (c.insert_after-ends.ensures.table, c.insert_after-ends.ensures.ends) c.put_vertex.ensures

@@ -7,4 +7,4 @@ returns c =
     let f = t in
     let a = f in
     let s = a.args in
-    edge_did s.part.now s.at s.head s.vertices.now s.edges.now a.append-ends.ensures f.put_fields.ensures t.put_this.ensures
+    edge_did s.part.now s.at s.head s.vertices.now s.edges.now (a.append-ends.ensures.table, a.append-ends.ensures.ends) f.put_fields.ensures t.put_this.ensures

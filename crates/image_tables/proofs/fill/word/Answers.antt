@@ -9,4 +9,4 @@ returns c =
     let o = a in
     let t = o in
     let s = t in
-    word_did s.args.w (state s.args.head s.args.vertices.now s.args.edges.now) t.half_field-v.ensures o.ends_of-before.ensures a.append-ends.ensures p.put_ends.ensures
+    word_did s.args.w (state s.args.head s.args.vertices.now s.args.edges.now) t.half_field-v.ensures o.ends_of-before.ensures (a.append-ends.ensures.table, a.append-ends.ensures.ends) p.put_ends.ensures
