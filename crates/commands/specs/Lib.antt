@@ -4,3 +4,4 @@ pub mod Tables
 pub mod Commands
 pub mod Answers
 pub mod Fits
+pub mod Refusals

@@ -1,16 +1,21 @@
 // The command that one call's five words are, in families.
 #![tactic(auto)]
 
+pub mod refusal; // refusal.rt: why a call is refused
+
 ghost use Rattle.std.specs.Prelude.{◌≡◌};
 ghost use Rattle.commands.specs.Calls.{call_at, five};
 ghost use Rattle.commands.specs.Answers.{accepts, refuses};
 ghost use Rattle.commands.specs.Commands.{command_of};
+ghost use Rattle.commands.specs.Refusals.{answer_by};
 
 use graph::{Change, SingleChange};
 use lists::get;
 
+use crate::refusal::Refusal;
+
 // Kinds 17 to 22, 49 to 51 and 56 to 59; a name is two words.
-#[derive(Clone, Copy)]
+#[derive(Clone, Copy, Debug, PartialEq, Eq)]
 pub enum HistoryCall {
     SetMark(u32),
     DropMark(u32),
@@ -28,7 +33,7 @@ pub enum HistoryCall {
 }
 
 // Kinds 30 to 48 and 52.
-#[derive(Clone, Copy)]
+#[derive(Clone, Copy, Debug, PartialEq, Eq)]
 pub enum Question {
     FirstVertex,
     NextVertex(u32),
@@ -53,7 +58,7 @@ pub enum Question {
 }
 
 // Kinds 53 and 54; the third word of a grade is its price list.
-#[derive(Clone, Copy)]
+#[derive(Clone, Copy, Debug, PartialEq, Eq)]
 pub enum PriceCall {
     Range(u32, u32),
     Grade(u32, u32, u32),
@@ -61,7 +66,7 @@ pub enum PriceCall {
 
 // A call by what answers it: a change, a history call, a question, a call of the price list, or a kind that is not
 // named.
-#[derive(Clone, Copy)]
+#[derive(Clone, Copy, Debug, PartialEq, Eq)]
 pub enum Command {
     Alter(Change),
     History(HistoryCall),
@@ -71,7 +76,7 @@ pub enum Command {
 }
 
 // What a call is answered by: code 0 and a number, or the code of a refusal and 0.
-#[derive(Clone, Copy)]
+#[derive(Clone, Copy, Debug, PartialEq, Eq)]
 pub struct Answer {
     pub code: u32,
     pub number: u32,
@@ -162,4 +167,16 @@ pub fn refused(code: u32) -> Answer
     ensures { result ≡ refuses code }
 {
     Answer { code, number: 0 }
+}
+
+impl From<Result<u32, Refusal>> for Answer {
+    ghost from_gives = { λ came answer. answer ≡ answer_by came };
+
+    #[inline(always)]
+    fn from(came: Result<u32, Refusal>) -> Answer {
+        match came {
+            Ok(number) => accepted(number),
+            Err(refusal) => refused(refusal.code()),
+        }
+    }
 }

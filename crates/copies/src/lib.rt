@@ -43,7 +43,7 @@ use timeline::Current;
 pub const PLACES: usize = 20001;
 
 // Where a move leads: a code, or a place.
-#[derive(Clone, Copy)]
+#[derive(Clone, Copy, Debug, PartialEq, Eq)]
 pub struct Target {
     pub code: u32,
     pub place: u32,
@@ -82,7 +82,7 @@ pub fn reload(
 }
 
 // What a call does to the copies: a move loads one, a change may make one, a commit gives that of the place to place 0.
-#[derive(Clone, Copy)]
+#[derive(Clone, Copy, Debug, PartialEq, Eq)]
 pub enum Role {
     Move(HistoryCall),
     Change,

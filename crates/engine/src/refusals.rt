@@ -10,7 +10,7 @@ use image_check::check;
 use type_rows::are_good;
 
 // The code of a list and the number beside it: with 108 and 109 the offset of the first bad word of the start, else 0.
-#[derive(Clone, Copy)]
+#[derive(Clone, Copy, Debug, PartialEq, Eq)]
 pub struct Refused {
     pub code: u32,
     pub number: u32,

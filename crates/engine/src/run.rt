@@ -14,7 +14,7 @@ use type_rows::closure;
 // The code of the list, the calls done, the words of the end image. Of a refused list `done` is the number beside its
 // code. The layout is that of include/futtockfig.h.
 #[repr(C)]
-#[derive(Clone, Copy)]
+#[derive(Clone, Copy, Debug, PartialEq, Eq)]
 pub struct RunResult {
     pub code: u32,
     pub done: usize,

@@ -102,7 +102,7 @@ pub extern "C" fn futtockfig_run_stores(
 
 // Where a part of an image lies, in words. No function that C calls can return a part itself.
 #[repr(C)]
-#[derive(Clone, Copy)]
+#[derive(Clone, Copy, Debug, PartialEq, Eq)]
 pub struct Span {
     pub offset: usize,
     pub len: usize,

@@ -16,7 +16,7 @@ pub const MOST_MARKS: u32 = 64;
 pub const MOST_BENCHES: u32 = 100;
 
 // The reading of an edge: untested, silent, or heard at some decimetres.
-#[derive(Clone, Copy)]
+#[derive(Clone, Copy, Debug, PartialEq, Eq)]
 pub enum Reading {
     Untested,
     Silent,
@@ -24,7 +24,7 @@ pub enum Reading {
 }
 
 // A change of one edit, kinds 1 and 3 to 16 in their order; the words of a reading as the call has them.
-#[derive(Clone, Copy)]
+#[derive(Clone, Copy, Debug, PartialEq, Eq)]
 pub enum SingleChange {
     // number, type, value
     CreateVertex(u32, u32, u32),
@@ -51,14 +51,14 @@ pub enum SingleChange {
 }
 
 // A change of the graph, kinds 1 to 16: one edit, or, kind 2, a vertex deleted together with the edges at it.
-#[derive(Clone, Copy)]
+#[derive(Clone, Copy, Debug, PartialEq, Eq)]
 pub enum Change {
     Single(SingleChange),
     DeleteVertex(u32),
 }
 
 // A reversible edit. A place is the number, or the oriented word, that stands directly before; 0 is the front.
-#[derive(Clone, Copy)]
+#[derive(Clone, Copy, Debug, PartialEq, Eq)]
 pub enum Edit {
     // number, type, value; after which vertex
     InsertVertex(u32, u32, u32, u32),

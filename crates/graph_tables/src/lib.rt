@@ -33,7 +33,7 @@ pub struct Head {
 }
 
 /// An edge: its number, its ends, its type and its reading.
-#[derive(Clone, Copy)]
+#[derive(Clone, Copy, Debug, PartialEq, Eq)]
 pub struct EdgeRecord {
     pub number: u32,
     pub alpha: u32,

@@ -31,7 +31,7 @@ pub mod benches; // kinds 58 and 59
 pub mod mark_calls; // kinds 17, 18, 22, 49, 50 and 56
 
 // The record that every change updates, the set of standing marks, and the bench of later steps.
-#[derive(Clone, Copy)]
+#[derive(Clone, Copy, Debug, PartialEq, Eq)]
 pub struct Store {
     pub current: Current,
     pub set: u64,
@@ -39,7 +39,7 @@ pub struct Store {
 }
 
 // The store after a call, and the answer to it.
-#[derive(Clone, Copy)]
+#[derive(Clone, Copy, Debug, PartialEq, Eq)]
 pub struct Called {
     pub answer: Answer,
     pub store: Store,
@@ -92,7 +92,7 @@ pub fn start(head: Head) -> Store
 }
 
 // Where kinds 19, 20, 21 and 57 lead: a code, or so many steps back or on.
-#[derive(Clone, Copy)]
+#[derive(Clone, Copy, Debug, PartialEq, Eq)]
 pub struct Way {
     pub code: u32,
     pub back: bool,

@@ -36,7 +36,7 @@ pub struct Limits {
 }
 
 /// The parts of an image whose header is sound, and how many words a vertex record has.
-#[derive(Clone, Copy)]
+#[derive(Clone, Copy, Debug, PartialEq, Eq)]
 pub struct Parts<'p> {
     pub vertices: &'p [u32],
     pub edges: &'p [u32],

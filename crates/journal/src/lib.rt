@@ -12,7 +12,7 @@ use graph_tables::rows::reading_of;
 use lists::numbers::wide;
 
 // Five words, half of an edit.
-#[derive(Clone, Copy)]
+#[derive(Clone, Copy, Debug, PartialEq, Eq)]
 pub struct Five {
     pub a: u32,
     pub b: u32,

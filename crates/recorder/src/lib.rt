@@ -39,7 +39,7 @@ use timeline::lent::moved;
 use type_rows::closure;
 
 // The store, the number of copies, and the answer to a call.
-#[derive(Clone, Copy)]
+#[derive(Clone, Copy, Debug, PartialEq, Eq)]
 pub struct Progress {
     pub store: Store,
     pub count: usize,

@@ -26,7 +26,7 @@ use type_rows::closure;
 
 // The code, the calls kept, the runs made. Of a refused list `kept` is the number beside its code.
 #[repr(C)]
-#[derive(Clone, Copy)]
+#[derive(Clone, Copy, Debug, PartialEq, Eq)]
 pub struct Reduction {
     pub code: u32,
     pub kept: usize,
@@ -34,7 +34,7 @@ pub struct Reduction {
 }
 
 // The calls that are still kept, and the one that is tried next.
-#[derive(Clone, Copy)]
+#[derive(Clone, Copy, Debug, PartialEq, Eq)]
 pub struct Trying {
     pub count: usize,
     pub at: usize,

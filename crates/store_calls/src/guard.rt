@@ -131,7 +131,7 @@ fn refuse(answers: &mut [u32], code: u32)
 }
 
 // The store after some calls, and how many.
-#[derive(Clone, Copy)]
+#[derive(Clone, Copy, Debug, PartialEq, Eq)]
 pub struct Stretch {
     pub store: Store,
     pub calls: usize,

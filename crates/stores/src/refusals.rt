@@ -17,7 +17,7 @@ pub const MOST_STORES: u32 = 8;
 
 // The code of a list and the number beside it: with 108 and 109 the offset of the first bad word, counted from the
 // first word of all start images, else 0.
-#[derive(Clone, Copy)]
+#[derive(Clone, Copy, Debug, PartialEq, Eq)]
 pub struct Refused {
     pub code: u32,
     pub number: usize,

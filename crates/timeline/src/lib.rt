@@ -19,7 +19,7 @@ ghost use Rattle.timeline.specs.JournalRows.{shifted, Reach, crossed, JournalRow
 ghost use Rattle.timeline.specs.Steps.{rows_to, Journal, Behind, Unfinished, Advances, Aims};
 
 // The place p, the number of steps m, and the rows of steps 1 to p.
-#[derive(Clone, Copy)]
+#[derive(Clone, Copy, Debug, PartialEq, Eq)]
 pub struct Position {
     pub place: u32,
     pub steps: u32,
@@ -27,14 +27,14 @@ pub struct Position {
 }
 
 // What every change updates: ends and counts of the graph, and the position.
-#[derive(Clone, Copy)]
+#[derive(Clone, Copy, Debug, PartialEq, Eq)]
 pub struct Current {
     pub position: Position,
     pub head: Head,
 }
 
 // The rows up to which the present step leads, and how many steps come after it.
-#[derive(Clone, Copy)]
+#[derive(Clone, Copy, Debug, PartialEq, Eq)]
 pub struct Ahead {
     pub end: u32,
     pub left: u32,

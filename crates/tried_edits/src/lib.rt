@@ -22,7 +22,7 @@ pub mod removal; // what the row of an edge says of its removal
 
 // What a change came to: the head after it, its code (0 where it is accepted) and its cost; 0 where it wrote nothing,
 // since it is refused or alters nothing.
-#[derive(Clone, Copy)]
+#[derive(Clone, Copy, Debug, PartialEq, Eq)]
 pub struct Made {
     pub head: Head,
     pub code: u32,

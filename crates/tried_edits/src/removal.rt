@@ -8,7 +8,7 @@ use graph_tables::rows::{edge_field, edge_fields, half_field};
 use lists::numbers::choose;
 
 // Ends, type, reading, and after which edge and which words it stands, the out word once the in word is gone.
-#[derive(Clone, Copy)]
+#[derive(Clone, Copy, Debug, PartialEq, Eq)]
 pub struct RemovedEdge {
     pub alpha: u32,
     pub omega: u32,

@@ -155,7 +155,7 @@ fn leads(line: &[u8], name: &[u8]) -> bool {
 }
 
 // The numbers so far, the one under way, whether one is under way.
-#[derive(Clone, Copy)]
+#[derive(Clone, Copy, Debug, PartialEq, Eq)]
 struct Scan {
     count: usize,
     value: u64,

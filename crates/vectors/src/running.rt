@@ -201,7 +201,7 @@ fn show_order(
 }
 
 // The lengths in words of what is lent.
-#[derive(Clone, Copy)]
+#[derive(Clone, Copy, Debug, PartialEq, Eq)]
 pub struct Lengths {
     pub vertices: usize,
     pub edges: usize,

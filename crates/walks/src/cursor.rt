@@ -7,7 +7,7 @@ ghost use Rattle.graph_tables.specs.Tables.{HalfRowIn, wnext};
 use graph_tables::rows::word_next;
 
 // The edge table, and the present oriented word; 0 after the last.
-#[derive(Clone, Copy)]
+#[derive(Clone, Copy, Debug, PartialEq, Eq)]
 pub struct Cursor<'a> {
     pub edges: &'a [u32],
     pub word: u32,

@@ -13,7 +13,7 @@ use std::num::wrapping_add_usize;
 
 // What the lines so far say: the lengths that are lent, the words of the start image, the type rows, the words of the
 // calls, the words of the last end image, the bound of the junk words, the place of the next line.
-#[derive(Clone, Copy)]
+#[derive(Clone, Copy, Debug, PartialEq, Eq)]
 pub struct Setting {
     pub lent: Lengths,
     pub start: usize,
