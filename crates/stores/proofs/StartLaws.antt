@@ -12,9 +12,10 @@ use lib.Seq.{take_all, take-length, drop-length, drop-drop, get_or-take}
 use borrow.Author.Tests.{ltb-true, ltb-false, eq-eqb, ne_eqb}
 use Rattle.lists.specs.Choice.{◌⇒◌else◌}
 use Rattle.graph.specs.WellFormed.{Bounds}
-use Rattle.image_check.specs.Checks.{bad_code, bad_offset, code_of, offset_of, load_code, load_offset}
+use Rattle.image_check.specs.Checks.{bad_code, bad_offset, load_code, load_offset}
 use Rattle.machine.specs.Run.{number_beside}
-use Rattle.stores.specs.Refusals.{number_at}
+use Rattle.engine.specs.Refusals.{list_code, list_offset}
+use Rattle.stores.specs.Refusals.{of_image_at}
 use Rattle.image.proofs.Headers.{header_words}
 use Rattle.image_check.proofs.LoadCodes.{code_loads}
 use Rattle.image.proofs.Loads.{loaded}
@@ -158,7 +159,8 @@ beside_none c = go ((c == 108) || (c == 109))
     go true = refl
     go false = refl
 
-pub number_is : (at : ℕ) (bad : BadImage) → number_at at bad ≡ number_beside (bad_code bad) (at + bad_offset bad)
-number_is at Header = refl
-number_is at (Record offset) = refl
-number_is at (Incidence offset) = refl
+pub image_told : (at : ℕ) (bad : BadImage)
+    → (list_code (of_image_at at bad) ≡ bad_code bad) × (list_offset (of_image_at at bad) ≡ number_beside (bad_code bad) (at + bad_offset bad))
+image_told at Header = (refl, refl)
+image_told at (Record offset) = (refl, refl)
+image_told at (Incidence offset) = (refl, refl)

@@ -7,12 +7,14 @@ use Rattle.machine.specs.StoreRun.{LentStores, most_stores}
 use Rattle.engine.specs.Refusals.{Lends}
 use Rattle.image_check.specs.declared.BadImage.{BadImage}
 use Rattle.image_check.specs.declared.BadImage.TheVariants.{Header, Record, Incidence}
+use Rattle.engine.specs.declared.list_refusal.ListRefusal.{ListRefusal}
+use Rattle.engine.specs.declared.list_refusal.ListRefusal.TheVariants.{BadStart, BadRecord, BadIncidence}
 
--- the number beside the code of what is bad in the image that stands at a place
-abbrev pub number_at : ℕ → BadImage → ℕ
-number_at at Header = 0
-number_at at (Record offset) = at + offset
-number_at at (Incidence offset) = at + offset
+-- a start image that stands at a place and is bad
+abbrev pub of_image_at : ℕ → BadImage → ListRefusal
+of_image_at at Header = BadStart
+of_image_at at (Record offset) = BadRecord (at + offset)
+of_image_at at (Incidence offset) = BadIncidence (at + offset)
 
 -- the stores and the capacities of a part
 abbrev pub in_limits_in : ℕ → ℕ → ℕ → ℕ → Bool

@@ -1,16 +1,16 @@
-use Prim.Native.Nat.{ℕ, ◌+◌, ◌-◌, min, ◌≤◌}
+use Prim.Native.Nat.{ℕ, ◌+◌, ◌-◌, ◌≤◌, ◌<◌}
 use mathlib.Core.Path.{◌≡◌, sym, ap, ◌∙◌}
 use mathlib.Core.List.{List}
 use native.Mathlib.Omega.{arith}
-use lib.ListN.{length, take, drop, length-drop}
+use lib.ListN.{take, drop, length-drop}
 use Rattle.graph.specs.WellFormed.{Bounds}
 use Rattle.image_check.specs.Checks.{Verdict, bounds, checked, verdict, code_of, offset_of}
 use Rattle.image_check.proofs.Capacity.{checked_same}
 use Rattle.image_check.proofs.Verdicts.{code_not_zero}
 use Rattle.machine.specs.Run.{number_beside}
-use Rattle.machine.specs.StoreRun.{stated_length, starts_code, starts_offset}
-use Rattle.stores.proofs.StartLaws.{first_is, code_on, offset_on, code_here, offset_here, code_end, code_over, offset_end, beside_none, number_is}
-use Rattle.stores.proofs.refusals.starts.Goals as goal
+use Rattle.machine.specs.StoreRun.{starts_code, starts_offset}
+use Rattle.stores.proofs.StartLaws.{first_is, code_on, offset_on, code_here, offset_here, code_end, code_over, offset_end, beside_none, image_told}
+use Rattle.stores.proofs.refusals.check_starts.Goals as goal
 
 -- capacities within the limits are checked as they are
 found : (vertices edges types : ℕ) (start : List ℕ) {v : Verdict} → vertices ≤ 1000 → edges ≤ 4000 → v ≡ verdict (checked vertices edges types) start
@@ -22,10 +22,10 @@ loop-k-init c =
     let a = c.args in
     let b = bounds a.vertices a.edges a.types in
     let z : a.stores ≡ a.stores - 0 = omega arith in
-    (omega arith, omega arith, ap (λ (j : ℕ). starts_code b j a.start.now) z, ap (λ (j : ℕ). starts_offset b 0 j a.start.now) z)
+    (omega arith, ap (λ (j : ℕ). starts_code b j a.start.now) z, ap (λ (j : ℕ). starts_offset b 0 j a.start.now) z)
 
-pub number_at-requires : goal.number_at-requires
-number_at-requires c = omega (arith, c.loop-k.invariant.1, c.well_formed)
+pub of_image_at-requires : goal.of_image_at-requires
+of_image_at-requires c = omega (arith, c.loop-k.invariant.0, c.well_formed)
 
 pub returns-in-Err : goal.returns-in-Err
 returns-in-Err c =
@@ -35,20 +35,18 @@ returns-in-Err c =
     let n = c.first_length-n.result in
     let image = take (l.at + n - l.at) (drop l.at a.start.now) in
     let f = found a.vertices a.edges a.types image c.requires.0 c.requires.1 (sym c.in-Err.is ∙ c.check.ensures) in
-    let first = first_is a.start.now l.at n l.invariant.1 c.first_length-n.ensures.0 in
+    let first = first_is a.start.now l.at n l.invariant.0 c.first_length-n.ensures.0 in
     let bad : code_of (verdict b image) ≡ 0 → ⊥ = λ e. code_not_zero _ (ap code_of f ∙ e) in
-    let e = l.invariant.2 ∙ code_here a.start.now l.at n first b bad a.stores l.k c.loop-k-test.true in
-    let o = l.invariant.3 ∙ offset_here a.start.now l.at n first b bad a.stores l.k c.loop-k-test.true in record {
-      code_value = c.code.ensures ∙ ap code_of f ∙ sym e;
-      number_value = c.number_at.ensures ∙ number_is l.at _ ∙ (λ i. number_beside (code_of (f i)) (l.at + offset_of (f i)))
-          ∙ (λ i. number_beside (sym e i) (sym o i));
+    let e = l.invariant.1 ∙ code_here a.start.now l.at n first b bad a.stores l.k (omega arith) in
+    let o = l.invariant.2 ∙ offset_here a.start.now l.at n first b bad a.stores l.k (omega arith) in
+    let t = image_told l.at c.in-Err.bad in
+    rw c.of_image_at.ensures record {
+      code_value = t.0 ∙ ap code_of f ∙ sym e;
+      number_value = t.1 ∙ (λ i. number_beside (code_of (f i)) (l.at + offset_of (f i))) ∙ (λ i. number_beside (sym e i) (sym o i));
     }
 
 pub overflow_add-at-in-loop-k : goal.overflow_add-at-in-loop-k
 overflow_add-at-in-loop-k c = omega (arith, c.first_length-n.ensures.1, length-drop c.loop-k.at c.args.start.now, c.well_formed)
-
-pub loop-k-smaller : goal.loop-k-smaller
-loop-k-smaller c = omega (arith, c.loop-k-test)
 
 pub loop-k-preserved : goal.loop-k-preserved
 loop-k-preserved c =
@@ -58,13 +56,12 @@ loop-k-preserved c =
     let n = c.first_length-n.result in
     let image = take (l.at + n - l.at) (drop l.at a.start.now) in
     let f = found a.vertices a.edges a.types image c.requires.0 c.requires.1 c.check.ensures in
-    let first = first_is a.start.now l.at n l.invariant.1 c.first_length-n.ensures.0 in
+    let first = first_is a.start.now l.at n l.invariant.0 c.first_length-n.ensures.0 in
     let good = ap code_of (sym f ∙ c.in_default.is) in
-    let k = c.loop-k-test.true in (
-      omega (arith, k),
+    let k : l.k < a.stores = omega arith in (
       omega (arith, c.first_length-n.ensures.1, length-drop l.at a.start.now),
-      l.invariant.2 ∙ code_on a.start.now l.at n first b good a.stores l.k k,
-      l.invariant.3 ∙ offset_on a.start.now l.at n first b good a.stores l.k k,
+      l.invariant.1 ∙ code_on a.start.now l.at n first b good a.stores l.k k,
+      l.invariant.2 ∙ offset_on a.start.now l.at n first b good a.stores l.k k,
     )
 
 pub returns-then-at-start : goal.returns-then-at-start
@@ -72,18 +69,18 @@ returns-then-at-start c =
     let l = c.loop-k in
     let a = c.args in
     let b = bounds a.vertices a.edges a.types in
-    let z : a.stores - l.k ≡ 0 = omega (arith, c.loop-k-test.false) in
-    let e = l.invariant.2 ∙ code_over b (a.stores - l.k) l.at a.start.now z c.if-at-start.true in
-    let o = l.invariant.3 ∙ offset_end b (a.stores - l.k) l.at (drop l.at a.start.now) z in record { code_value = sym e; number_value = beside_none (starts_code b a.stores a.start.now) ∙ ap (λ (k : ℕ). number_beside (starts_code b a.stores a.start.now) k) (sym o) }
+    let z : a.stores - l.k ≡ 0 = omega arith in
+    let e = l.invariant.1 ∙ code_over b (a.stores - l.k) l.at a.start.now z c.if-at-start.true in
+    let o = l.invariant.2 ∙ offset_end b (a.stores - l.k) l.at (drop l.at a.start.now) z in record { code_value = sym e; number_value = beside_none (starts_code b a.stores a.start.now) ∙ ap (λ (k : ℕ). number_beside (starts_code b a.stores a.start.now) k) (sym o) }
 
 pub returns : goal.returns
 returns c =
     let l = c.loop-k in
     let a = c.args in
     let b = bounds a.vertices a.edges a.types in
-    let z : a.stores - l.k ≡ 0 = omega (arith, c.loop-k-test.false) in
-    let e = l.invariant.2 ∙ code_end b (a.stores - l.k) l.at a.start.now z c.if-at-start.false in
-    let o = l.invariant.3 ∙ offset_end b (a.stores - l.k) l.at (drop l.at a.start.now) z in record { code_value = sym e; number_value = beside_none (starts_code b a.stores a.start.now) ∙ ap (λ (k : ℕ). number_beside (starts_code b a.stores a.start.now) k) (sym o) }
+    let z : a.stores - l.k ≡ 0 = omega arith in
+    let e = l.invariant.1 ∙ code_end b (a.stores - l.k) l.at a.start.now z c.if-at-start.false in
+    let o = l.invariant.2 ∙ offset_end b (a.stores - l.k) l.at (drop l.at a.start.now) z in record { code_value = sym e; number_value = beside_none (starts_code b a.stores a.start.now) ∙ ap (λ (k : ℕ). number_beside (starts_code b a.stores a.start.now) k) (sym o) }
 
 pub offset_bounds-start-at : goal.offset_bounds-start-at
 offset_bounds-start-at c = omega arith
@@ -111,6 +108,3 @@ slice_bounds-check-start c = omega (arith, c.first_length-n.ensures.1, length-dr
 
 pub slice_bounds-check-end : goal.slice_bounds-check-end
 slice_bounds-check-end c = omega (arith, c.first_length-n.ensures.1, length-drop c.loop-k.at c.args.start.now)
-
-pub overflow_add-k : goal.overflow_add-k
-overflow_add-k c = omega (arith, c.loop-k-test)
