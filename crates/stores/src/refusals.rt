@@ -73,7 +73,7 @@ fn check_starts(
         (starts_offset (bounds vertices edges types) 0 stores start.now) }
 {
     let mut at = 0;
-    for k in 0..stores {
+    for _ in 0..stores {
         let n = first_length(&start[at..]);
         if let Err(bad) = check(&start[at..at + n], vertices, edges, types) {
             return Err(of_image_at(at, bad));

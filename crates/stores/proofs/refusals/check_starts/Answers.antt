@@ -17,19 +17,19 @@ found : (vertices edges types : ℕ) (start : List ℕ) {v : Verdict} → vertic
     → v ≡ verdict (bounds vertices edges types) start
 found vertices edges types start few less e = e ∙ ap (λ (b : Bounds). verdict b start) (checked_same vertices edges types few less)
 
-pub loop-k-init : goal.loop-k-init
-loop-k-init c =
+pub loop-init : goal.loop-init
+loop-init c =
     let a = c.args in
     let b = bounds a.vertices a.edges a.types in
     let z : a.stores ≡ a.stores - 0 = omega arith in
     (omega arith, ap (λ (j : ℕ). starts_code b j a.start.now) z, ap (λ (j : ℕ). starts_offset b 0 j a.start.now) z)
 
 pub of_image_at-requires : goal.of_image_at-requires
-of_image_at-requires c = omega (arith, c.loop-k.invariant.0, c.well_formed)
+of_image_at-requires c = omega (arith, c.loop.invariant.0, c.well_formed)
 
 pub returns-in-Err : goal.returns-in-Err
 returns-in-Err c =
-    let l = c.loop-k in
+    let l = c.loop in
     let a = c.args in
     let b = bounds a.vertices a.edges a.types in
     let n = c.first_length-n.result in
@@ -37,20 +37,20 @@ returns-in-Err c =
     let f = found a.vertices a.edges a.types image c.requires.0 c.requires.1 (sym c.in-Err.is ∙ c.check.ensures) in
     let first = first_is a.start.now l.at n l.invariant.0 c.first_length-n.ensures.0 in
     let bad : code_of (verdict b image) ≡ 0 → ⊥ = λ e. code_not_zero _ (ap code_of f ∙ e) in
-    let e = l.invariant.1 ∙ code_here a.start.now l.at n first b bad a.stores l.k (omega arith) in
-    let o = l.invariant.2 ∙ offset_here a.start.now l.at n first b bad a.stores l.k (omega arith) in
+    let e = l.invariant.1 ∙ code_here a.start.now l.at n first b bad a.stores l.counter (omega arith) in
+    let o = l.invariant.2 ∙ offset_here a.start.now l.at n first b bad a.stores l.counter (omega arith) in
     let t = image_told l.at c.in-Err.bad in
     rw c.of_image_at.ensures record {
       code_value = t.0 ∙ ap code_of f ∙ sym e;
       number_value = t.1 ∙ (λ i. number_beside (code_of (f i)) (l.at + offset_of (f i))) ∙ (λ i. number_beside (sym e i) (sym o i));
     }
 
-pub overflow_add-at-in-loop-k : goal.overflow_add-at-in-loop-k
-overflow_add-at-in-loop-k c = omega (arith, c.first_length-n.ensures.1, length-drop c.loop-k.at c.args.start.now, c.well_formed)
+pub overflow_add-at-in-loop : goal.overflow_add-at-in-loop
+overflow_add-at-in-loop c = omega (arith, c.first_length-n.ensures.1, length-drop c.loop.at c.args.start.now, c.well_formed)
 
-pub loop-k-preserved : goal.loop-k-preserved
-loop-k-preserved c =
-    let l = c.loop-k in
+pub loop-preserved : goal.loop-preserved
+loop-preserved c =
+    let l = c.loop in
     let a = c.args in
     let b = bounds a.vertices a.edges a.types in
     let n = c.first_length-n.result in
@@ -58,29 +58,29 @@ loop-k-preserved c =
     let f = found a.vertices a.edges a.types image c.requires.0 c.requires.1 c.check.ensures in
     let first = first_is a.start.now l.at n l.invariant.0 c.first_length-n.ensures.0 in
     let good = ap code_of (sym f ∙ c.in_default.is) in
-    let k : l.k < a.stores = omega arith in (
+    let k : l.counter < a.stores = omega arith in (
       omega (arith, c.first_length-n.ensures.1, length-drop l.at a.start.now),
-      l.invariant.1 ∙ code_on a.start.now l.at n first b good a.stores l.k k,
-      l.invariant.2 ∙ offset_on a.start.now l.at n first b good a.stores l.k k,
+      l.invariant.1 ∙ code_on a.start.now l.at n first b good a.stores l.counter k,
+      l.invariant.2 ∙ offset_on a.start.now l.at n first b good a.stores l.counter k,
     )
 
 pub returns-then-at-start : goal.returns-then-at-start
 returns-then-at-start c =
-    let l = c.loop-k in
+    let l = c.loop in
     let a = c.args in
     let b = bounds a.vertices a.edges a.types in
-    let z : a.stores - l.k ≡ 0 = omega arith in
-    let e = l.invariant.1 ∙ code_over b (a.stores - l.k) l.at a.start.now z c.if-at-start.true in
-    let o = l.invariant.2 ∙ offset_end b (a.stores - l.k) l.at (drop l.at a.start.now) z in record { code_value = sym e; number_value = beside_none (starts_code b a.stores a.start.now) ∙ ap (λ (k : ℕ). number_beside (starts_code b a.stores a.start.now) k) (sym o) }
+    let z : a.stores - l.counter ≡ 0 = omega arith in
+    let e = l.invariant.1 ∙ code_over b (a.stores - l.counter) l.at a.start.now z c.if-at-start.true in
+    let o = l.invariant.2 ∙ offset_end b (a.stores - l.counter) l.at (drop l.at a.start.now) z in record { code_value = sym e; number_value = beside_none (starts_code b a.stores a.start.now) ∙ ap (λ (k : ℕ). number_beside (starts_code b a.stores a.start.now) k) (sym o) }
 
 pub returns : goal.returns
 returns c =
-    let l = c.loop-k in
+    let l = c.loop in
     let a = c.args in
     let b = bounds a.vertices a.edges a.types in
-    let z : a.stores - l.k ≡ 0 = omega arith in
-    let e = l.invariant.1 ∙ code_end b (a.stores - l.k) l.at a.start.now z c.if-at-start.false in
-    let o = l.invariant.2 ∙ offset_end b (a.stores - l.k) l.at (drop l.at a.start.now) z in record { code_value = sym e; number_value = beside_none (starts_code b a.stores a.start.now) ∙ ap (λ (k : ℕ). number_beside (starts_code b a.stores a.start.now) k) (sym o) }
+    let z : a.stores - l.counter ≡ 0 = omega arith in
+    let e = l.invariant.1 ∙ code_end b (a.stores - l.counter) l.at a.start.now z c.if-at-start.false in
+    let o = l.invariant.2 ∙ offset_end b (a.stores - l.counter) l.at (drop l.at a.start.now) z in record { code_value = sym e; number_value = beside_none (starts_code b a.stores a.start.now) ∙ ap (λ (k : ℕ). number_beside (starts_code b a.stores a.start.now) k) (sym o) }
 
 pub offset_bounds-start-at : goal.offset_bounds-start-at
 offset_bounds-start-at c = omega arith
@@ -95,16 +95,16 @@ pub slice_bounds-first_length-end : goal.slice_bounds-first_length-end
 slice_bounds-first_length-end c = omega arith
 
 pub overflow_add-at : goal.overflow_add-at
-overflow_add-at c = omega (arith, c.first_length-n.ensures.1, length-drop c.loop-k.at c.args.start.now)
+overflow_add-at c = omega (arith, c.first_length-n.ensures.1, length-drop c.loop.at c.args.start.now)
 
-pub offset_bounds-start-at-in-loop-k : goal.offset_bounds-start-at-in-loop-k
-offset_bounds-start-at-in-loop-k c = omega (arith, c.first_length-n.ensures.1, length-drop c.loop-k.at c.args.start.now)
+pub offset_bounds-start-at-in-loop : goal.offset_bounds-start-at-in-loop
+offset_bounds-start-at-in-loop c = omega (arith, c.first_length-n.ensures.1, length-drop c.loop.at c.args.start.now)
 
 pub slice_bounds-check-count : goal.slice_bounds-check-count
-slice_bounds-check-count c = omega (arith, c.first_length-n.ensures.1, length-drop c.loop-k.at c.args.start.now)
+slice_bounds-check-count c = omega (arith, c.first_length-n.ensures.1, length-drop c.loop.at c.args.start.now)
 
 pub slice_bounds-check-start : goal.slice_bounds-check-start
-slice_bounds-check-start c = omega (arith, c.first_length-n.ensures.1, length-drop c.loop-k.at c.args.start.now)
+slice_bounds-check-start c = omega (arith, c.first_length-n.ensures.1, length-drop c.loop.at c.args.start.now)
 
 pub slice_bounds-check-end : goal.slice_bounds-check-end
-slice_bounds-check-end c = omega (arith, c.first_length-n.ensures.1, length-drop c.loop-k.at c.args.start.now)
+slice_bounds-check-end c = omega (arith, c.first_length-n.ensures.1, length-drop c.loop.at c.args.start.now)
