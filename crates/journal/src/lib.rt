@@ -11,6 +11,8 @@ use graph::Edit;
 use graph_tables::rows::reading_of;
 use lists::numbers::wide;
 
+pub mod room; // the room for the next row
+
 // Five words, half of an edit.
 #[derive(Clone, Copy, Debug, PartialEq, Eq)]
 pub struct Five {
@@ -19,18 +21,6 @@ pub struct Five {
     pub c: u32,
     pub d: u32,
     pub e: u32,
-}
-
-fn put_five(journal: &mut [u32], q: usize, words: Five)
-    requires { q + 5 ≤ length journal.old }
-    ensures { journal.new ≡ store_from q (words.a ∷ words.b ∷ words.c ∷ words.d ∷ words.e ∷ [])
-        journal.old }
-{
-    journal[q + 0] = words.a;
-    journal[q + 1 + 0] = words.b;
-    journal[q + 1 + 1 + 0] = words.c;
-    journal[q + 1 + 1 + 1 + 0] = words.d;
-    journal[q + 1 + 1 + 1 + 1 + 0] = words.e;
 }
 
 fn decode(k: u32, words: Five, f: u32, g: u32, h: u32, i: u32) -> Edit
@@ -145,49 +135,13 @@ pub fn put_bench(journal: &mut [u32], row: u32, bench: u32)
     journal[12 * wide(row) + 11] = bench;
 }
 
-// Ten words and the cost of their step as one row: the writer of every row. Which words an edit is, `row_words` says.
-pub fn put_row(
-    journal: &mut [u32],
-    row: u32,
-    cost: u32,
-    k: u32,
-    a: u32,
-    b: u32,
-    c: u32,
-    d: u32,
-    e: u32,
-    f: u32,
-    g: u32,
-    h: u32,
-    j: u32,
-)
+/// Ten words and the cost of their step as one row: the writer of every row. Which words an edit is, `row_words` says.
+#[inline(always)]
+pub fn put_row(journal: &mut [u32], row: u32, cost: u32, words: [u32; 10])
     requires { 12 * row + 12 ≤ length journal.old }
-    ensures { journal.new ≡ set
-        (store_from (12 * row) (k ∷ a ∷ b ∷ c ∷ d ∷ e ∷ f ∷ g ∷ h ∷ j ∷ []) journal.old) (12 * row + 10)
-        cost }
+    ensures { journal.new ≡ set (store_from (12 * row) words journal.old) (12 * row + 10) cost }
 {
-    let q = 12 * wide(row);
-    put_five(
-        journal,
-        q,
-        Five {
-            a: k,
-            b: a,
-            c: b,
-            d: c,
-            e: d,
-        },
-    );
-    put_five(
-        journal,
-        q + 1 + 1 + 1 + 1 + 1,
-        Five {
-            a: e,
-            b: f,
-            c: g,
-            d: h,
-            e: j,
-        },
-    );
-    journal[q + 10] = cost;
+    let start = 12 * row as usize;
+    journal[start..start + 10].copy_from_slice(&words);
+    journal[start + 10] = cost;
 }
