@@ -1,7 +1,6 @@
 use Prim.Native.Nat.{ℕ}
 use mathlib.Core.Path.{◌≡◌, refl, sym, ap, ◌∙◌}
 use mathlib.Core.List.{List}
-use native.Mathlib.Omega.{arith}
 use Rattle.linked_lists.specs.Links.{nodes}
 use Rattle.graph.specs.declared.Reading.{Reading}
 use Rattle.graph_tables.specs.Tables.{incidence_links, vertex_ends, vfirst, wnext}
@@ -32,16 +31,13 @@ on vertices edges a b w k z way way' r y p q n h =
     ∙ sym (ap (last_tested (reading_to edges b) way) (ahead_on _ _ incidence_links edges (vertex_ends vertices a) w 0 _ k.walk z y (along_link _ vertices edges a w 0 k z y n)))
     ∙ h
 
-pub vertex_field-w-requires : goal.vertex_field-w-requires
-vertex_field-w-requires c = (c.requires.row, omega arith)
-
 pub loop-w-init : goal.loop-w-init
 loop-w-init c =
     let s = c in
     (along_start _ _ _ _ s.requires _ c.vertex_field-w.ensures, start _ _ _ _ _ c.vertex_field-w.ensures)
 
-pub reading_to-reading-requires : goal.reading_to-reading-requires
-reading_to-reading-requires c = along_row _ _ _ _ _ _ c.loop-w.invariant.0 c.loop-w-test.true
+pub reading_to-requires : goal.reading_to-requires
+reading_to-requires c = along_row _ _ _ _ _ _ c.loop-w.invariant.0 c.loop-w-test.true
 
 pub following-w-requires : goal.following-w-requires
 following-w-requires c = along_in _ _ _ _ _ _ c.loop-w.invariant.0 c.loop-w-test.true
@@ -54,12 +50,12 @@ loop-w-preserved c =
     let l = c.loop-w in
     let z = c.loop-w-test.true in (
       along_on _ _ _ _ _ _ l.invariant.0 z _ c.following-w.ensures 0 refl,
-      on _ _ _ _ _ l.invariant.0 z l.way _ _ _ c.reading_to-reading.ensures c.with_reading-way.ensures c.following-w.ensures l.invariant.1,
+      on _ _ _ _ _ l.invariant.0 z l.way _ _ _ c.reading_to.ensures c.with_reading-way.ensures c.following-w.ensures l.invariant.1,
     )
 
 pub returns : goal.returns
 returns c =
     let l = c.loop-w in
     let a = c.args in
-    sym (ap (last_tested (reading_to a.edges.now a.b) l.way) (ahead_end (λ x. 0) (λ x. ℕ) incidence_links a.edges.now (vertex_ends a.vertices.now a.a) l.w 0 0 c.loop-w-test.false))
+    sym (ap (last_tested (reading_to a.tables.now.edges.now a.b) l.way) (ahead_end (λ x. 0) (λ x. ℕ) incidence_links a.tables.now.edges.now (vertex_ends a.tables.now.vertices.now a.a) l.w 0 0 c.loop-w-test.false))
     ∙ l.invariant.1

@@ -17,7 +17,7 @@ abbrev rest : List ℕ → List ℕ → ℕ → ℕ → List ℕ
 rest vertices edges a w = ahead incidence_links edges (vertex_ends vertices a) w
 
 abbrev pub invariant-loop-w : goal.invariant-loop-w
-invariant-loop-w l = Stands l.vertices l.edges l.a l.w × (last_tested (reading_to l.edges l.b) l.way (rest l.vertices l.edges l.a l.w) ≡ way_at l.vertices l.edges l.a l.b)
+invariant-loop-w l = Stands l.tables.vertices.now l.tables.edges.now l.a l.w × (last_tested (reading_to l.tables.edges.now l.b) l.way (rest l.tables.vertices.now l.tables.edges.now l.a l.w) ≡ way_at l.tables.vertices.now l.tables.edges.now l.a l.b)
 
 abbrev pub decreases-loop-w : goal.decreases-loop-w
-decreases-loop-w l = along_left l.vertices l.edges l.a l.w
+decreases-loop-w l = along_left l.tables.vertices.now l.tables.edges.now l.a l.w
