@@ -24,9 +24,9 @@ use commands::refusal::Refusal;
 use commands::{Answer, PriceCall};
 use grades::PriceList;
 use graph::Reading;
-use graph_tables::fields::{HALF_THIS, VERTEX_FIRST};
+use graph_tables::fields::HALF_THIS;
 use graph_tables::{Lookup, Tables};
-use walks::cursor::following;
+use walks::cursor::Cursor;
 
 // A way after one reading more: the last that is not untested decides.
 #[inline(always)]
@@ -59,10 +59,10 @@ fn one_way(tables: &Tables<'_>, a: u32, b: u32) -> Reading
     ensures { result ≡ way_at tables.now.vertices.now tables.now.edges.now a b }
 {
     let mut way = Reading::Untested;
-    let mut w = tables.vertex_field(a, VERTEX_FIRST);
-    while w != 0 {
-        way = with_reading(way, reading_to(tables, b, w));
-        w = following(tables.edges, w);
+    let mut cursor = Cursor::first(tables, a);
+    while cursor.word != 0 {
+        way = with_reading(way, reading_to(tables, b, cursor.word));
+        cursor.step();
     }
     way
 }

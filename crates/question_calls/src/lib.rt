@@ -26,6 +26,7 @@ use graph_tables::fields::{
 };
 use graph_tables::{Head, Lookup, Tables};
 use type_rows::is_below;
+use walks::Side;
 use walks::counting::degree;
 use walks::orders::{edge_before, vertex_before, word_before};
 
@@ -97,7 +98,7 @@ fn order_of_vertices(head: Head, tables: &Tables<'_>, a: u32, b: u32) -> Result<
 {
     vertex_row(tables, a)?;
     vertex_row(tables, b)?;
-    Ok(u32::from(vertex_before(head, tables.vertices, a, b)))
+    Ok(u32::from(vertex_before(tables, head, a, b)))
 }
 
 // Kind 47.
@@ -109,7 +110,7 @@ fn order_of_edges(head: Head, tables: &Tables<'_>, a: u32, b: u32) -> Result<u32
 {
     edge_row(tables, a)?;
     edge_row(tables, b)?;
-    Ok(u32::from(edge_before(head, tables.edges, a, b)))
+    Ok(u32::from(edge_before(tables, head, a, b)))
 }
 
 // Kind 48.
@@ -124,7 +125,7 @@ fn order_of_words(tables: &Tables<'_>, a: u32, b: u32) -> Result<u32, Refusal>
     if tables.half_field(a, HALF_THIS) != tables.half_field(b, HALF_THIS) {
         return Err(Refusal::OtherList);
     }
-    Ok(u32::from(word_before(tables.vertices, tables.edges, a, b)))
+    Ok(u32::from(word_before(tables, a, b)))
 }
 
 // Kind 45.
@@ -148,10 +149,10 @@ fn degree_of(
     if types <= t {
         return Err(Refusal::NoType);
     }
-    if 2 < c {
+    if Side::try_from(c).is_err() {
         return Err(Refusal::NoSide);
     }
-    Ok(degree(closed, tables.vertices, tables.edges, a, t, c))
+    Ok(degree(closed, tables, a, t, c))
 }
 
 // Kind 52.

@@ -41,8 +41,9 @@ returns-then-half_field c =
 pub word_before-requires : goal.word_before-requires
 word_before-requires c =
     let p = c.requires in
-    word_asks (state_of p.0 c.args.tables.now) p.1 p.2 _
-    (edge_once p.1 _ p.2.sound (edge_stands _ _ _ c.edge_row.ensures p.1 (_, (p.0, p.2)) _ c.in_ok-edge_row.was))
+    let asks = word_asks (state_of p.0 c.args.tables.now) p.1 p.2 _
+    (edge_once p.1 _ p.2.sound (edge_stands _ _ _ c.edge_row.ensures p.1 (_, (p.0, p.2)) _ c.in_ok-edge_row.was)) in
+    record { half = asks.0; row = asks.1; held = asks.2 }
 
 pub returns : goal.returns
 returns c =
