@@ -10,7 +10,7 @@ use Rattle.comparison.specs.Comparison.{matches, alike}
 use Rattle.comparison.specs.Walks.{edge_at}
 use Rattle.image_check.proofs.Turns.{piece_of, parted, none_left}
 use Rattle.comparison.proofs.Turns.{count_go, count_end}
-use Rattle.comparison.proofs.counts.Goals as goal
+use Rattle.comparison.proofs.counted.Goals as goal
 
 -- the number of a test
 bit : (b : Bool) (r : ℕ) → r ≡ bool_byte b → (r ≡ to_bit b) × (r ≤ 1)

@@ -3,7 +3,7 @@ use mathlib.Core.Path.{◌≡◌}
 use lib.ListN.{length}
 use Rattle.comparison.specs.Comparison.{matches, alike}
 use Rattle.comparison.specs.Walks.{paired_from}
-use Rattle.comparison.proofs.counts.Given as goal
+use Rattle.comparison.proofs.counted.Given as goal
 
 abbrev pub invariant-loop-record : goal.invariant-loop-record
 invariant-loop-record l =
