@@ -1,11 +1,11 @@
 // The refusals of a list of several stores: the first test in turn that it does not pass. Nothing is written.
-ghost use Rattle.std.specs.Prelude.{◌≡◌, ◌≤◌, ◌<◌, ◌^◌};
+ghost use Rattle.std.specs.Prelude.{◌≡◌, ◌≤◌, ◌<◌, ◌^◌, Err};
 ghost use Rattle.graph.specs.Limits.{most_vertices, most_edges};
-ghost use Rattle.image_check.specs.Checks.{bounds};
+ghost use Rattle.image_check.specs.Checks.{bounds, bad_code};
 ghost use Rattle.machine.specs.Run.{number_beside};
 ghost use Rattle.machine.specs.StoreRun.{LentStores, starts_code, starts_offset, stores_refusal, stores_number};
-ghost use Rattle.engine.specs.Refusals.{code_if_refused, number_if_refused};
-ghost use Rattle.stores.specs.Refusals.{of_image_at, lengths_in, LendsIn};
+ghost use Rattle.engine.specs.Refusals.{list_code, list_offset, code_if_refused, number_if_refused};
+ghost use Rattle.stores.specs.Refusals.{number_at, lengths_in, LendsIn};
 
 use crate::starts::first_length;
 use engine::list_refusal::ListRefusal;
@@ -20,7 +20,8 @@ pub const MOST_STORES: u32 = 8;
 /// all start images.
 fn of_image_at(at: usize, bad: BadImage) -> ListRefusal
     requires { at < 2 ^ 63 }
-    ensures { result ≡ of_image_at at bad }
+    ensures code { list_code result ≡ bad_code bad }
+    ensures number { list_offset result ≡ number_at at (Err bad) }
 {
     match bad {
         BadImage::Header => ListRefusal::BadStart,

@@ -1,16 +1,14 @@
 use mathlib.Core.Path.{refl}
+use Rattle.std.proofs.Common.{rules}
 use Rattle.tried_edits.proofs.Tries.{tries_full, tries_made}
-use Rattle.journal.proofs.RowLaws.{rowed_by}
 use Rattle.tried_edits.proofs.insert_vertex.Goals as goal
 
-pub returns : goal.returns
-returns c =
-    tries_made refl c.if-free-eq0.false
-    (record { state = c.insert_vertex-head.ensures; row = rowed_by _ _ _ _ _ _ refl c.put_row.ensures })
-    c.altered.ensures
+pub returns-in_err-put_step-clause-tries : goal.returns-in_err-put_step-clause-tries
+returns-in_err-put_step-clause-tries c =
+    let e = c.in_err-put_step.ensures in
+    tries_full c.args.tables.now c.args.room.now (refl) e.full (search (rules, e.refused)) e.kept
 
-pub returns-then-free-eq0 : goal.returns-then-free-eq0
-returns-then-free-eq0 c = tries_full refl c.if-free-eq0.true c.unchanged.ensures
-
-pub put_row-requires : goal.put_row-requires
-put_row-requires c = c.requires.1 c.if-free-eq0.false
+pub returns-clause-tries : goal.returns-clause-tries
+returns-clause-tries c =
+    let e = c.in_ok-put_step.ensures in
+    tries_made c.args.tables.now c.args.room.now (refl) e.free (refl) e.row (c.insert_vertex-head.ensures.inserted)

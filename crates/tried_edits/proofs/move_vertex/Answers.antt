@@ -1,21 +1,18 @@
 use mathlib.Core.Path.{refl}
 use borrow.Author.Tests.{eq-eqb, ne_eqb}
+use Rattle.std.proofs.Common.{rules}
 use Rattle.tried_edits.proofs.Tries.{tries_kept, tries_full, tries_made}
-use Rattle.journal.proofs.RowLaws.{rowed_by}
 use Rattle.tried_edits.proofs.move_vertex.Goals as goal
 
-pub returns : goal.returns
-returns c =
-    tries_made (ne_eqb _ _ c.if-p-q.false)
-    c.if-free-eq0.false
-    (record { state = c.move_vertex-head.ensures; row = rowed_by _ _ _ _ _ _ refl c.put_row.ensures })
-    c.altered.ensures
+pub returns-then-p-q-clause-tries : goal.returns-then-p-q-clause-tries
+returns-then-p-q-clause-tries c = tries_kept c.args.tables.now c.args.room.now (eq-eqb _ _ c.if-p-q.true)
 
-pub returns-then-p-q : goal.returns-then-p-q
-returns-then-p-q c = tries_kept (eq-eqb _ _ c.if-p-q.true) c.unchanged.ensures
+pub returns-in_err-put_step-clause-tries : goal.returns-in_err-put_step-clause-tries
+returns-in_err-put_step-clause-tries c =
+    let e = c.in_err-put_step.ensures in
+    tries_full c.args.tables.now c.args.room.now (ne_eqb _ _ c.if-p-q.false) e.full (search (rules, e.refused)) e.kept
 
-pub returns-then-free-eq0 : goal.returns-then-free-eq0
-returns-then-free-eq0 c = tries_full (ne_eqb _ _ c.if-p-q.false) c.if-free-eq0.true c.unchanged-then-free-eq0.ensures
-
-pub put_row-requires : goal.put_row-requires
-put_row-requires c = c.requires.1 c.if-free-eq0.false
+pub returns-clause-tries : goal.returns-clause-tries
+returns-clause-tries c =
+    let e = c.in_ok-put_step.ensures in
+    tries_made c.args.tables.now c.args.room.now (ne_eqb _ _ c.if-p-q.false) e.free (refl) e.row (c.move_vertex-head.ensures.moved)

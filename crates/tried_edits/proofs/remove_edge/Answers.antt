@@ -1,22 +1,16 @@
 use mathlib.Core.Path.{refl}
-use Rattle.tried_edits.proofs.Tries.{tries_full, tries_made, removed_words}
-use Rattle.journal.proofs.RowLaws.{rowed_by}
+use Rattle.std.proofs.Common.{rules}
+use Rattle.tried_edits.proofs.Tries.{tries_full, tries_made}
+use mathlib.Core.Path.{◌∙◌}
+use Rattle.tried_edits.proofs.Tries.{removed_words}
 use Rattle.tried_edits.proofs.remove_edge.Goals as goal
 
-pub returns : goal.returns
-returns c =
-    tries_made refl c.if-free-eq0.false
-    (record {
-      state = c.remove_edge-head.ensures;
-      row =
-          rowed_by _ _ _ _ _ _ (removed_words c.args.n
-          c.args.w
-          c.requires.2)
-          c.put_row.ensures;
-    }) c.altered.ensures
+pub returns-in_err-put_step-clause-tries : goal.returns-in_err-put_step-clause-tries
+returns-in_err-put_step-clause-tries c =
+    let e = c.in_err-put_step.ensures in
+    tries_full c.args.tables.now c.args.room.now (refl) e.full (search (rules, e.refused)) e.kept
 
-pub returns-then-free-eq0 : goal.returns-then-free-eq0
-returns-then-free-eq0 c = tries_full refl c.if-free-eq0.true c.unchanged.ensures
-
-pub put_row-requires : goal.put_row-requires
-put_row-requires c = c.requires.3 c.if-free-eq0.false
+pub returns-clause-tries : goal.returns-clause-tries
+returns-clause-tries c =
+    let e = c.in_ok-put_step.ensures in
+    tries_made c.args.tables.now c.args.room.now (refl) e.free (c.row_words.ensures ∙ removed_words c.args.n c.args.w c.requires.words) e.row (c.remove_edge-head.ensures.removed)

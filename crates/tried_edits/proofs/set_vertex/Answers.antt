@@ -1,20 +1,17 @@
 use mathlib.Core.Path.{refl, sym, ◌∙◌}
+use Rattle.std.proofs.Common.{rules}
 use Rattle.tried_edits.proofs.Tries.{tries_kept, tries_full, tries_made}
-use Rattle.journal.proofs.RowLaws.{rowed_by}
 use Rattle.tried_edits.proofs.set_vertex.Goals as goal
 
-pub returns : goal.returns
-returns c =
-    tries_made (sym c.agree.ensures
-    ∙ c.if-agree.false) c.if-free-eq0.false
-    (record { state = c.set_vertex.ensures; row = rowed_by _ _ _ _ _ _ refl c.put_row.ensures })
-    c.altered.ensures
+pub returns-then-eq-clause-tries : goal.returns-then-eq-clause-tries
+returns-then-eq-clause-tries c = tries_kept c.args.tables.now c.args.room.now (sym c.eq.ensures ∙ c.if-eq.true)
 
-pub returns-then-agree : goal.returns-then-agree
-returns-then-agree c = tries_kept (sym c.agree.ensures ∙ c.if-agree.true) c.unchanged.ensures
+pub returns-in_err-put_step-clause-tries : goal.returns-in_err-put_step-clause-tries
+returns-in_err-put_step-clause-tries c =
+    let e = c.in_err-put_step.ensures in
+    tries_full c.args.tables.now c.args.room.now (sym c.eq.ensures ∙ c.if-eq.false) e.full (search (rules, e.refused)) e.kept
 
-pub returns-then-free-eq0 : goal.returns-then-free-eq0
-returns-then-free-eq0 c = tries_full (sym c.agree.ensures ∙ c.if-agree.false) c.if-free-eq0.true c.unchanged-then-free-eq0.ensures
-
-pub put_row-requires : goal.put_row-requires
-put_row-requires c = c.requires.1 c.if-free-eq0.false
+pub returns-clause-tries : goal.returns-clause-tries
+returns-clause-tries c =
+    let e = c.in_ok-put_step.ensures in
+    tries_made c.args.tables.now c.args.room.now (sym c.eq.ensures ∙ c.if-eq.false) e.free (refl) e.row (c.set_vertex.ensures.set c.args.head)

@@ -3,13 +3,14 @@ use mathlib.Core.Path.{◌≡◌, sym, ap, ◌∙◌}
 use mathlib.Core.List.{List}
 use native.Mathlib.Omega.{arith}
 use lib.ListN.{take, drop, length-drop}
+use Rattle.std.specs.Prelude.{Err}
 use Rattle.graph.specs.WellFormed.{Bounds}
 use Rattle.image_check.specs.Checks.{Verdict, bounds, checked, verdict, code_of, offset_of}
 use Rattle.image_check.proofs.Capacity.{checked_same}
 use Rattle.image_check.proofs.Verdicts.{code_not_zero}
 use Rattle.machine.specs.Run.{number_beside}
 use Rattle.machine.specs.StoreRun.{starts_code, starts_offset}
-use Rattle.stores.proofs.StartLaws.{first_is, code_on, offset_on, code_here, offset_here, code_end, code_over, offset_end, beside_none, image_told}
+use Rattle.stores.proofs.StartLaws.{first_is, code_on, offset_on, code_here, offset_here, code_end, code_over, offset_end, beside_none, number_is}
 use Rattle.stores.proofs.refusals.check_starts.Goals as goal
 
 -- capacities within the limits are checked as they are
@@ -38,11 +39,10 @@ returns-in-Err c =
     let first = first_is a.start.now l.at n l.invariant.0 c.first_length-n.ensures.0 in
     let bad : code_of (verdict b image) ≡ 0 → ⊥ = λ e. code_not_zero _ (ap code_of f ∙ e) in
     let e = l.invariant.1 ∙ code_here a.start.now l.at n first b bad a.stores l.counter (omega arith) in
-    let o = l.invariant.2 ∙ offset_here a.start.now l.at n first b bad a.stores l.counter (omega arith) in
-    let t = image_told l.at c.in-Err.bad in
-    rw c.of_image_at.ensures record {
-      code_value = t.0 ∙ ap code_of f ∙ sym e;
-      number_value = t.1 ∙ (λ i. number_beside (code_of (f i)) (l.at + offset_of (f i))) ∙ (λ i. number_beside (sym e i) (sym o i));
+    let o = l.invariant.2 ∙ offset_here a.start.now l.at n first b bad a.stores l.counter (omega arith) in record {
+      code_value = c.of_image_at.ensures.code ∙ ap code_of f ∙ sym e;
+      number_value = c.of_image_at.ensures.number ∙ number_is l.at (Err _) ∙ (λ i. number_beside (code_of (f i)) (l.at + offset_of (f i)))
+          ∙ (λ i. number_beside (sym e i) (sym o i));
     }
 
 pub overflow_add-at-in-loop : goal.overflow_add-at-in-loop
