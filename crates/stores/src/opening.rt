@@ -20,7 +20,7 @@ pub fn open_all(
     ensures { Opened start.now result vertices.old vertices.new edges.old
         edges.new stores v e }
 {
-    let empty = history_calls::start(Head::default());
+    let empty = Store::start(Head::default());
     let mut all = [empty; 8];
     let mut at = 0;
     for i in 0..stores {
