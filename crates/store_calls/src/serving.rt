@@ -11,7 +11,7 @@ use history_calls::Store;
 fn is_store(number: u32, stores: usize) -> bool
     ensures { result ≡ within 1 stores number }
 {
-    1 <= number && number as usize <= stores
+    (1..=stores).contains(&(number as usize))
 }
 
 /// The place of a store among them; the first where there is no such store.
@@ -58,6 +58,7 @@ pub fn serve(
     let mut all = first;
     let mut room = joint;
     let mut k = 0;
+    // Not a `for`: as many calls as one loop answered are passed over.
     while k < n {
         let number = calls[6 * k];
         let there = is_store(number, stores);
