@@ -20,6 +20,7 @@ use crate::removal::RemovedEdge;
 use commands::refusal::Refusal;
 use graph::{Edit, Reading};
 use graph_tables::{EdgeRecord, Head, Places, Tables};
+use journal::kinds;
 use journal::room::Room;
 
 pub mod removal; // what the row of an edge says of its removal
@@ -88,7 +89,21 @@ pub fn insert_vertex(
     ensures same_loan { SameLoan tables.old tables.new }
     ensures same_room { SameRoom room.old room.new }
 {
-    put_step(room, [1, n, words.sort, words.value, p, 0, 0, 0, 0, 0])?;
+    put_step(
+        room,
+        [
+            kinds::INSERT_VERTEX,
+            n,
+            words.sort,
+            words.value,
+            p,
+            0,
+            0,
+            0,
+            0,
+            0,
+        ],
+    )?;
     let head = tables.insert_vertex(head, n, words.sort, words.value, p);
     Ok(Made { head, cost: 1 })
 }
@@ -112,7 +127,21 @@ pub fn insert_edge(
     ensures same_loan { SameLoan tables.old tables.new }
     ensures same_room { SameRoom room.old room.new }
 {
-    put_step(room, [3, n, a, z, sort, 0, 0, at.order, at.out, at.into])?;
+    put_step(
+        room,
+        [
+            kinds::INSERT_EDGE,
+            n,
+            a,
+            z,
+            sort,
+            0,
+            0,
+            at.order,
+            at.out,
+            at.into,
+        ],
+    )?;
     let edge = EdgeRecord {
         number: n,
         alpha: a,
@@ -167,7 +196,18 @@ pub fn set_vertex(
     }
     put_step(
         room,
-        [5, n, old.sort, old.value, new.sort, new.value, 0, 0, 0, 0],
+        [
+            kinds::SET_VERTEX,
+            n,
+            old.sort,
+            old.value,
+            new.sort,
+            new.value,
+            0,
+            0,
+            0,
+            0,
+        ],
     )?;
     tables.set_vertex(n, new.sort, new.value);
     Ok(Made { head, cost: 1 })
@@ -198,7 +238,7 @@ pub fn set_edge(
     put_step(
         room,
         [
-            6,
+            kinds::SET_EDGE,
             n,
             old.sort,
             old.kind,
@@ -233,7 +273,7 @@ pub fn move_vertex(
     if p == q {
         return Ok(Made { head, cost: 0 });
     }
-    put_step(room, [7, n, p, q, 0, 0, 0, 0, 0, 0])?;
+    put_step(room, [kinds::MOVE_VERTEX, n, p, q, 0, 0, 0, 0, 0, 0])?;
     let head = tables.move_vertex(head, n, q);
     Ok(Made { head, cost: 1 })
 }
@@ -257,7 +297,7 @@ pub fn move_edge(
     if p == q {
         return Ok(Made { head, cost: 0 });
     }
-    put_step(room, [8, n, p, q, 0, 0, 0, 0, 0, 0])?;
+    put_step(room, [kinds::MOVE_EDGE, n, p, q, 0, 0, 0, 0, 0, 0])?;
     let head = tables.move_edge(head, n, q);
     Ok(Made { head, cost: 1 })
 }
@@ -284,7 +324,7 @@ pub fn move_word(
     put_step(
         room,
         [
-            9,
+            kinds::MOVE_WORD,
             w,
             from.vertex,
             from.after,

@@ -5,6 +5,7 @@ ghost use Rattle.tried_edits.specs.Plans.{removed_edge};
 
 use graph_tables::Tables;
 use graph_tables::fields::{EDGE_PREV, HALF_PREV, HALF_THIS};
+use journal::kinds;
 
 /// Ends, type, reading, and after which edge and which words it stands, the out word once the in word is gone.
 #[derive(Clone, Copy, Debug, PartialEq, Eq)]
@@ -27,7 +28,7 @@ impl RemovedEdge {
             ∷ self.out ∷ self.into ∷ [] }
     {
         [
-            4,
+            kinds::REMOVE_EDGE,
             n,
             self.alpha,
             self.omega,
