@@ -37,22 +37,22 @@ without_kept set a n = go (within 1 64 a) (set / 2 ^ (a - 1) % 2 == 1) n
 -- ---- the ways out
 
 module _ (x : Store) (a code : ℕ) (r : Called) where
-  pub set_left : r ≡ done x code 0 → code ≡ new_code x.set a → code ≢ 0 → r ≡ mark_set x a
+  pub set_left : r ≡ done x code 0 → code ≡ new_code x.set.bits a → code ≢ 0 → r ≡ mark_set x a
   set_left e f n =
-      let k = with_kept x.set a (λ z. n (f ∙ z)) in
-      e ∙ (λ i. done (record { current = x.current; set = sym k i; bench = x.bench }) (f i) 0)
+      let k = with_kept x.set.bits a (λ z. n (f ∙ z)) in
+      e ∙ (λ i. done (record { current = x.current; set = record { bits = sym k i }; bench = x.bench }) (f i) 0)
 
-  pub drop_left : r ≡ done x code 0 → code ≡ standing_code x.set a → code ≢ 0 → r ≡ mark_dropped x a
+  pub drop_left : r ≡ done x code 0 → code ≡ standing_code x.set.bits a → code ≢ 0 → r ≡ mark_dropped x a
   drop_left e f n =
-      let k = without_kept x.set a (λ z. n (f ∙ z)) in
-      e ∙ (λ i. done (record { current = x.current; set = sym k i; bench = x.bench }) (f i) 0)
+      let k = without_kept x.set.bits a (λ z. n (f ∙ z)) in
+      e ∙ (λ i. done (record { current = x.current; set = record { bits = sym k i }; bench = x.bench }) (f i) 0)
 
-pub places_left : (x : Store) (a code : ℕ) (places : List ℕ) → code ≡ new_code x.set a → code ≢ 0 → places ≡ places_set x a places
-places_left x a code places f n = rw (ne_eqb (new_code x.set a) 0 (λ z. n (f ∙ z)))
+pub places_left : (x : Store) (a code : ℕ) (places : List ℕ) → code ≡ new_code x.set.bits a → code ≢ 0 → places ≡ places_set x a places
+places_left x a code places f n = rw (ne_eqb (new_code x.set.bits a) 0 (λ z. n (f ∙ z)))
 
-pub places_put : (x : Store) (a code : ℕ) (places places' : List ℕ) → code ≡ new_code x.set a → code ≡ 0
+pub places_put : (x : Store) (a code : ℕ) (places places' : List ℕ) → code ≡ new_code x.set.bits a → code ≡ 0
     → within 1 64 a ≡ true → places' ≡ (within 1 64 a ⇒ mark_put a x.current.position.place places else places) → places' ≡ places_set x a places
-places_put x a code places places' f z w e = rw (eq-eqb (new_code x.set a) 0 (sym f ∙ z)) (e ∙ rw w refl)
+places_put x a code places places' f z w e = rw (eq-eqb (new_code x.set.bits a) 0 (sym f ∙ z)) (e ∙ rw w refl)
 
 module _ (x : Store) (places : List ℕ) (a c code : ℕ) (e : code ≡ pair_code x a c) where
   pub between_left : (r : Called) → r ≡ done x code 0 → code ≢ 0 → r ≡ between_marks x places a c
@@ -76,19 +76,19 @@ code_in d = d.answer.code
 module _ (x : Store) (a : ℕ) (r : Called) (vertices edges t places : List ℕ) where
   pub leaves_drop : r ≡ mark_dropped x a → Leaves x (memory vertices edges t places) r (memory vertices edges t places)
   leaves_drop e n =
-      let k = without_kept x.set a (λ z. n (ap code_in e ∙ z)) in
-      (ap (λ (d : Called). d.store) e ∙ (λ i. record { current = x.current; set = k i; bench = x.bench }), refl)
+      let k = without_kept x.set.bits a (λ z. n (ap code_in e ∙ z)) in
+      (ap (λ (d : Called). d.store) e ∙ (λ i. record { current = x.current; set = record { bits = k i }; bench = x.bench }), refl)
 
   pub leaves_set : (places' : List ℕ) → r ≡ mark_set x a → places' ≡ places_set x a places → Leaves x (memory vertices edges t places) r (memory vertices edges t places')
   leaves_set places' e f n =
-      let z : new_code x.set a ≢ 0 = λ z. n (ap code_in e ∙ z) in
-      let k = with_kept x.set a z in
-      let l : places' ≡ places = rw (ne_eqb (new_code x.set a) 0 z) at f in
-      (ap (λ (d : Called). d.store) e ∙ (λ i. record { current = x.current; set = k i; bench = x.bench }), λ i. memory vertices edges t (l i))
+      let z : new_code x.set.bits a ≢ 0 = λ z. n (ap code_in e ∙ z) in
+      let k = with_kept x.set.bits a z in
+      let l : places' ≡ places = rw (ne_eqb (new_code x.set.bits a) 0 z) at f in
+      (ap (λ (d : Called). d.store) e ∙ (λ i. record { current = x.current; set = record { bits = k i }; bench = x.bench }), λ i. memory vertices edges t (l i))
 
   pub leaves_name : (n : Name) (places' : List ℕ) → r ≡ mark_named x places a n → places' ≡ names_set x a n places → Leaves x (memory vertices edges t places) r (memory vertices edges t places')
   leaves_name n places' e f z =
-      let l : places' ≡ places = rw (ne_eqb (name_code x.set places a n) 0 (λ i. z (ap code_in e ∙ i))) at f in
+      let l : places' ≡ places = rw (ne_eqb (name_code x.set.bits places a n) 0 (λ i. z (ap code_in e ∙ i))) at f in
       (ap (λ (d : Called). d.store) e, λ i. memory vertices edges t (l i))
 
 pub leaves_bench : (x : Store) (k : ℕ) (r : Called) (mem : Memory) → r ≡ bench_set x k → Leaves x mem r mem

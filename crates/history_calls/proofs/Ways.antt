@@ -23,7 +23,7 @@ use Rattle.graph_tables.specs.Tables.{state}
 use Rattle.timeline.specs.JournalRows.{shifted, Reach}
 use Rattle.timeline.specs.Steps.{Journal}
 use Rattle.history_calls.specs.declared.Store.{Store}
-use Rattle.history_calls.specs.declared.Way.{Way}
+use Rattle.history_calls.specs.Outcomes.{Way}
 use Rattle.history_calls.specs.Memory.{Memory, memory}
 use Rattle.history_calls.specs.Represents.{Represents, Follows}
 use Rattle.history_calls.specs.Outcomes.{done, Leads, nowhere, way_of}
@@ -110,7 +110,7 @@ module _ (b : Bounds) (x : Store) (mem : Memory) (m : Machine) (h : Represents b
   inside = omega (arith, h.journal.place, h.journal.steps, h.journal.inside)
 
   -- to a mark that stands
-  module _ (a : ℕ) (z : standing_code x.set a ≡ 0) where
+  module _ (a : ℕ) (z : standing_code x.set.bits a ≡ 0) where
     abbrev p : ℕ
     p = x.current.position.place
 
@@ -157,12 +157,12 @@ module _ (b : Bounds) (x : Store) (mem : Memory) (m : Machine) (h : Represents b
   led (SetBench a) l = absurd l
   led (MadeBy a d e) l = absurd l
   led (GoToName a d) l =
-      let k = holder_in x.set mem.marks 0 (name a d) in
-      let e = holder_same m x.set mem.marks 0 (name a d) h.marks h.names in
+      let k = holder_in x.set.bits mem.marks 0 (name a d) in
+      let e = holder_same m x.set.bits mem.marks 0 (name a d) h.marks h.names in
       record {
         coded = ap (λ (j : ℕ). (j == 0) ⇒ 19 else 0) e;
-        reach = λ z. to_reach k (holder_stands x.set mem.marks (name a d) (found k z));
-        deeds = λ z. ap (λ (j : ℕ). going_to j m) (sym e) ∙ to_deeds k (holder_stands x.set mem.marks (name a d) (found k z));
+        reach = λ z. to_reach k (holder_stands x.set.bits mem.marks (name a d) (found k z));
+        deeds = λ z. ap (λ (j : ℕ). going_to j m) (sym e) ∙ to_deeds k (holder_stands x.set.bits mem.marks (name a d) (found k z));
       }
 
   module _ (c : HistoryCall) (l : Leads c) (w : Way) (e : w ≡ way_of x mem.marks c) where
