@@ -41,9 +41,9 @@ pub fn carry_out(
         answers.old answers.new }
 {
     let mut y = history_calls::same(store);
-    let mut k = 0;
+    // Where the next call begins: reckoned from k, it takes up to 13 in 100 more.
     let mut at = 0;
-    while k < count {
+    for k in 0..count {
         let command = decode(&calls[at..at + 5]);
         at += width;
         let done = step(
@@ -52,7 +52,6 @@ pub fn carry_out(
         y = history_calls::same(done.store);
         answers[2 * k] = done.answer.code;
         answers[2 * k + 1] = done.answer.number;
-        k += 1;
     }
     y
 }

@@ -1,5 +1,5 @@
 -- Where a call leads, read off the store and its marks; calls of one store, which is there or not.
-use Rattle.std.specs.Prelude.{ℕ, ◌+◌, ◌*◌, ◌≤◌, ◌<◌, ◌≡◌, Bool, true, not, ◌&&◌, ◌||◌, List, map, length, get_or, take, ◌==◌}
+use Rattle.std.specs.Prelude.{ℕ, ◌+◌, ◌*◌, ◌≤◌, ◌<◌, ◌≡◌, Bool, true, not, Option, Some, None, ◌&&◌, ◌||◌, List, map, length, get_or, take, ◌==◌}
 use Rattle.lists.specs.Choice.{◌⇒◌else◌}
 use Rattle.lists.specs.Lists.{overwritten}
 use Rattle.history.specs.Machine.{Machine, name}
@@ -15,6 +15,10 @@ use Rattle.machine.specs.Run.{answer_words}
 use Rattle.machine.specs.Stores.{StoreCall, store_calls_of}
 use Rattle.engine.specs.Running.{Running, allowing}
 use Rattle.store_calls.specs.declared.guard.Stretch.{Stretch}
+
+-- the place of mark a, where it stands
+abbrev pub standing_place : ℕ → List ℕ → ℕ → Option ℕ
+standing_place set marks a = in_set set a ⇒ Some (place_in marks a) else None
 
 -- the place of mark a where it stands, else the present one
 abbrev pub mark_place : Store → List ℕ → ℕ → ℕ

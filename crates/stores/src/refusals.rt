@@ -5,7 +5,7 @@ ghost use Rattle.graph.specs.Limits.{most_vertices, most_edges};
 ghost use Rattle.image_check.specs.Checks.{bounds};
 ghost use Rattle.machine.specs.Run.{number_beside};
 ghost use Rattle.machine.specs.StoreRun.{LentStores, starts_code, starts_offset, stores_refusal, stores_number};
-ghost use Rattle.stores.specs.Refusals.{number_at, lengths_in, LendsIn};
+ghost use Rattle.stores.specs.Refusals.{bad_number_at, lengths_in, LendsIn};
 
 use crate::starts::first_length;
 use engine::refusals::{at_most, in_limits};
@@ -26,7 +26,7 @@ pub struct Refused {
 /// The number beside the code of what is bad in the image that stands at a place.
 fn number_at(at: usize, bad: BadImage) -> usize
     requires { at < 2 ^ 63 }
-    ensures { result ≡ number_at at bad }
+    ensures { result ≡ bad_number_at at bad }
 {
     match bad {
         BadImage::Header => 0,

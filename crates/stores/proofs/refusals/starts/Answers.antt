@@ -40,7 +40,7 @@ returns-in-Err c =
     let e = l.invariant.2 ∙ code_here a.start.now l.at n first b bad a.stores l.k c.loop-k-test.true in
     let o = l.invariant.3 ∙ offset_here a.start.now l.at n first b bad a.stores l.k c.loop-k-test.true in record {
       code_value = c.code.ensures ∙ ap code_of f ∙ sym e;
-      number_value = c.number_at.ensures ∙ number_is l.at _ ∙ (λ i. number_beside (code_of (f i)) (l.at + offset_of (f i)))
+      number_value = c.number_at.ensures ∙ number_is l.at (Err _) ∙ (λ i. number_beside (code_of (f i)) (l.at + offset_of (f i)))
           ∙ (λ i. number_beside (sym e i) (sym o i));
     }
 
