@@ -6,6 +6,7 @@ use crate::{Head, Tables};
 
 impl<'t> Tables<'t> {
     /// Makes the empty graph, whatever words the tables come with.
+    #[tactic(auto, unfolding(crate::specs::Tables::cleared))]
     #[inline(always)]
     pub fn clear(&mut self) -> Head
         ensures cleared { state_of result self.new ≡ cleared self.old.vertices.now self.old.edges.now }

@@ -17,6 +17,7 @@ use linked_lists::Ends;
 
 impl<'t> Tables<'t> {
     /// Sets type and reading of e.
+    #[tactic(auto, unfolding(crate::specs::Tables::state_set_edge))]
     #[inline(always)]
     pub fn set_edge(&mut self, e: u32, sort: u32, reading: Reading)
         requires { EdgeRowIn self.old.edges.now e }
@@ -27,6 +28,7 @@ impl<'t> Tables<'t> {
     }
 
     /// The same, by the two words of the reading.
+    #[tactic(auto, unfolding(crate::specs::Tables::state_set_edge))]
     #[inline(always)]
     pub fn set_edge_words(&mut self, e: u32, sort: u32, kind: u32, heard: u32)
         requires row { EdgeRowIn self.old.edges.now e }
@@ -39,25 +41,19 @@ impl<'t> Tables<'t> {
     }
 
     /// Puts edge n after p in Eseq.
+    #[tactic(auto, unfolding(crate::specs::Tables::state_move_edge))]
     #[inline(always)]
     pub fn move_edge(&mut self, head: Head, n: u32, p: u32) -> Head
         requires { CanMove edge_links n p self.old.edges.now (edge_list_ends head) }
         ensures moved { state_of result self.new ≡ state_move_edge n p (state_of head self.old) }
         ensures same_loan { SameLoan self.old self.new }
     {
-        let ends = Ends {
-            first: head.efirst,
-            last: head.elast,
-        };
-        let ends = EDGE_LINKS.relink(self.edges, ends, n, p);
-        Head {
-            efirst: ends.first,
-            elast: ends.last,
-            ..head
-        }
+        let ends = EDGE_LINKS.relink(self.edges, head.edge_ends(), n, p);
+        head.with_edge_ends(ends)
     }
 
     // An edge's row and its place in Eseq, without its words in the lists.
+    #[tactic(auto, unfolding(crate::specs::Tables::state_place_edge))]
     #[inline(always)]
     fn place_edge(&mut self, head: Head, edge: EdgeRecord, p: u32) -> Head
         requires { CanPlaceEdge edge.number p (state_of head self.old) }
@@ -65,43 +61,33 @@ impl<'t> Tables<'t> {
             edge.reading p (state_of head self.old) }
         ensures same_loan { SameLoan self.old self.new }
     {
-        let ends = Ends {
-            first: head.efirst,
-            last: head.elast,
-        };
-        let ends = EDGE_LINKS.insert_after(self.edges, ends, p, edge.number);
+        let ends = EDGE_LINKS.insert_after(self.edges, head.edge_ends(), p, edge.number);
         put_edge(self.edges, edge.number, 1, edge.sort, edge.reading);
         put_this(self.edges, edge.number, edge.alpha, edge.omega);
         Head {
-            efirst: ends.first,
-            elast: ends.last,
             edges: head.edges + 1,
-            ..head
+            ..head.with_edge_ends(ends)
         }
     }
 
+    #[tactic(auto, unfolding(crate::specs::Tables::state_drop_edge))]
     #[inline(always)]
     fn drop_edge(&mut self, head: Head, n: u32) -> Head
         requires { CanDropEdge n (state_of head self.old) }
         ensures dropped { state_of result self.new ≡ state_drop_edge n (state_of head self.old) }
         ensures same_loan { SameLoan self.old self.new }
     {
-        let ends = Ends {
-            first: head.efirst,
-            last: head.elast,
-        };
-        let ends = EDGE_LINKS.unlink(self.edges, ends, n);
+        let ends = EDGE_LINKS.unlink(self.edges, head.edge_ends(), n);
         put_edge(self.edges, n, 0, 0, Reading::Untested);
         put_this(self.edges, n, 0, 0);
         Head {
-            efirst: ends.first,
-            elast: ends.last,
             edges: head.edges - 1,
-            ..head
+            ..head.with_edge_ends(ends)
         }
     }
 
     /// Puts an edge into Eseq and its words into the lists.
+    #[tactic(auto, unfolding(crate::specs::Tables::state_insert_edge))]
     #[inline(always)]
     pub fn insert_edge(&mut self, head: Head, edge: EdgeRecord, at: Places) -> Head
         requires number { edge.number < 2 ^ 31 }
@@ -118,6 +104,7 @@ impl<'t> Tables<'t> {
     }
 
     /// Takes edge n, from a to z, out of the lists and out of Eseq.
+    #[tactic(auto, unfolding(crate::specs::Tables::state_remove_edge))]
     #[inline(always)]
     pub fn remove_edge(&mut self, head: Head, n: u32, a: u32, z: u32) -> Head
         requires number { n < 2 ^ 31 }

@@ -1,10 +1,15 @@
 // The words of a row by name (REFERENCE 13.1, 13.2), and where the links of the three kinds of lists stand.
+ghost use Rattle.std.specs.Prelude.{◌≡◌, ◌≤◌};
+ghost use Rattle.graph_tables.specs.Tables.{vertex_place, edge_place, half_place};
+
 use linked_lists::LinkLayout;
 
-/// How many words the row of a vertex has, and that of an edge.
+/// How many words the row of a vertex has, that of an edge, and the half of an oriented word.
 pub const VERTEX_WORDS: usize = 8;
 
 pub const EDGE_WORDS: usize = 12;
+
+pub const HALF_WORDS: usize = 6;
 
 // Of the row of a vertex: whether it is there, type, value, first and last word of its list, neighbours in
 // Vseq. Word 5 is spare.
@@ -61,3 +66,30 @@ pub const INCIDENCE_LINKS: LinkLayout = LinkLayout {
     stride: 6,
     offset: 12,
 };
+
+/// Where the row of vertex v starts.
+#[inline(always)]
+pub(crate) fn vertex_row(v: u32) -> usize
+    requires { 1 ≤ v }
+    ensures { result ≡ vertex_place 0 v }
+{
+    VERTEX_WORDS * v as usize - VERTEX_WORDS
+}
+
+/// Where the row of edge e starts.
+#[inline(always)]
+pub(crate) fn edge_row(e: u32) -> usize
+    requires { 1 ≤ e }
+    ensures { result ≡ edge_place 0 e }
+{
+    EDGE_WORDS * e as usize - EDGE_WORDS
+}
+
+/// Where the half of oriented word w starts: words 2 and 3 are those of edge 1.
+#[inline(always)]
+pub(crate) fn half_row(w: u32) -> usize
+    requires { 2 ≤ w }
+    ensures { result ≡ half_place 0 w }
+{
+    HALF_WORDS * w as usize - EDGE_WORDS
+}

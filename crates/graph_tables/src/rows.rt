@@ -8,11 +8,162 @@ ghost use Rattle.graph_tables.specs.Tables.{table_vertex_row, table_edge_row, ta
 
 use crate::fields::{
     EDGE_ALPHA, EDGE_DECIMETRES, EDGE_KIND, EDGE_LIVE, EDGE_OMEGA, EDGE_TYPE, HALF_NEXT, HALF_THIS,
-    VERTEX_FIRST, VERTEX_LAST, VERTEX_LIVE, VERTEX_TYPE, VERTEX_VALUE,
+    VERTEX_FIRST, VERTEX_LAST, VERTEX_LIVE, VERTEX_TYPE, VERTEX_VALUE, edge_row, half_row,
+    vertex_row,
 };
 use crate::{EdgeFields, Tables};
 use graph::Reading;
 use linked_lists::Ends;
+
+impl<'t> Tables<'t> {
+    /// Word `field` of the row of vertex v.
+    #[inline(always)]
+    pub fn vertex_field(&self, v: u32, field: usize) -> u32
+        requires row { VertexRowIn self.now.vertices.now v }
+        requires field { field < 8 }
+        ensures { result ≡ vertex_field field self.now.vertices.now v }
+    {
+        self.vertices[vertex_row(v) + field]
+    }
+
+    /// Word `field` of the row of edge e.
+    #[inline(always)]
+    pub fn edge_field(&self, e: u32, field: usize) -> u32
+        requires row { EdgeRowIn self.now.edges.now e }
+        requires field { field < 12 }
+        ensures { result ≡ edge_field field self.now.edges.now e }
+    {
+        self.edges[edge_row(e) + field]
+    }
+
+    /// Word `field` of the half of oriented word w.
+    #[inline(always)]
+    pub fn half_field(&self, w: u32, field: usize) -> u32
+        requires row { HalfRowIn self.now.edges.now w }
+        requires field { field < 6 }
+        ensures { result ≡ half_field field self.now.edges.now w }
+    {
+        self.edges[half_row(w) + field]
+    }
+
+    /// The ends of v's incidence list.
+    #[inline(always)]
+    pub fn ends_of(&self, v: u32) -> Ends
+        requires { VertexRowIn self.now.vertices.now v }
+        ensures { result ≡ vertex_ends self.now.vertices.now v }
+    {
+        Ends {
+            first: self.vertex_field(v, VERTEX_FIRST),
+            last: self.vertex_field(v, VERTEX_LAST),
+        }
+    }
+
+    /// What the row of edge e says of it. Save, removal and the edits of type and reading read an edge by this.
+    #[inline(always)]
+    pub fn edge_fields(&self, e: u32) -> EdgeFields
+        requires { EdgeRowIn self.now.edges.now e }
+        ensures { result ≡ edge_fields self.now.edges.now e }
+    {
+        EdgeFields {
+            alpha: self.edge_field(e, EDGE_ALPHA),
+            omega: self.edge_field(e, EDGE_OMEGA),
+            sort: self.edge_field(e, EDGE_TYPE),
+            kind: self.edge_field(e, EDGE_KIND),
+            decimetres: self.edge_field(e, EDGE_DECIMETRES),
+        }
+    }
+
+    /// The reading of edge e.
+    #[inline(always)]
+    pub fn reading_at(&self, e: u32) -> Reading
+        requires { EdgeRowIn self.now.edges.now e }
+        ensures { result ≡ reading_at self.now.edges.now e }
+    {
+        Reading::from_words(
+            self.edge_field(e, EDGE_KIND),
+            self.edge_field(e, EDGE_DECIMETRES),
+        )
+    }
+}
+
+/// The word after w in its list: the step of a cursor, which holds the edge table alone.
+#[inline(always)]
+pub fn word_next(edges: &[u32], w: u32) -> u32
+    requires { HalfRowIn edges.now w }
+    ensures { result ≡ wnext edges.now w }
+{
+    edges[half_row(w) + HALF_NEXT]
+}
+
+// What writes to one table is lent that table alone: the edits are methods that write by these.
+
+/// Writes the ends of v's incidence list.
+#[inline(always)]
+#[tactic(auto, unfolding(crate::specs::Tables::put_ends))]
+pub fn put_ends(vertices: &mut [u32], v: u32, ends: Ends)
+    requires { VertexRowIn vertices.old v }
+    ensures { vertices.new ≡ put_ends v ends vertices.old }
+{
+    let at = vertex_row(v);
+    vertices[at + VERTEX_FIRST] = ends.first;
+    vertices[at + VERTEX_LAST] = ends.last;
+}
+
+/// Writes v's own words: whether it is there, type and value.
+#[inline(always)]
+#[tactic(auto, unfolding(crate::specs::Tables::table_vertex_row))]
+pub fn put_vertex(vertices: &mut [u32], v: u32, live: u32, sort: u32, value: u32)
+    requires { VertexRowIn vertices.old v }
+    ensures { vertices.new ≡ table_vertex_row v live sort value vertices.old }
+{
+    let at = vertex_row(v);
+    vertices[at + VERTEX_LIVE] = live;
+    vertices[at + VERTEX_TYPE] = sort;
+    vertices[at + VERTEX_VALUE] = value;
+}
+
+/// Writes e's own words: whether it is there, type and reading.
+#[inline(always)]
+#[tactic(auto, unfolding(crate::specs::Tables::table_edge_row))]
+pub fn put_edge(edges: &mut [u32], e: u32, live: u32, sort: u32, reading: Reading)
+    requires { EdgeRowIn edges.old e }
+    ensures { edges.new ≡ table_edge_row e live sort reading edges.old }
+{
+    let at = edge_row(e);
+    edges[at + EDGE_LIVE] = live;
+    edges[at + EDGE_TYPE] = sort;
+    edges[at + EDGE_KIND] = reading.kind();
+    edges[at + EDGE_DECIMETRES] = reading.decimetres();
+}
+
+/// Makes e live, with its type and reading. The two words of a reading are written as they stand, so that no branch asks
+/// for its kind.
+#[inline(always)]
+#[tactic(auto, unfolding(crate::specs::Tables::table_edge_row))]
+pub fn put_fields(edges: &mut [u32], e: u32, sort: u32, kind: u32, heard: u32)
+    requires { EdgeRowIn edges.old e × IsWords kind heard }
+    ensures { edges.new ≡ table_edge_row e 1 sort (reading_of kind heard) edges.old }
+{
+    let at = edge_row(e);
+    edges[at + EDGE_LIVE] = 1;
+    edges[at + EDGE_TYPE] = sort;
+    edges[at + EDGE_KIND] = kind;
+    edges[at + EDGE_DECIMETRES] = heard;
+}
+
+/// Writes e's two ends.
+#[inline(always)]
+#[tactic(auto, unfolding(crate::specs::Tables::table_edge_this))]
+pub fn put_this(edges: &mut [u32], e: u32, a: u32, z: u32)
+    requires { EdgeRowIn edges.old e }
+    ensures { edges.new ≡ table_edge_this e a z edges.old }
+{
+    let at = edge_row(e);
+    edges[at + EDGE_ALPHA] = a;
+    edges[at + EDGE_OMEGA] = z;
+}
+
+// ---- the same of tables that are lent apart, for the crates that do not hand `Tables` on yet
 
 /// Word `field` of the row of vertex v.
 pub fn vertex_field(vertices: &[u32], v: u32, field: usize) -> u32
@@ -38,14 +189,6 @@ pub fn half_field(edges: &[u32], w: u32, field: usize) -> u32
     edges[6 * w as usize - 12 + field]
 }
 
-/// The word after w in its list: the step of a cursor, which is walked by hand and has no field as a parameter.
-pub fn word_next(edges: &[u32], w: u32) -> u32
-    requires { HalfRowIn edges.now w }
-    ensures { result ≡ wnext edges.now w }
-{
-    edges[6 * w as usize - 12 + HALF_NEXT]
-}
-
 /// The ends of v's incidence list.
 pub fn ends_of(vertices: &[u32], v: u32) -> Ends
     requires { VertexRowIn vertices.now v }
@@ -56,86 +199,6 @@ pub fn ends_of(vertices: &[u32], v: u32) -> Ends
         first: vertices[at + VERTEX_FIRST],
         last: vertices[at + VERTEX_LAST],
     }
-}
-
-impl<'t> Tables<'t> {
-    /// Word `field` of the row of vertex v.
-    #[inline(always)]
-    pub fn vertex_field(&self, v: u32, field: usize) -> u32
-        requires row { VertexRowIn self.now.vertices.now v }
-        requires field { field < 8 }
-        ensures { result ≡ vertex_field field self.now.vertices.now v }
-    {
-        vertex_field(self.vertices, v, field)
-    }
-
-    /// Word `field` of the row of edge e.
-    #[inline(always)]
-    pub fn edge_field(&self, e: u32, field: usize) -> u32
-        requires row { EdgeRowIn self.now.edges.now e }
-        requires field { field < 12 }
-        ensures { result ≡ edge_field field self.now.edges.now e }
-    {
-        edge_field(self.edges, e, field)
-    }
-
-    /// Word `field` of the half of oriented word w.
-    #[inline(always)]
-    pub fn half_field(&self, w: u32, field: usize) -> u32
-        requires row { HalfRowIn self.now.edges.now w }
-        requires field { field < 6 }
-        ensures { result ≡ half_field field self.now.edges.now w }
-    {
-        half_field(self.edges, w, field)
-    }
-
-    /// The ends of v's incidence list.
-    #[inline(always)]
-    pub fn ends_of(&self, v: u32) -> Ends
-        requires { VertexRowIn self.now.vertices.now v }
-        ensures { result ≡ vertex_ends self.now.vertices.now v }
-    {
-        ends_of(self.vertices, v)
-    }
-
-    /// What the row of edge e says of it.
-    #[inline(always)]
-    pub fn edge_fields(&self, e: u32) -> EdgeFields
-        requires { EdgeRowIn self.now.edges.now e }
-        ensures { result ≡ edge_fields self.now.edges.now e }
-    {
-        edge_fields(self.edges, e)
-    }
-
-    /// The reading of edge e.
-    #[inline(always)]
-    pub fn reading_at(&self, e: u32) -> Reading
-        requires { EdgeRowIn self.now.edges.now e }
-        ensures { result ≡ reading_at self.now.edges.now e }
-    {
-        reading_at(self.edges, e)
-    }
-}
-
-/// Writes the ends of v's incidence list.
-pub fn put_ends(vertices: &mut [u32], v: u32, ends: Ends)
-    requires { VertexRowIn vertices.old v }
-    ensures { vertices.new ≡ put_ends v ends vertices.old }
-{
-    let at = 8 * v as usize - 8;
-    vertices[at + VERTEX_FIRST] = ends.first;
-    vertices[at + VERTEX_LAST] = ends.last;
-}
-
-/// Writes v's own words: whether it is there, type and value.
-pub fn put_vertex(vertices: &mut [u32], v: u32, live: u32, sort: u32, value: u32)
-    requires { VertexRowIn vertices.old v }
-    ensures { vertices.new ≡ table_vertex_row v live sort value vertices.old }
-{
-    let at = 8 * v as usize - 8;
-    vertices[at + VERTEX_LIVE] = live;
-    vertices[at + VERTEX_TYPE] = sort;
-    vertices[at + VERTEX_VALUE] = value;
 }
 
 /// The kind of a reading, as a word.
@@ -193,39 +256,4 @@ pub fn edge_fields(edges: &[u32], e: u32) -> EdgeFields
         kind: edge_field(edges, e, EDGE_KIND),
         decimetres: edge_field(edges, e, EDGE_DECIMETRES),
     }
-}
-
-/// Writes e's own words: whether it is there, type and reading.
-pub fn put_edge(edges: &mut [u32], e: u32, live: u32, sort: u32, reading: Reading)
-    requires { EdgeRowIn edges.old e }
-    ensures { edges.new ≡ table_edge_row e live sort reading edges.old }
-{
-    let at = 12 * e as usize - 12;
-    edges[at + EDGE_LIVE] = live;
-    edges[at + EDGE_TYPE] = sort;
-    edges[at + EDGE_KIND] = kind_of(reading);
-    edges[at + EDGE_DECIMETRES] = decimetres_of(reading);
-}
-
-/// Makes e live, with its type and reading. The two words of a reading are written as they stand, so that no branch asks
-/// for its kind.
-pub fn put_fields(edges: &mut [u32], e: u32, sort: u32, kind: u32, heard: u32)
-    requires { EdgeRowIn edges.old e × IsWords kind heard }
-    ensures { edges.new ≡ table_edge_row e 1 sort (reading_of kind heard) edges.old }
-{
-    let at = 12 * e as usize - 12;
-    edges[at + EDGE_LIVE] = 1;
-    edges[at + EDGE_TYPE] = sort;
-    edges[at + EDGE_KIND] = kind;
-    edges[at + EDGE_DECIMETRES] = heard;
-}
-
-/// Writes e's two ends.
-pub fn put_this(edges: &mut [u32], e: u32, a: u32, z: u32)
-    requires { EdgeRowIn edges.old e }
-    ensures { edges.new ≡ table_edge_this e a z edges.old }
-{
-    let w = 2 * e as usize;
-    edges[6 * w - 12 + HALF_THIS] = a;
-    edges[6 * (w + 1) - 12 + HALF_THIS] = z;
 }

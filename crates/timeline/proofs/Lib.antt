@@ -1,5 +1,4 @@
 pub mod JournalRowLaws
 pub mod Steps
 pub mod Going
-pub mod Cells
 pub mod Counting

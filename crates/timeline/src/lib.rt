@@ -4,7 +4,7 @@
 
 use graph_tables::{Head, Tables};
 
-pub mod lent; // the record that every change updates, lent to thin functions
+pub mod lent; // the record before and after, for the crates that do not lend it yet
 
 ghost use Rattle.std.specs.Prelude.{◌≡◌, true, false, ◌&&◌, List, ℕ, ◌+◌, ◌-◌, ◌^◌, ◌<◌, ◌≤◌, leb, ltb, length, take, drop, ◌==◌};
 ghost use Rattle.lists.specs.Choice.{to_bit};
@@ -14,52 +14,111 @@ ghost use Rattle.history.specs.Machine.{Step, Timeline, begun, placed, onward, m
 ghost use Rattle.graph_tables.specs.Tables.{State, state, state_of, SameLoan};
 ghost use Rattle.graph_tables.specs.Capacities.{Sized};
 ghost use Rattle.graph_tables.specs.Holds.{Holds};
-ghost use Rattle.timeline.specs.Current.{no_steps};
+ghost use Rattle.timeline.specs.Current.{no_steps, after_step, at_place};
 ghost use Rattle.timeline.specs.JournalRows.{shifted, Reach, crossed, JournalRows};
 ghost use Rattle.timeline.specs.Steps.{rows_to, Journal, Behind, Unfinished, Advances, Aims};
 
-// The place p, the number of steps m, and the rows of steps 1 to p.
-#[derive(Clone, Copy, Debug, PartialEq, Eq)]
+/// The place p, the number of steps m, and the rows of steps 1 to p.
+#[derive(Clone, Copy, Debug, Default, PartialEq, Eq)]
 pub struct Position {
     pub place: u32,
     pub steps: u32,
     pub used: u32,
 }
 
-// What every change updates: ends and counts of the graph, and the position.
+/// What every change updates: ends and counts of the graph, and the position. The order of the two is chosen by counts
+/// of instructions.
 #[derive(Clone, Copy, Debug, PartialEq, Eq)]
 pub struct Current {
     pub position: Position,
     pub head: Head,
 }
 
+impl Current {
+    /// Goes on by a step of so many rows that left this head: what lay after p is cut. A caller has a place and rows that
+    /// stay words of 32 bits after the step, as those of a journal within the limits do.
+    #[inline(always)]
+    pub fn step(&mut self, head: Head, rows: u32)
+        requires place { self.old.position.place + 1 < 2 ^ 32 }
+        requires used { self.old.position.used + rows < 2 ^ 32 }
+        ensures { self.new ≡ after_step self.old.position head rows }
+    {
+        let place = self.position.place + 1;
+        self.head = head;
+        self.position = Position {
+            place,
+            steps: place,
+            used: self.position.used + rows,
+        };
+    }
+
+    /// Goes to a place with this head and so many rows before it: the steps stay.
+    #[inline(always)]
+    pub fn move_to(&mut self, head: Head, place: u32, used: u32)
+        ensures { self.new ≡ at_place self.old.position head place used }
+    {
+        self.head = head;
+        self.position.place = place;
+        self.position.used = used;
+    }
+}
+
 // The rows up to which the present step leads, and how many steps come after it.
 #[derive(Clone, Copy, Debug, PartialEq, Eq)]
-pub struct Ahead {
-    pub end: u32,
-    pub left: u32,
+struct Ahead {
+    end: u32,
+    left: u32,
+}
+
+impl Ahead {
+    // Is a row left to go through, where u rows lie behind?
+    #[inline(always)]
+    fn is_unfinished(self, u: u32) -> bool
+        ensures unfinished { result ≡ true → Unfinished u self }
+        ensures left_value { result ≡ false → (self.left ≡ 0) × (u ≡ self.end) }
+    {
+        self.left != 0 || u != self.end
+    }
+
+    // The step that u rows behind are in; at its end, the next one. A step's first row and its last have its cost. What
+    // goes on is built word by word: a pair that is passed through whole is moved as one word and split again.
+    #[inline(always)]
+    fn next(self, journal: &[u32], u: u32, back: bool) -> Ahead
+        requires { (g : Graph) × (ss : List Step) × (q : ℕ) × Unfinished u self × Aims journal.now g ss back q u self }
+        ensures by_index { (g : Graph) → (ss : List Step) → (q : ℕ) → Aims journal.now g ss back q u self
+            → Aims journal.now g ss back q u result × (u ≡ result.end → ⊥) }
+        ensures advances { Advances u self result }
+    {
+        if u != self.end {
+            return Ahead {
+                end: self.end,
+                left: self.left,
+            };
+        }
+        let cost = journal::cost_at(journal, row_crossed(u, back));
+        Ahead {
+            end: shifted_by(u, cost, back),
+            left: self.left - 1,
+        }
+    }
 }
 
 // The number n before u, or n after it.
+#[inline(always)]
 fn shifted_by(u: u32, n: u32, back: bool) -> u32
     requires { Reach back n u 4294967295 }
     ensures { result ≡ shifted back n u }
 {
-    if back {
-        return u - n;
-    }
-    u + n
+    if back { u - n } else { u + n }
 }
 
 // The row that is taken back or carried out next, where u rows lie behind.
+#[inline(always)]
 fn row_crossed(u: u32, back: bool) -> u32
     requires { Reach back 1 u 4294967295 }
     ensures { result ≡ crossed back u }
 {
-    if back {
-        return u - 1;
-    }
-    u
+    if back { u - 1 } else { u }
 }
 
 // Takes one row back, or carries one out.
@@ -77,46 +136,11 @@ fn go_row<const BACK: bool>(tables: &mut Tables<'_>, head: Head, journal: &[u32]
     tables.apply(head, e)
 }
 
-// Is a row left to go through?
-fn unfinished(u: u32, a: Ahead) -> bool
-    ensures unfinished { result ≡ true → Unfinished u a }
-    ensures left_value { result ≡ false → (a.left ≡ 0) × (u ≡ a.end) }
-{
-    if a.left != 0 {
-        return true;
-    }
-    if u == a.end {
-        return false;
-    }
-    true
-}
-
-// The step that u rows behind are in; at its end, the next one. A step's first row and its last have its cost.
-fn next_ahead(journal: &[u32], u: u32, a: Ahead, back: bool) -> Ahead
-    requires { (g : Graph) × (ss : List Step) × (q : ℕ) × Unfinished u a × Aims journal.now g ss back q u a }
-    ensures by_index { (g : Graph) → (ss : List Step) → (q : ℕ) → Aims journal.now g ss back q u a
-        → Aims journal.now g ss back q u result × (u ≡ result.end → ⊥) }
-    ensures advances { Advances u a result }
-{
-    if u != a.end {
-        return Ahead {
-            end: a.end,
-            left: a.left,
-        };
-    }
-    let i = row_crossed(u, back);
-    let cost = journal::cost_at(journal, i);
-    let end = shifted_by(u, cost, back);
-    Ahead {
-        end,
-        left: a.left - 1,
-    }
-}
-
-// So many steps back or on, row by row. A caller has so many there. Which words of the tables hold the graph then is
-// left open. Back and on are two loops, each with its own edits in it, so that each is compiled as one piece.
+/// So many steps back or on, row by row. A caller has so many there. Which words of the tables hold the graph then is
+/// left open. Back and on are two loops, each with its own edits in it, so that each is compiled as one piece. The loop
+/// has no count: it ends where the rows and the steps do.
 #[inline(always)]
-fn go<const BACK: bool>(
+pub fn go<const BACK: bool>(
     tables: &mut Tables<'_>,
     current: Current,
     journal: &[u32],
@@ -131,19 +155,21 @@ fn go<const BACK: bool>(
         (placed (shifted BACK steps l.place) l) }
     ensures same_loan { SameLoan tables.old tables.new }
 {
-    let mut h = current.head;
+    let mut head = current.head;
     let mut u = current.position.used;
-    let mut a = Ahead {
+    let mut ahead = Ahead {
         end: u,
         left: steps,
     };
-    while unfinished(u, a) {
-        a = next_ahead(journal, u, a, BACK);
-        h = go_row::<BACK>(tables, h, journal, u);
+    while ahead.is_unfinished(u) {
+        ahead = ahead.next(journal, u, BACK);
+        head = go_row::<BACK>(tables, head, journal, u);
         u = shifted_by(u, 1, BACK);
     }
     let place = shifted_by(current.position.place, steps, BACK);
-    lent::moved(current, h, place, u)
+    let mut there = current;
+    there.move_to(head, place, u);
+    there
 }
 
 /// So many steps back. A caller has so many behind it. Which words of the tables hold the graph there is left open.
@@ -191,75 +217,58 @@ fn rows_on(journal: &[u32], used: u32, steps: u32) -> u32
     ensures { (g : Graph) → (ss : List Step) → (p : ℕ) → Behind journal.now g ss p used
         → Reach false steps p (length ss) → result ≡ rows_to 0 (p + steps) ss }
 {
-    let mut a = Ahead {
+    let mut ahead = Ahead {
         end: used,
         left: steps,
     };
-    while a.left != 0 {
-        let u = a.end;
-        a = next_ahead(journal, u, a, false);
+    while ahead.left != 0 {
+        ahead = ahead.next(journal, ahead.end, false);
     }
-    a.end
+    ahead.end
 }
 
-// Do so many steps on cost more than is free? Where all rows that are not used are free, there is room for every step,
-// and none is counted.
+/// Do so many steps on cost more than is free? Where all rows that are not used are free, there is room for every step,
+/// and none is counted.
 pub fn too_far(position: Position, journal: &[u32], free: u32, steps: u32) -> bool
     requires steps_bound { position.place + steps ≤ position.steps }
     requires journal { (b : Bounds) × (s : State) × (l : Timeline) × Journal b position s journal.now l }
     ensures { (b : Bounds) → (s : State) → (l : Timeline) → Journal b position s journal.now l
         → result ≡ ltb free (onward (l.place + steps) l) }
 {
-    if journal.len() / 12 <= position.used as usize + free as usize {
-        return false;
-    }
-    let rows = rows_on(journal, position.used, steps);
-    free < rows - position.used
+    position.used as usize + (free as usize) < journal.len() / 12
+        && free < rows_on(journal, position.used, steps) - position.used
 }
 
-// 1 where the step after place p lies above `low` and the bench is the one asked for, else 0.
-fn counted(p: u32, low: u32, made: u32, bench: u32) -> u32
-    ensures { result ≡ to_bit (leb low p && (made == bench)) }
+// Does the step after place p lie above `low`, and is the bench that made it the one asked for?
+#[inline(always)]
+fn counted(p: u32, low: u32, made: u32, bench: u32) -> bool
+    ensures { result ≡ (leb low p && (made == bench)) }
 {
-    if p < low {
-        return 0;
-    }
-    if made == bench {
-        return 1;
-    }
-    0
+    low <= p && made == bench
 }
 
-// For kind 59: how many of the steps above place `low`, up to place `high`, a bench made. The steps are gone through
-// from the first on.
+/// For kind 59: how many of the steps above place `low`, up to place `high`, a bench made. The steps are gone through
+/// from the first on.
 pub fn made_by(journal: &[u32], low: u32, high: u32, bench: u32) -> u32
     requires { (g : Graph) × (ss : List Step) × (u : ℕ) × Behind journal.now g ss high u }
     ensures { (g : Graph) → (ss : List Step) → (u : ℕ) → Behind journal.now g ss high u
         → result ≡ made_by bench (take (high - low) (drop low ss)) }
 {
-    let mut p: u32 = 0;
     let mut row: u32 = 0;
-    let mut n: u32 = 0;
-    while p < high {
+    let mut count = 0;
+    for p in 0..high {
         let made = journal::bench_at(journal, row);
-        let cost = journal::cost_at(journal, row);
-        let more = counted(p, low, made, bench);
-        n = n + more;
-        row = row + cost;
-        p += 1;
+        count += u32::from(counted(p, low, made, bench));
+        row += journal::cost_at(journal, row);
     }
-    n
+    count
 }
 
-// No step yet: at the start, and after a commit.
+/// No step yet: at the start, and after a commit.
 pub fn begin() -> Position
     ensures value { result ≡ no_steps }
     ensures by_index { (b : Bounds) → (s : State) → (t : List ℕ) → (g : Graph) → Sized b s → Within b g → Holds s g
         → length t < 2 ^ 32 → Journal b result s t (begun g) }
 {
-    Position {
-        place: 0,
-        steps: 0,
-        used: 0,
-    }
+    Position::default()
 }

@@ -1,18 +1,16 @@
 -- The words counted along a list are the degree.
-use Rattle.std.specs.Prelude.{◌==◌}
-use Prim.Native.Nat.{ℕ, ◌+◌, ◌/◌, ◌%◌, ◌^◌, ◌≤◌, ◌<◌}
-use mathlib.Core.Path.{◌≡◌, refl, sym, ap, subst, ◌∙◌}
-use mathlib.Core.Logic.{◌≢◌}
-use mathlib.Core.Bool.{Bool, true, false, not, ◌&&◌}
+use Prim.Native.Nat.{ℕ, ◌+◌, ◌/◌, ◌%◌, ◌≤◌, ◌<◌}
+use mathlib.Core.Path.{◌≡◌, refl, ap, ◌∙◌}
+use mathlib.Core.Bool.{Bool, true, false, ◌&&◌}
 use mathlib.Core.List.{List, [], ◌∷◌}
 use native.Mathlib.Omega.{arith}
 use lib.Dec.{ltb}
-use lib.ListN.{length, get_or}
-use borrow.Author.Tests.{eq-eqb, ne_eqb, lt-ltb, le-ltb}
+use lib.ListN.{length}
+use borrow.Author.Tests.{ne_eqb, lt-ltb}
 use Rattle.lists.specs.Choice.{◌⇒◌else◌, to_bit}
 use Rattle.lists.specs.Lists.{sum_of, filter}
 use Rattle.lists.specs.Keyed.{count_by_key}
-use Rattle.lists.proofs.Picks.{is_yes, Same, same, differ, same?}
+use Rattle.lists.proofs.Picks.{is_yes}
 use Rattle.linked_lists.specs.Links.{nodes}
 use Rattle.linked_lists.proofs.Model.{held_nodes}
 use Rattle.graph.specs.Graph.{Graph, itself, edge, edge_of, list_of}
@@ -30,41 +28,8 @@ use Rattle.type_rows.proofs.Closing.{bit_below}
 use Rattle.walks.specs.Walks.{degree_one, degree_at}
 use Rattle.graph_tables.proofs.Answers.{vertex_row, edge_type}
 use Rattle.walks.proofs.Walkable.{listed_edge}
-use Rattle.lists.proofs.Bools.{or_false}
 
 -- ---- one word
-
-pub side_out : (c w : ℕ) → c ≡ 1 → (w % 2 == 0) ≡ on_side c w
-side_out c w e = subst (λ (x : ℕ). (w % 2 == 0) ≡ on_side x w) (sym e) (sym (or_false (w % 2 == 0)))
-
-pub side_in : (c w : ℕ) → c ≡ 2 → not (w % 2 == 0) ≡ on_side c w
-side_in c w e = subst (λ (x : ℕ). not (w % 2 == 0) ≡ on_side x w) (sym e) refl
-
-pub side_all : (c w : ℕ) → c ≡ 0 → true ≡ on_side c w
-side_all c w e = subst (λ (x : ℕ). true ≡ on_side x w) (sym e) refl
-
-pub side_none : (c w : ℕ) → c ≢ 0 → c ≢ 1 → c ≢ 2 → false ≡ on_side c w
-side_none c w a b d = simp (ne_eqb c 0 a, ne_eqb c 1 b, ne_eqb c 2 d)
-
-pub bit_left : (p q : Bool) → p ≡ false → 0 ≡ to_bit (p && q)
-bit_left p q e = rw e refl
-
-pub bit_right : (p q : Bool) → q ≡ false → 0 ≡ to_bit (p && q)
-bit_right true q e = rw e refl
-bit_right false q e = refl
-
--- the bit of a class modulo 64 is a number
-pub bit_word : (words : List ℕ) (k t : ℕ) (q : Bool) → k ≤ 63 → q ≡ true → get_or words k 0 / 2 ^ (t % 64) % 2 ≡ to_bit (bit_of words k (t % 64) && q)
-bit_word words k t q h e =
-    let l : t % 64 ≤ 63 = omega arith in
-    rw (e, le-ltb 63 k h, le-ltb 63 (t % 64) l) (go (same? (get_or words k 0 / 2 ^ (t % 64) % 2) 1))
-  where
-    go : Same (get_or words k 0 / 2 ^ (t % 64) % 2) 1 → get_or words k 0 / 2 ^ (t % 64) % 2 ≡ to_bit ((get_or words k 0 / 2 ^ (t % 64) % 2 == 1) && true)
-    go (same u v) = rw (eq-eqb _ _ u) u
-    go (differ u v) = rw (ne_eqb _ _ u) (omega (arith, u))
-
-pub bit_past : (words : List ℕ) (k t : ℕ) → 63 < k → bit_of words k t ≡ false
-bit_past words k t h = rw (lt-ltb 63 k h)
 
 bit_le : (p : Bool) → to_bit p ≤ 1
 bit_le true = omega arith
@@ -133,3 +98,16 @@ class_none words t c vertices edges v h =
 
 pub class_same : (t : ℕ) → t ≤ 63 → t % 64 ≡ t
 class_same t h = omega arith
+
+-- no word is on a side that has another number
+pub side_none : (in_class : ℕ → Bool) (c : ℕ) (vertices edges : List ℕ) (v : ℕ) → 2 < c → 0 ≡ degree_at in_class c vertices edges v
+unfolding degree_at
+side_none in_class c vertices edges v h =
+    none_kept (λ w. in_class (etype edges (w / 2)) && on_side c w) (nodes incidence_links edges (vertex_ends vertices v)) (λ w. out (in_class (etype edges (w / 2))) w)
+  where
+    off : (w : ℕ) → on_side c w ≡ false
+    off w = simp (ne_eqb c 0 (λ q. omega (arith, h, q)), ne_eqb c 1 (λ q. omega (arith, h, q)), ne_eqb c 2 (λ q. omega (arith, h, q)))
+
+    out : (b : Bool) (w : ℕ) → (b && on_side c w) ≡ false
+    out true w = off w
+    out false w = refl

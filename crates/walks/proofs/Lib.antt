@@ -1,4 +1,3 @@
-pub mod ByHand
 pub mod ListWalks
 pub mod Walkable
 pub mod DistinctSums

@@ -1,17 +1,14 @@
 -- A walk along a held list, node by node, that adds f of each node.
-use Rattle.std.specs.Prelude.{◌==◌}
-use Prim.Native.Nat.{ℕ, zero, suc, ◌+◌, ◌/◌, ◌^◌, ◌≤◌, ◌<◌}
+use Prim.Native.Nat.{ℕ, ◌+◌, ◌/◌, ◌^◌, ◌≤◌, ◌<◌}
 use mathlib.Core.Path.{◌≡◌, refl, sym, ap, ◌∙◌}
-use mathlib.Core.Bool.{Bool, true, false}
 use mathlib.Core.List.{List, [], ◌∷◌}
 use native.Mathlib.Omega.{arith}
 use lib.ListN.{length, get_or}
-use Rattle.lists.specs.Choice.{◌⇒◌else◌}
-use Rattle.lists.specs.Lists.{sum_of, before}
+use Rattle.lists.specs.Lists.{sum_of}
 use Rattle.linked_lists.specs.declared.LinkLayout.{LinkLayout}
 use Rattle.linked_lists.specs.declared.Ends.{Ends}
 use Rattle.linked_lists.specs.Lists.{Fresh, Every}
-use Rattle.linked_lists.specs.Links.{ValidLayout, backward, forward, link_address, Inside, link_of, Chain, Held, HeldAt, nodes_from, nodes}
+use Rattle.linked_lists.specs.Links.{ValidLayout, backward, forward, link_address, Inside, link_of, Chain, Held, nodes_from, nodes}
 use Rattle.linked_lists.proofs.Steps.{link_word}
 use Rattle.linked_lists.proofs.Pigeonhole.{held_length}
 use Rattle.linked_lists.proofs.Model.{nodes_chain, node_below, held_nodes}
@@ -135,28 +132,6 @@ pub record Along (f : ℕ → ℕ) (vertices edges : List ℕ) (v w n : ℕ) : T
 abbrev pub along_left : List ℕ → List ℕ → ℕ → ℕ → ℕ
 along_left vertices edges v w = left incidence_links edges (vertex_ends vertices v) w
 
--- the same by the edge table alone, whose words are the links of a list's nodes, whatever its ends are
-abbrev pub rest_left : List ℕ → ℕ → ℕ
-rest_left edges w = left incidence_links edges (record { first = 0; last = 0 }) w
-
-module _ (layout : LinkLayout) (t : List ℕ) (e e' : Ends) where
-  link_any : (k : ℕ) → (k == 0) ≡ false → link_of forward layout t e k ≡ link_of forward layout t e' k
-  unfolding link_of
-  link_any k q = rw q
-
-  nodes_any : (f k : ℕ) → nodes_from (link_of forward layout t e) f k ≡ nodes_from (link_of forward layout t e') f k
-  nodes_any zero k = refl
-  nodes_any (suc f) k = go (λ j. nodes_any f j) (k == 0) refl
-    where
-      go : ((j : ℕ) → nodes_from (link_of forward layout t e) f j ≡ nodes_from (link_of forward layout t e') f j) → (b : Bool) → (k == 0) ≡ b
-          → (b ⇒ [] else (k ∷ nodes_from (link_of forward layout t e) f (link_of forward layout t e k)))
-          ≡ (b ⇒ [] else (k ∷ nodes_from (link_of forward layout t e') f (link_of forward layout t e' k)))
-      go ih true q = refl
-      go ih false q = ap (λ (l : List ℕ). k ∷ l) (ih (link_of forward layout t e k) ∙ ap (nodes_from (link_of forward layout t e') f) (link_any k q))
-
-pub rest_along : (vertices edges : List ℕ) (v w : ℕ) → along_left vertices edges v w ≡ rest_left edges w
-rest_along vertices edges v w = ap length (nodes_any incidence_links edges (vertex_ends vertices v) (record { first = 0; last = 0 }) (length edges + incidence_links.offset) w)
-
 module _ (f : ℕ → ℕ) (vertices edges : List ℕ) (v : ℕ) where
   pub along_start : CanWalk vertices edges v → (w : ℕ) → w ≡ vfirst vertices v → Along f vertices edges v w 0
   along_start p w q = record {
@@ -194,12 +169,3 @@ module _ (f : ℕ → ℕ) (vertices edges : List ℕ) (v : ℕ) where
 
         pub along_on : (r : ℕ) → r ≡ f w → Along f vertices edges v y (n + r)
         along_on r e = record { walk = rw e (step.next y along_link) }
-
--- ---- for callers of the walk of `before`
-
-module _ (layout : LinkLayout) (t : List ℕ) (valid : ValidLayout layout) where
-  pub before_read : {e e' : Ends} {r : Bool} (a b : ℕ) → e ≡ e' → r ≡ before a b (nodes layout t e) → r ≡ before a b (nodes layout t e')
-  before_read a b q f = f ∙ ap (λ (e : Ends). before a b (nodes layout t e)) q
-
-  pub before_asks : {e e' : Ends} (a : ℕ) → e ≡ e' → HeldAt layout t e' a → ValidLayout layout × HeldAt layout t e a
-  before_asks a q h = (valid, rw q h)

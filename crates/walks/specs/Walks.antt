@@ -1,13 +1,15 @@
 -- Walks along one incidence list.
-use Rattle.std.specs.Prelude.{ℕ, ◌-◌, ◌/◌, ◌^◌, ◌<◌, Bool, ◌&&◌, ◌≡◌, List, length}
+use Rattle.std.specs.Prelude.{ℕ, ◌-◌, ◌/◌, ◌^◌, ◌<◌, Bool, ◌&&◌, ◌≡◌, List, length, Result, Ok, Err}
 use Rattle.lists.specs.Choice.{if_equal, to_bit}
 use Rattle.lists.specs.Lists.{sum_of, filter}
 use Rattle.linked_lists.specs.Lists.{Every}
 use Rattle.linked_lists.specs.Links.{Held, nodes}
 use Rattle.graph.specs.Graph.{by_side}
 use Rattle.graph.specs.Questions.{on_side}
-use Rattle.type_rows.specs.Closure.{bit_of}
-use Rattle.graph_tables.specs.Tables.{incidence_links, vertex_ends, VertexRowIn, EdgeRowIn, vfirst, etype, wthis}
+use Rattle.graph_tables.specs.Tables.{incidence_links, vertex_ends, VertexRowIn, EdgeRowIn, etype, wthis}
+use Rattle.walks.specs.declared.Side.{Side}
+use Rattle.walks.specs.declared.Side.TheVariants.{All, Out, In}
+use Rattle.walks.specs.declared.NoSide.{NoSide}
 
 -- the list of v is held, and each of its words has its edge's row
 pub record CanWalk (vertices edges : List ℕ) (v : ℕ) : Type 0 where
@@ -34,14 +36,13 @@ unfoldable pub degree_at : (ℕ → Bool) → ℕ → List ℕ → List ℕ → 
 degree_at in_class c vertices edges v = length (filter (λ w. in_class (etype edges (w / 2))
     && on_side c w) (nodes incidence_links edges (vertex_ends vertices v)))
 
--- the first word of a list that can be walked
-pub record CanWalkFrom (edges : List ℕ) (first : ℕ) : Type 0 where
-  pub vertices : List ℕ
-  pub v : ℕ
-  pub walks : CanWalk vertices edges v
-  pub here : first ≡ vfirst vertices v
+-- the number of a side in kind 45
+abbrev pub side_number : Side → ℕ
+side_number All = 0
+side_number Out = 1
+side_number In = 2
 
--- n is the degree along every list that begins with the word; s is in the class where bit t of word s is set
-abbrev pub DegreeFrom : List ℕ → List ℕ → ℕ → ℕ → ℕ → ℕ → Type 0
-DegreeFrom words edges first t c n = (vertices : List ℕ) (v : ℕ) → CanWalk vertices edges v → first ≡ vfirst vertices v
-    → n ≡ degree_at (λ s. bit_of words s t) c vertices edges v
+-- what is read of a number: the side that has it, or that none has
+abbrev pub NumberOf : ℕ → Result Side NoSide → Type 0
+NumberOf c (Ok side) = c ≡ side_number side
+NumberOf c (Err _) = 2 < c

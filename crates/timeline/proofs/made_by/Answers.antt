@@ -15,27 +15,27 @@ bench_at-made-requires c =
     let a = s.args in
     let p = s.requires in
     let l = c.loop-p in
-    (count_next a.journal.now p.0 p.1 a.low a.high a.bench l.p l.row l.n (l.invariant p.0 p.1 p.2 p.3) p.3.inside c.loop-p-test.true).room
+    (count_next a.journal.now p.0 p.1 a.low a.high a.bench l.p l.row l.count (l.invariant p.0 p.1 p.2 p.3) p.3.inside c.loop-p-test.true).room
 
-pub cost_at-cost-requires : goal.cost_at-cost-requires
-cost_at-cost-requires c =
+pub cost_at-row-requires : goal.cost_at-row-requires
+cost_at-row-requires c =
     let s = c in
     let a = s.args in
     let p = s.requires in
     let l = c.loop-p in
-    (count_next a.journal.now p.0 p.1 a.low a.high a.bench l.p l.row l.n (l.invariant p.0 p.1 p.2 p.3) p.3.inside c.loop-p-test.true).room
+    (count_next a.journal.now p.0 p.1 a.low a.high a.bench l.p l.row l.count (l.invariant p.0 p.1 p.2 p.3) p.3.inside c.loop-p-test.true).room
 
-pub overflow_add-n : goal.overflow_add-n
-overflow_add-n c =
+pub overflow_add-count : goal.overflow_add-count
+overflow_add-count c =
     let s = c in
     let p = s.requires in
     let l = c.loop-p in
     omega (
       arith,
-      count_le s.args.journal.now p.0 p.1 s.args.low s.args.high s.args.bench l.p l.row l.n (l.invariant p.0 p.1 p.2 p.3),
+      count_le s.args.journal.now p.0 p.1 s.args.low s.args.high s.args.bench l.p l.row l.count (l.invariant p.0 p.1 p.2 p.3),
       c.loop-p-test.true,
       s.ranges.high.fits,
-      c.counted-more.ensures,
+      c.from-count.ensures ∙ ap to_bit c.counted.ensures,
       bit_le (leb s.args.low l.p && (c.bench_at-made.result == s.args.bench)),
     )
 
@@ -45,9 +45,9 @@ overflow_add-row c =
     let a = s.args in
     let p = s.requires in
     let l = c.loop-p in
-    let k = count_next a.journal.now p.0 p.1 a.low a.high a.bench l.p l.row l.n (l.invariant p.0 p.1 p.2 p.3) p.3.inside
+    let k = count_next a.journal.now p.0 p.1 a.low a.high a.bench l.p l.row l.count (l.invariant p.0 p.1 p.2 p.3) p.3.inside
     c.loop-p-test.true in
-    omega (arith, k.reach, k.word, c.cost_at-cost.ensures)
+    omega (arith, k.reach, k.word, c.cost_at-row.ensures)
 
 pub loop-p-preserved : goal.loop-p-preserved
 loop-p-preserved c =
@@ -56,5 +56,5 @@ loop-p-preserved c =
     let l = c.loop-p in
     let b = c.bench_at-made.ensures in
     λ g ss u k.
-    count_on a.journal.now g ss a.low a.high a.bench l.p l.row l.n (l.invariant g ss u k) k.inside c.loop-p-test.true _ _ c.cost_at-cost.ensures
-    (c.counted-more.ensures ∙ ap (λ (i : ℕ). to_bit (leb a.low l.p && (i == a.bench))) b)
+    count_on a.journal.now g ss a.low a.high a.bench l.p l.row l.count (l.invariant g ss u k) k.inside c.loop-p-test.true _ _ c.cost_at-row.ensures
+    (c.from-count.ensures ∙ ap to_bit c.counted.ensures ∙ ap (λ (i : ℕ). to_bit (leb a.low l.p && (i == a.bench))) b)

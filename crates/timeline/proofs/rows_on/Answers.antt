@@ -3,21 +3,21 @@ use mathlib.Core.Bool.{false}
 use Rattle.timeline.proofs.Going.{aims_start, aims_end}
 use Rattle.timeline.proofs.rows_on.Goals as goal
 
-pub next_ahead-a-requires : goal.next_ahead-a-requires
-next_ahead-a-requires c =
+pub next-ahead-requires : goal.next-ahead-requires
+next-ahead-requires c =
     let s = c in
     let a = s.args in
     let p = s.requires in (
       p.0,
       p.1,
       _,
-      λ e. c.loop-a-test.true,
-      c.loop-a.invariant p.0 p.1 _ (aims_start a.journal.now p.0 p.1 false p.2 a.used a.steps p.3 p.4),
+      λ e. c.loop-ahead-test.true,
+      c.loop-ahead.invariant p.0 p.1 _ (aims_start a.journal.now p.0 p.1 false p.2 a.used a.steps p.3 p.4),
     )
 
 pub returns : goal.returns
 returns c =
     let a = c.args in
     λ g ss p k h.
-    let y = c.loop-a.invariant g ss _ (aims_start a.journal.now g ss false p a.used a.steps k h) in
-    (aims_end a.journal.now g ss false _ _ c.loop-a.a y c.loop-a-test.false refl _ refl).used
+    let y = c.loop-ahead.invariant g ss _ (aims_start a.journal.now g ss false p a.used a.steps k h) in
+    (aims_end a.journal.now g ss false _ _ c.loop-ahead.ahead y c.loop-ahead-test.false refl _ refl).used

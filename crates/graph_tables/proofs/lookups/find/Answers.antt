@@ -1,4 +1,4 @@
-use Rattle.std.proofs.Common.{◌≡◌, ◌*◌, ◌≤◌, ◌≢◌, length, sym, arith, le-ltb, eq-eqb, ne_eqb}
+use Rattle.std.proofs.Common.{length, sym, arith, le-ltb, eq-eqb, ne_eqb}
 use Rattle.graph_tables.specs.Tables.{found_row}
 use Rattle.graph_tables.proofs.Finds.{row_past, row_there, row_beyond}
 use Rattle.graph_tables.proofs.lookups.find.Goals as goal

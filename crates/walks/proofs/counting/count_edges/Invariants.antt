@@ -1,9 +1,12 @@
+use Rattle.std.proofs.Common.{◌≡◌}
 use Rattle.walks.specs.Walks.{counted_at}
 use Rattle.walks.proofs.ListWalks.{Along, along_left}
 use Rattle.walks.proofs.counting.count_edges.Given as goal
 
-abbrev pub invariant-loop-w : goal.invariant-loop-w
-invariant-loop-w l = Along (counted_at l.edges) l.vertices l.edges l.v l.w l.n
+abbrev pub invariant-loop-cursor : goal.invariant-loop-cursor
+invariant-loop-cursor l =
+    (l.cursor.edges.now ≡ l.tables.edges.now)
+    × Along (counted_at l.tables.edges.now) l.tables.vertices.now l.tables.edges.now l.v l.cursor.word l.n
 
-abbrev pub decreases-loop-w : goal.decreases-loop-w
-decreases-loop-w l = along_left l.vertices l.edges l.v l.w
+abbrev pub decreases-loop-cursor : goal.decreases-loop-cursor
+decreases-loop-cursor l = along_left l.tables.vertices.now l.tables.edges.now l.v l.cursor.word

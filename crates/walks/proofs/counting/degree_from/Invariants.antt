@@ -1,17 +1,13 @@
--- What the loop of `walks::counting::degree_from` keeps: n is what was added up on the way to the cursor's word, along every
--- list that begins with `first`. What it makes less: the rest of the list.
-use Rattle.std.proofs.Common.{◌≡◌, ◌%◌, ℕ, List}
+use Rattle.std.proofs.Common.{◌≡◌, ◌%◌}
 use Rattle.type_rows.specs.Closure.{bit_of}
-use Rattle.graph_tables.specs.Tables.{vfirst}
-use Rattle.walks.specs.Walks.{CanWalk, degree_one}
-use Rattle.walks.proofs.ListWalks.{Along, rest_left}
+use Rattle.walks.specs.Walks.{degree_one, side_number}
+use Rattle.walks.proofs.ListWalks.{Along, along_left}
 use Rattle.walks.proofs.counting.degree_from.Given as goal
 
-abbrev pub invariant-loop-k : goal.invariant-loop-k
-invariant-loop-k l =
-    (l.k.edges.now ≡ l.edges)
-    × ((vertices : List ℕ) (v : ℕ) → CanWalk vertices l.edges v → l.first ≡ vfirst vertices v
-    → Along (degree_one (λ s. bit_of l.words s (l.t % 64)) l.c l.edges) vertices l.edges v l.k.word l.n)
+abbrev pub invariant-loop-cursor : goal.invariant-loop-cursor
+invariant-loop-cursor l =
+    (l.cursor.edges.now ≡ l.tables.edges.now)
+    × Along (degree_one (λ s. bit_of l.words s (l.t % 64)) (side_number l.side) l.tables.edges.now) l.tables.vertices.now l.tables.edges.now l.v l.cursor.word l.n
 
-abbrev pub decreases-loop-k : goal.decreases-loop-k
-decreases-loop-k l = rest_left l.edges l.k.word
+abbrev pub decreases-loop-cursor : goal.decreases-loop-cursor
+decreases-loop-cursor l = along_left l.tables.vertices.now l.tables.edges.now l.v l.cursor.word
