@@ -4,13 +4,16 @@ ghost use Rattle.history_calls.specs.Outcomes.{Leaves};
 ghost use Rattle.engine.specs.Running.{Runs, Granted, AnswersNear};
 
 use commands::Command;
+use commands::refusal::Refusal;
+use graph_tables::Tables;
 use history_calls::{Called, Store};
+use price_calls::quote;
 use question_calls::reply;
 
-// Any command, where so many changes may be remembered up to the place. What a redo, or a call to a mark or a name,
-// that needs more answers is left open: with all rows of the journal there is none, and who lends fewer tests it before.
-// A refused command leaves every lent word; else those of tables, journal and marks are left open, but for the machine
-// that they stand for.
+/// Any command, where so many changes may be remembered up to the place. What a redo, or a call to a mark or a name,
+/// that needs more answers is left open: with all rows of the journal there is none, and who lends fewer tests it before.
+/// A refused command leaves every lent word; else those of tables, journal and marks are left open, but for the machine
+/// that they stand for.
 pub fn step(
     store: Store,
     vertices: &mut [u32],
@@ -27,24 +30,27 @@ pub fn step(
         (memory vertices.new edges.new journal.new marks.new) closed.now types }
     ensures leaves { Leaves store (memory vertices.old edges.old journal.old marks.old) result (memory vertices.new edges.new journal.new marks.new) }
 {
+    let mut tables = Tables {
+        vertices: &mut *vertices,
+        edges: &mut *edges,
+    };
     match command {
         Command::Alter(change) => {
             let free = capacity - store.current.position.used;
-            change_calls::alter(store, vertices, edges, journal, marks, types, free, change)
+            change_calls::alter(store, &mut tables, journal, marks, types, free, change)
         }
         Command::History(call) => {
             let free = capacity - store.current.position.used;
-            history_calls::perform(store, vertices, edges, journal, marks, free, call)
+            store.perform(&mut tables, journal, marks, free, call)
         }
         Command::Ask(question) => {
-            let head = store.current.head;
-            let r = reply(head, vertices, edges, closed, types, question);
-            history_calls::stay(store, r.code, r.number)
+            let answer = reply(store.current.head, &tables, closed, types, question);
+            store.stay(answer.code, answer.number)
         }
         Command::Quote(call) => {
-            let r = price_calls::quote(vertices, edges, call);
-            history_calls::stay(store, r.code, r.number)
+            let answer = quote(&tables, call);
+            store.stay(answer.code, answer.number)
         }
-        Command::Unknown => history_calls::stay(store, 1, 0),
+        Command::Unknown => store.answer(Err(Refusal::UnknownKind)),
     }
 }

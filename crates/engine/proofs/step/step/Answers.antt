@@ -14,13 +14,13 @@ alter-requires c =
 pub perform-requires : goal.perform-requires
 perform-requires c = let p = c.requires.0 in (bounds_in p.0, p.1, p.2.represents)
 
-pub reply-r-requires : goal.reply-r-requires
-reply-r-requires c =
+pub reply-answer-requires : goal.reply-answer-requires
+reply-answer-requires c =
     let s = c in
     let p = s.requires.0 in record { sized = (bounds_in p.0, present p.1, sized p.0 p.1 _ _ _ _ p.2, holds p.0 p.1 _ _ _ _ p.2); by_index = (p.0.rows, p.2.setting.rows, p.2.setting.closed_rows) }
 
-pub quote-r-requires : goal.quote-r-requires
-quote-r-requires c =
+pub quote-answer-requires : goal.quote-answer-requires
+quote-answer-requires c =
     let s = c in
     let p = s.requires.0 in
     (bounds_in p.0, _, present p.1, sized p.0 p.1 _ _ _ _ p.2, holds p.0 p.1 _ _ _ _ p.2)
@@ -32,7 +32,7 @@ returns-in-Alter c =
           c.args.capacity in
           rw c.in-Alter.is
           (alter_answers w m _ _ _ _ h n _ _ _ c.alter.auto.journal
-          (c.alter.ensures.follows (bounds_in w) m n (sym h.setting.types_in) h.represents (free_is w m _ _ _ _ h n)));
+          (c.alter.ensures.changed (bounds_in w) m n (sym h.setting.types_in) h.represents (free_is w m _ _ _ _ h n)));
       leaves = c.alter.ensures.leaves;
     }
 
@@ -53,8 +53,8 @@ returns-in-Ask c =
       answers_near = λ w m h near. let n = c.args.capacity in
           rw c.in-Ask.is
           (answered_by w n m _ _ _ _ c.stay.ensures
-          (ask_answers w m _ _ _ _ h n _ c.reply-r.result
-          (c.reply-r.ensures (present m) w.rows (bounds_in w) (sized w m _ _ _ _ h) (holds w m _ _ _ _ h) h.setting.rows h.setting.closed_rows)));
+          (ask_answers w m _ _ _ _ h n _ c.reply-answer.result
+          (c.reply-answer.ensures (present m) w.rows (bounds_in w) (sized w m _ _ _ _ h) (holds w m _ _ _ _ h) h.setting.rows h.setting.closed_rows)));
       leaves = λ z. (ap (λ (d : Called). d.store) c.stay.ensures, refl);
     }
 
@@ -63,7 +63,7 @@ returns-in-Quote c =
     record {
       answers_near = λ w m h near. let n = c.args.capacity in
           rw c.in-Quote.is
-          (answered_by w n m _ _ _ _ c.stay-in-Quote.ensures (quote_answers w m _ _ _ _ h n _ c.quote-r.result (c.quote-r.ensures _ (present m) (holds w m _ _ _ _ h))));
+          (answered_by w n m _ _ _ _ c.stay-in-Quote.ensures (quote_answers w m _ _ _ _ h n _ c.quote-answer.result (c.quote-answer.ensures _ (present m) (holds w m _ _ _ _ h))));
       leaves = λ z. (ap (λ (d : Called). d.store) c.stay-in-Quote.ensures, refl);
     }
 
