@@ -24,11 +24,6 @@ standing_place set marks a = in_set set a ⇒ Some (place_in marks a) else None
 abbrev pub mark_place : Store → List ℕ → ℕ → ℕ
 mark_place x marks a = in_set x.set.bits a ⇒ place_in marks a else x.current.position.place
 
--- the place that a call leads to, which may be none: the other then
-abbrev pub led_or : ℕ → Option ℕ → ℕ
-led_or place None = place
-led_or place (Some q) = q
-
 -- one step on, where there is one
 abbrev pub next_place : ℕ → ℕ → ℕ
 next_place place steps = (place == steps) ⇒ place else (place + 1)

@@ -2,6 +2,7 @@
 // too far is tested here, on the call's words: the step does not test it. What a store has used and the room left to
 // all have one sum over calls of one store, so that as many as may be go to the engine's loop at once.
 ghost use Rattle.std.specs.Prelude.{◌≡◌, List, [], ◌∷◌, ℕ, ◌+◌, ◌*◌, ◌/◌, ◌≤◌, length};
+ghost use Rattle.std.specs.Option.{unwrap_or};
 ghost use Rattle.lists.specs.Lists.{overwritten};
 ghost use Rattle.graph.specs.WellFormed.{Bounds};
 ghost use Rattle.history.specs.Machine.{Machine, free_of};
@@ -12,7 +13,7 @@ ghost use Rattle.machine.specs.HistoryCodes.{out_of_reach};
 ghost use Rattle.history_calls.specs.Memory.{memory};
 ghost use Rattle.history_calls.specs.Represents.{Represents, Stands};
 ghost use Rattle.engine.specs.Running.{Runs, Granted};
-ghost use Rattle.store_calls.specs.Guard.{standing_place, led_or, next_place, place_ahead, may_redo, goes_on, Together, Alike, Takes};
+ghost use Rattle.store_calls.specs.Guard.{standing_place, next_place, place_ahead, may_redo, goes_on, Together, Alike, Takes};
 
 use commands::refusal::Refusal;
 use engine::calls::carry_out;
@@ -42,7 +43,7 @@ fn place_of(set: MarkSet, marks: &[u32], a: u32) -> Option<u32>
 /// One step on, where there is one.
 fn next_place(place: u32, steps: u32) -> Option<u32>
     requires { place ≤ steps }
-    ensures { led_or place result ≡ next_place place steps }
+    ensures { unwrap_or result place ≡ next_place place steps }
 {
     if place == steps { None } else { Some(place + 1) }
 }
@@ -51,7 +52,7 @@ fn next_place(place: u32, steps: u32) -> Option<u32>
 fn place_ahead(store: Store, marks: &[u32], call: &[u32]) -> Option<u32>
     requires marks_len { length marks.now ≡ mark_words }
     requires place_le_steps { store.current.position.place ≤ store.current.position.steps }
-    ensures { led_or store.current.position.place result ≡ place_ahead store marks.now (call_at call.now) }
+    ensures { unwrap_or result store.current.position.place ≡ place_ahead store marks.now (call_at call.now) }
 {
     let position = store.current.position;
     match lists::get(call, 0) {

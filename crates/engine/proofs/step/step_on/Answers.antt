@@ -4,7 +4,7 @@ use Rattle.history.specs.Machine.{present}
 use Rattle.machine.specs.Calls.{bounds_in}
 use Rattle.history_calls.specs.declared.Called.{Called}
 use Rattle.engine.proofs.StepLaws.{holds, free_is, sized, answered_by, alter_answers, recall_answers, ask_answers, quote_answers, unknown_answers}
-use Rattle.engine.proofs.step.step.Goals as goal
+use Rattle.engine.proofs.step.step_on.Goals as goal
 
 pub alter-requires : goal.alter-requires
 alter-requires c =
@@ -32,8 +32,9 @@ returns-in-Alter c =
           c.args.capacity in
           rw c.in-Alter.is
           (alter_answers w m _ _ _ _ h n _ _ _ c.alter.auto.journal
-          (c.alter.ensures.changed (bounds_in w) m n (sym h.setting.types_in) h.represents (free_is w m _ _ _ _ h n)));
-      leaves = c.alter.ensures.leaves;
+          (c.alter.ensures.changed.follows (bounds_in w) m n (sym h.setting.types_in) h.represents (free_is w m _ _ _ _ h n)));
+      leaves = c.alter.ensures.changed.leaves;
+      same_loan = c.alter.ensures.same_loan;
     }
 
 pub returns-in-History : goal.returns-in-History
@@ -45,6 +46,7 @@ returns-in-History c =
           rw e (recall_answers w m _ _ _ _ h n _ (rw e at near) _ _ refl
           (c.perform.ensures.performs (bounds_in w) m n h.represents (free_is w m _ _ _ _ h n)));
       leaves = c.perform.ensures.leaves;
+      same_loan = c.perform.ensures.same_loan;
     }
 
 pub returns-in-Ask : goal.returns-in-Ask
@@ -56,6 +58,7 @@ returns-in-Ask c =
           (ask_answers w m _ _ _ _ h n _ c.reply-answer.result
           (c.reply-answer.ensures (present m) w.rows (bounds_in w) (sized w m _ _ _ _ h) (holds w m _ _ _ _ h) h.setting.rows h.setting.closed_rows)));
       leaves = λ z. (ap (λ (d : Called). d.store) c.stay.ensures, refl);
+      same_loan = record { vertices = refl; edges = refl; vertices_length = refl; edges_length = refl };
     }
 
 pub returns-in-Quote : goal.returns-in-Quote
@@ -65,14 +68,16 @@ returns-in-Quote c =
           rw c.in-Quote.is
           (answered_by w n m _ _ _ _ c.stay-in-Quote.ensures (quote_answers w m _ _ _ _ h n _ c.quote-answer.result (c.quote-answer.ensures _ (present m) (holds w m _ _ _ _ h))));
       leaves = λ z. (ap (λ (d : Called). d.store) c.stay-in-Quote.ensures, refl);
+      same_loan = record { vertices = refl; edges = refl; vertices_length = refl; edges_length = refl };
     }
 
 pub returns-in-Unknown : goal.returns-in-Unknown
 returns-in-Unknown c =
     record {
       answers_near = λ w m h near. let n = c.args.capacity in
-          rw c.in-Unknown.is (answered_by w n m _ _ _ _ c.stay-in-Unknown.ensures (unknown_answers w m _ _ _ _ h n));
-      leaves = λ z. (ap (λ (d : Called). d.store) c.stay-in-Unknown.ensures, refl);
+          rw c.in-Unknown.is (answered_by w n m _ _ _ _ c.answer.ensures (unknown_answers w m _ _ _ _ h n));
+      leaves = λ z. (ap (λ (d : Called). d.store) c.answer.ensures, refl);
+      same_loan = record { vertices = refl; edges = refl; vertices_length = refl; edges_length = refl };
     }
 
 pub overflow_sub-free : goal.overflow_sub-free
