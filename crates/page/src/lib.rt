@@ -1,5 +1,6 @@
 // The page of an image (a saved chart): one row of 25 bytes for each edge.
-// Each function but print writes a text at a place of out and returns the place behind it.
+// Each function but print writes a text at a place of out and returns the place behind it: bytes and place stay two, and
+// the columns are written by hand, since each clause so is one equation of the bytes and both places.
 #![tactic(auto)]
 
 ghost use Rattle.std.specs.Prelude.{◌≡◌, ◌+◌, ◌*◌, ◌/◌, ◌≤◌, length, replicate};
