@@ -1,21 +1,29 @@
 #![tactic(auto)]
 
-// The most that a run is lent for, types among it, and how many marks and benches there are; benches have the numbers
-// from 0 on.
+ghost use Rattle.std.specs.Prelude.{◌≡◌};
+ghost use Rattle.graph.specs.Graph.{reading_kind, decimetres, reading_of};
 
+// The most that a run is lent for, types among it, and how many marks and benches there are.
+
+/// How many vertices a chart has at most.
 pub const MOST_VERTICES: u32 = 1000;
 
+/// How many edges it has at most.
 pub const MOST_EDGES: u32 = 4000;
 
+/// How many rows a journal has at most.
 pub const MOST_CHANGES: u32 = 20000;
 
+/// How many types there are at most.
 pub const MOST_TYPES: u32 = 64;
 
+/// How many marks there are.
 pub const MOST_MARKS: u32 = 64;
 
+/// How many benches there are; they have the numbers from 0 on.
 pub const MOST_BENCHES: u32 = 100;
 
-// The reading of an edge: untested, silent, or heard at some decimetres.
+/// The reading of an edge: untested, silent, or heard at some decimetres.
 #[derive(Clone, Copy, Debug, PartialEq, Eq)]
 pub enum Reading {
     Untested,
@@ -23,7 +31,44 @@ pub enum Reading {
     Heard(u32),
 }
 
-// A change of one edit, kinds 1 and 3 to 16 in their order; the words of a reading as the call has them.
+impl Reading {
+    /// The reading of a kind and decimetres that are one; each kind but 0 and 1 is taken for heard.
+    #[inline(always)]
+    pub fn from_words(kind: u32, decimetres: u32) -> Reading
+        ensures { result ≡ reading_of kind decimetres }
+    {
+        match kind {
+            0 => Reading::Untested,
+            1 => Reading::Silent,
+            _ => Reading::Heard(decimetres),
+        }
+    }
+
+    /// Its kind, as a word.
+    #[inline(always)]
+    pub fn kind(self) -> u32
+        ensures { result ≡ reading_kind self }
+    {
+        match self {
+            Reading::Untested => 0,
+            Reading::Silent => 1,
+            Reading::Heard(_) => 2,
+        }
+    }
+
+    /// Its decimetres, 0 where none were heard.
+    #[inline(always)]
+    pub fn decimetres(self) -> u32
+        ensures { result ≡ decimetres self }
+    {
+        match self {
+            Reading::Untested | Reading::Silent => 0,
+            Reading::Heard(decimetres) => decimetres,
+        }
+    }
+}
+
+/// A change of one edit, kinds 1 and 3 to 16 in their order; the words of a reading as the call has them.
 #[derive(Clone, Copy, Debug, PartialEq, Eq)]
 pub enum SingleChange {
     // number, type, value
@@ -50,14 +95,14 @@ pub enum SingleChange {
     WordAfter(u32, u32),
 }
 
-// A change of the graph, kinds 1 to 16: one edit, or, kind 2, a vertex deleted together with the edges at it.
+/// A change of the graph, kinds 1 to 16: one edit, or, kind 2, a vertex deleted together with the edges at it.
 #[derive(Clone, Copy, Debug, PartialEq, Eq)]
 pub enum Change {
     Single(SingleChange),
     DeleteVertex(u32),
 }
 
-// A reversible edit. A place is the number, or the oriented word, that stands directly before; 0 is the front.
+/// A reversible edit. A place is the number, or the oriented word, that stands directly before; 0 is the front.
 #[derive(Clone, Copy, Debug, PartialEq, Eq)]
 pub enum Edit {
     // number, type, value; after which vertex
