@@ -106,12 +106,7 @@ fn stretch_length(calls: &[u32], ample: bool) -> usize
     ensures { Together ample result calls.now }
 {
     let n = calls.len() / 6;
-    for k in 1..n {
-        if !goes_on(calls, k, ample) {
-            return k;
-        }
-    }
-    n
+    (1..n).find(|&k| !goes_on(calls, k, ample)).unwrap_or(n)
 }
 
 /// The answer to a refused call.

@@ -7,6 +7,9 @@ ghost use Rattle.store_calls.specs.Serving.{Serves, Served, slot_of, whole};
 use crate::guard::answer;
 use history_calls::Store;
 
+/// As many stores as can be open.
+pub const MOST_STORES: usize = 8;
+
 /// Whether it is the number of one of so many stores.
 fn is_store(number: u32, stores: usize) -> bool
     ensures { result ≡ within 1 stores number }
@@ -31,11 +34,11 @@ fn slot(number: u32, stores: usize) -> usize
 /// Answers each call by two words, code and number; so much room is left to all stores. Store s has the s-th part of
 /// each table, of v, e and t words; the words behind the last part stay.
 pub fn serve(
-    first: [Store; 8],
+    first: [Store; MOST_STORES],
     vertices: &mut [u32],
     edges: &mut [u32],
     journal: &mut [u32],
-    marks: &mut [[u32; marks::WORDS]; 8],
+    marks: &mut [[u32; marks::WORDS]; MOST_STORES],
     closed: &[u64; 64],
     types: u32,
     calls: &[u32],
@@ -45,7 +48,7 @@ pub fn serve(
     v: usize,
     e: usize,
     t: usize,
-) -> [Store; 8]
+) -> [Store; MOST_STORES]
     requires serves { Serves first vertices.old edges.old journal.old marks.old closed.now types stores joint v e t }
     requires calls_in_bounds { 2 * (length calls.now / 6) ≤ length answers.old }
     ensures served { Served first result (whole vertices.old edges.old journal.old marks.old)

@@ -5,6 +5,7 @@ use crate::starts::first_length;
 use engine::begin::begin;
 use graph_tables::Head;
 use history_calls::Store;
+use store_calls::serving::MOST_STORES;
 
 /// Loads the start images in turn, each into its parts of v and e words. What the parts hold besides, and the stores
 //// that are not there, are left open; the words behind the parts stay.
@@ -15,13 +16,13 @@ pub fn open_all(
     stores: usize,
     v: usize,
     e: usize,
-) -> [Store; 8]
+) -> [Store; MOST_STORES]
     requires { CanOpen start.now vertices.old edges.old stores v e }
     ensures { Opened start.now result vertices.old vertices.new edges.old
         edges.new stores v e }
 {
     let empty = Store::start(Head::default());
-    let mut all = [empty; 8];
+    let mut all = [empty; MOST_STORES];
     let mut at = 0;
     for i in 0..stores {
         let n = first_length(&start[at..]);

@@ -9,12 +9,11 @@ ghost use Rattle.stores.specs.Refusals.{number_at, lengths_in, LendsIn};
 
 use crate::starts::first_length;
 use engine::list_refusal::ListRefusal;
-use engine::refusals::{at_most, in_limits};
+use engine::refusals::in_limits;
 use image::layout::length;
 use image_check::{BadImage, check};
+use store_calls::serving::MOST_STORES;
 use type_rows::are_good;
-
-pub const MOST_STORES: u32 = 8;
 
 /// The refusal for what is bad in the start image that stands at a place: the offset is counted from the first word of
 /// all start images.
@@ -48,7 +47,7 @@ fn check_lengths(
     if answers < 2 * (calls / 6) {
         return Err(ListRefusal::ShortAnswers);
     }
-    if !at_most(MOST_STORES, stores)
+    if !(1..=MOST_STORES).contains(&stores)
         || !in_limits(
             vertices / stores / 8,
             edges / stores / 12,

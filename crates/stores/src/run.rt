@@ -11,7 +11,7 @@ use crate::opening::open_all;
 use crate::refusals::refusal;
 use crate::saving::save_all;
 use engine::run::RunResult;
-use store_calls::serving::serve;
+use store_calls::serving::{MOST_STORES, serve};
 use type_rows::closure;
 
 /// A list that is not refused. What the parts of the tables and of the journal hold afterwards is left open.
@@ -40,7 +40,7 @@ fn accepted(
     let t = journal.len() / stores;
     let n = image.len() / stores;
     let all = open_all(start, vertices, edges, stores, v, e);
-    let mut marks = [[0u32; marks::WORDS]; 8];
+    let mut marks = [[0u32; marks::WORDS]; MOST_STORES];
     let last = serve(
         all, vertices, edges, journal, &mut marks, &closed, types, calls, answers, stores, limit,
         v, e, t,

@@ -4,10 +4,11 @@ ghost use Rattle.stores.specs.Saving.{CanSaveAll, SavedAll};
 
 use history_calls::Store;
 use image_tables::save;
+use store_calls::serving::MOST_STORES;
 
 /// Writes each store's image to the front of its part of n words. Tells how many words they have together.
 pub fn save_all(
-    all: [Store; 8],
+    all: [Store; MOST_STORES],
     vertices: &[u32],
     edges: &[u32],
     image: &mut [u32],

@@ -1,25 +1,23 @@
-use Prim.Native.Nat.{ℕ}
-use mathlib.Core.Path.{◌≡◌, subst}
-use mathlib.Core.Bool.{true}
-use native.Mathlib.Omega.{arith}
-use Rattle.std.proofs.Common.{rules}
-use Rattle.lists.proofs.Picks.{same, differ, same?}
-use Rattle.store_calls.specs.Guard.{goes_on}
+use Rattle.std.proofs.Common.{◌≡◌, List, ℕ, ◌*◌, ◌≤◌, ◌<◌, length, Bool, true, rules, arith}
+use Rattle.std.specs.Prelude.{⊤, Option, None, Some}
+use Rattle.std.specs.Option.{MatchOption, unwrap_or}
+use Rattle.std.proofs.lemmas.Iterator.{first_from_Range}
+use borrow.Author.Tests.{tests}
+use Rattle.store_calls.specs.Guard.{goes_on, Together}
 use Rattle.store_calls.proofs.guard.stretch_length.Goals as goal
 
-pub loop-k-init : goal.loop-k-init
-loop-k-init c = λ j h l. absurd (omega (arith, h, l))
-
-pub returns-then-not-goes_on : goal.returns-then-not-goes_on
-returns-then-not-goes_on c = record { some = omega arith; there = omega arith; going = c.loop-k.invariant }
-
-pub loop-k-preserved : goal.loop-k-preserved
-loop-k-preserved c =
-    let k = c.loop-k.k in
-    λ j h l. elim (same? j k) [
-      | same f g ↦ subst (λ (q : ℕ). goes_on c.args.ample q c.args.calls.now ≡ true) g (search rules)
-      | differ f g ↦ c.loop-k.invariant j h (omega (arith, l, f))
-    ]
+-- as many as there are before the first that does not go on
+before : (ample : Bool) (words : List ℕ) (n : ℕ) (r : Option ℕ) → 1 ≤ n → 6 * n ≤ length words
+    → MatchOption r ((k : ℕ) → 1 ≤ k → k < n → goes_on ample k words ≡ true)
+    (λ i. (1 ≤ i) × (i < n) × ⊤ × ((k : ℕ) → 1 ≤ k → k < i → goes_on ample k words ≡ true))
+    → Together ample (unwrap_or r n) words
+before ample words n None s t h = record { some = s; there = t; going = h }
+before ample words n (Some i) s t h = record { some = h.0; there = omega (arith, h.1, t); going = h.3 }
 
 pub returns : goal.returns
-returns c = record { some = omega arith; there = omega arith; going = λ j h l. c.loop-k.invariant j h (omega (arith, l)) }
+returns c =
+    let a = c.args in
+    rw c.unwrap_or.ensures
+    (before a.ample a.calls.now _ _ (omega arith) (omega arith)
+    (first_from_Range _ _ _ _ (λ k. ⊤) (λ k. goes_on a.ample k a.calls.now ≡ true) c.find.ensures.ran (λ x q k. tt)
+    (λ x q k. (search rules, search (rules, tests)))))
