@@ -14,7 +14,7 @@ use Rattle.arrangement.specs.Orders.{outcome, refusal, written, call_words}
 use Rattle.arrangement.specs.Scratch.{taken, settled}
 use Rattle.arrangement.proofs.Turns.{words_length}
 
--- what a function that refuses tells
+-- what C is told of a refusal
 pub refused_is : (r : Arrangement) (list : List ℕ) (code : ℕ) → (r.code ≡ code) × (r.calls ≡ 0) → outcome r list ≡ refusal code list
 refused_is r list code e = λ i. record { code = e.0 i; calls = e.1 i; list = list }
 

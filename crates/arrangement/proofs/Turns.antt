@@ -2,13 +2,13 @@
 use Prim.Native.Nat.{ℕ, suc, ◌+◌, ◌-◌, ◌*◌, ◌≤◌, ◌<◌}
 use mathlib.Core.Path.{◌≡◌, refl, sym, ap, ◌∙◌}
 use mathlib.Core.Bool.{true, false}
-use mathlib.Core.List.{List, [], ◌∷◌, ◌++◌}
+use mathlib.Core.List.{List, [], ◌∷◌, ◌++◌, append_assoc}
 use native.Mathlib.Omega.{arith}
-use lib.ListN.{length, get_or, set, drop, length-append, get_or-append, drop_of_length-le}
-use lib.Seq.{sets, drop-append_seam}
+use lib.ListN.{length, get_or, set, take, drop, length-append, get_or-append, drop_of_length-le}
+use lib.Seq.{sets, sets-eq, drop-drop, drop-append_seam}
+use borrow.Rule.Slice.PartMut.{put_mid}
 use borrow.Author.Tests.{eq-eqb, ne_eqb}
 use Rattle.lists.specs.Lists.{member}
-use Rattle.lists.proofs.Stores.{sets_append}
 use Rattle.lists.proofs.WordLaws.{one_drop}
 use Rattle.graph.specs.WellFormed.{words_at}
 use Rattle.image.specs.Image.{edges_from, numbers_in}
@@ -98,20 +98,6 @@ taken_end ws s i h = ap (λ (l : List ℕ). taken l s) (drop_of_length-le ws h)
 
 -- ---- the calls
 
-pub calls_start : (kind : ℕ) (ws list : List ℕ) (b : ℕ) → b ≡ get_or ws 0 0 → sets list 0 (words_from kind b (drop 1 ws)) ≡ sets list 0 (call_words kind ws)
-calls_start kind [] list b e = refl
-calls_start kind (w ∷ ws) list b e = ap (λ (x : ℕ). sets list 0 (words_from kind x ws)) e
-
-pub calls_turn : (kind : ℕ) (ws list list' : List ℕ) (b i at x : ℕ) → i < length ws → x ≡ get_or ws i 0 → list' ≡ sets list at (kind ∷ x ∷ b ∷ 0 ∷ 0 ∷ []) →
-    sets list' (at + 5) (words_from kind x (drop (i + 1) ws)) ≡ sets list at (words_from kind b (drop i ws))
-calls_turn kind ws list list' b i at x h e f =
-    ap (λ (l : List ℕ). sets l (at + 5) (words_from kind x (drop (i + 1) ws))) f
-    ∙ sets_append list (kind ∷ x ∷ b ∷ 0 ∷ 0 ∷ []) (words_from kind x (drop (i + 1) ws)) at
-    ∙ ap (λ (l : List ℕ). sets list at (words_from kind b l)) (ap (λ (y : ℕ). y ∷ drop (i + 1) ws) e ∙ sym (one_drop ws i h))
-
-pub calls_end : (kind : ℕ) (ws list : List ℕ) (b i at : ℕ) → length ws ≤ i → sets list at (words_from kind b (drop i ws)) ≡ list
-calls_end kind ws list b i at h = ap (λ (l : List ℕ). sets list at (words_from kind b l)) (drop_of_length-le ws h)
-
 pub calls_length : (kind b : ℕ) (ws : List ℕ) → length (words_from kind b ws) ≡ 5 * length ws
 calls_length kind b [] = refl
 calls_length kind b (a ∷ ws) = omega (arith, calls_length kind a ws)
@@ -120,13 +106,12 @@ pub words_length : (kind : ℕ) (ws : List ℕ) → length (call_words kind ws) 
 words_length kind [] = refl
 words_length kind (w ∷ ws) = omega (arith, calls_length kind w ws)
 
-pub five_stores : (l : List ℕ) (at k a b : ℕ) → set (set (set (set (set l at k) (at + 1) a) (at + 2) b) (at + 3) 0) (at + 4) 0 ≡ sets l at (k ∷ a ∷ b ∷ 0 ∷ 0 ∷ [])
-five_stores l at k a b =
-    let p : at + 1 ≡ suc at = omega arith in
-    let q : at + 2 ≡ suc (suc at) = omega arith in
-    let r : at + 3 ≡ suc (suc (suc at)) = omega arith in
-    let s : at + 4 ≡ suc (suc (suc (suc at))) = omega arith in
-    λ i. set (set (set (set (set l at k) (p i) a) (q i) b) (r i) 0) (s i) 0
+-- a text in a part of a list, by `copy_from_slice`
+pub copied : (l text : List ℕ) (at k : ℕ) → at + length text ≤ length l → k ≡ length text → put_mid at k l text ≡ sets l at text
+copied l text at k h f =
+    rw f
+    (ap (λ (t : List ℕ). take at l ++ (text ++ t)) (drop-drop (length text) at l)
+    ∙ sym (append_assoc (take at l) text (drop (at + length text) l)) ∙ sym (sets-eq text l at h))
 
 -- ---- one end
 

@@ -1,14 +1,18 @@
 -- Any order of an image's vertices, of its edges or of one vertex's list: the calls that make it, and the three
 -- results for all words.
-use Rattle.std.specs.Prelude.{ℕ, ◌*◌, ◌-◌, not, List, [], ◌∷◌, length, ltb, ◌==◌}
+use Rattle.std.specs.Prelude.{ℕ, ◌*◌, ◌-◌, not, List, [], ◌∷◌, length, ltb, ◌==◌, Result, Ok, Err}
 use Rattle.lists.specs.Choice.{◌⇒◌else◌}
 use Rattle.lists.specs.Lists.{overwritten}
 use Rattle.graph.specs.Graph.{has_vertex, vertex_numbers, edge_numbers, list_of}
 use Rattle.graph.specs.WellFormed.{same_words}
 use Rattle.image.specs.Image.{load}
-use Rattle.image_check.specs.Checks.{saved_bounds, load_code}
+use Rattle.image_check.specs.Checks.{saved_bounds, load_code, bad_code}
 use Rattle.commands.specs.Calls.{Call, five}
 use Rattle.arrangement.specs.declared.Arrangement.{Arrangement}
+use Rattle.arrangement.specs.declared.Kind.{Kind}
+use Rattle.arrangement.specs.declared.Kind.TheVariants.{Vertex, Edge, Word}
+use Rattle.arrangement.specs.declared.NotArranged.{NotArranged}
+use Rattle.arrangement.specs.declared.NotArranged.TheVariants.{Image, NoVertex, OtherItems, Short}
 
 -- ---- the calls: the second wanted item goes behind the first, the third behind the second, and so on
 
@@ -78,3 +82,21 @@ unfolding arrangement
 word_order ws v wanted list =
     loaded_then ws list
     (has_vertex (load ws) v ⇒ arrangement 16 (list_of (load ws) v) wanted list else refusal 4 list)
+
+-- ---- for the code
+
+abbrev pub kind_number : Kind → ℕ
+kind_number Vertex = 12
+kind_number Edge = 14
+kind_number Word = 16
+
+abbrev pub not_arranged_code : NotArranged → ℕ
+not_arranged_code (Image bad) = bad_code bad
+not_arranged_code NoVertex = 4
+not_arranged_code OtherItems = 111
+not_arranged_code Short = 112
+
+-- what C is told of it
+abbrev pub told : Result ℕ NotArranged → Arrangement
+told (Ok calls) = record { code = 0; calls = calls }
+told (Err refusal) = record { code = not_arranged_code refusal; calls = 0 }

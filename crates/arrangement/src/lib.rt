@@ -7,15 +7,52 @@ ghost use Rattle.lists.specs.Lists.{member};
 ghost use Rattle.graph.specs.WellFormed.{words_at};
 ghost use Rattle.image.specs.Image.{numbers_in, edges_from};
 ghost use Rattle.arrangement.specs.Orders.{call_words, outcome, vertex_order, edge_order, word_order};
+ghost use Rattle.arrangement.specs.Orders.{kind_number, not_arranged_code, told};
+ghost use Rattle.arrangement.specs.declared.NotArranged.TheVariants.{Image};
 ghost use Rattle.arrangement.specs.Scratch.{marked, seen_from, taken, settled};
 
 use graph::MOST_EDGES;
+use image::by_name::Part;
 use image::layout::{EDGE, record_size};
-use image::part;
-use image_check::check_saved;
+use image_check::{BadImage, check_saved};
 use lists::get;
 
-/// A code, and how many calls were written: with a code none.
+/// Why there are no calls for an order.
+#[derive(Clone, Copy, Debug, PartialEq, Eq)]
+pub enum NotArranged {
+    /// The words do not load.
+    Image(BadImage),
+    /// There is no vertex of that number.
+    NoVertex,
+    /// Those wanted are not the items, each once.
+    OtherItems,
+    /// The list is too short for the calls.
+    Short,
+}
+
+impl NotArranged {
+    /// The code of the words that do not load, or 4, 111, 112.
+    pub fn code(self) -> u32
+        ensures { result ≡ not_arranged_code self }
+    {
+        match self {
+            NotArranged::Image(bad) => bad.code(),
+            NotArranged::NoVertex => 4,
+            NotArranged::OtherItems => 111,
+            NotArranged::Short => 112,
+        }
+    }
+}
+
+impl From<BadImage> for NotArranged {
+    ghost from_gives = { λ cause not. not ≡ Image cause };
+
+    fn from(cause: BadImage) -> NotArranged {
+        NotArranged::Image(cause)
+    }
+}
+
+/// What C is told: a code, and how many calls were written; with a code none.
 #[repr(C)]
 #[derive(Clone, Copy, Debug, PartialEq, Eq)]
 pub struct Arrangement {
@@ -23,14 +60,38 @@ pub struct Arrangement {
     pub calls: usize,
 }
 
+impl From<Result<usize, NotArranged>> for Arrangement {
+    ghost from_gives = { λ came answer. answer ≡ told came };
+
+    fn from(came: Result<usize, NotArranged>) -> Arrangement {
+        match came {
+            Ok(calls) => Arrangement { code: 0, calls },
+            Err(refusal) => Arrangement {
+                code: refusal.code(),
+                calls: 0,
+            },
+        }
+    }
+}
+
+/// The calls that put an item directly behind another, by what is put.
+#[derive(Clone, Copy, Debug, PartialEq, Eq)]
+enum Kind {
+    Vertex = 12,
+    Edge = 14,
+    Word = 16,
+}
+
+impl Kind {
+    fn number(self) -> u32
+        ensures { result ≡ kind_number self }
+    {
+        self as u32
+    }
+}
+
 // Scratch with a byte for each number and each oriented word: the stack stays below that of a run.
 const ITEMS: usize = 2 * (MOST_EDGES as usize + 1);
-
-fn refused(code: u32) -> Arrangement
-    ensures { (result.code ≡ code) × (result.calls ≡ 0) }
-{
-    Arrangement { code, calls: 0 }
-}
 
 /// The byte at a place; past the end it is 0.
 fn look(items: &[u8], i: usize) -> u8
@@ -120,75 +181,66 @@ fn take_off(wanted: &[u32], items: &mut [u8]) -> bool
 }
 
 /// One call: a is put directly after b.
-fn write_call(list: &mut [u32], at: usize, kind: u32, a: u32, b: u32)
+fn write_call(list: &mut [u32], at: usize, kind: Kind, a: u32, b: u32)
     requires { at + 5 ≤ length list.old }
-    ensures { list.new ≡ sets list.old at (kind ∷ a ∷ b ∷ 0 ∷ 0 ∷ []) }
+    ensures { list.new ≡ sets list.old at (kind_number kind ∷ a ∷ b ∷ 0 ∷ 0 ∷ []) }
 {
-    list[at] = kind;
-    list[at + 1] = a;
-    list[at + 2] = b;
-    list[at + 3] = 0;
-    list[at + 4] = 0;
+    list[at..at + 5].copy_from_slice(&[kind.number(), a, b, 0, 0]);
 }
 
 /// A call for each wanted word but the first.
-fn write_calls(kind: u32, wanted: &[u32], list: &mut [u32])
+fn write_calls(kind: Kind, wanted: &[u32], list: &mut [u32])
     requires { 5 * (length wanted.now - 1) ≤ length list.old }
-    ensures { list.new ≡ sets list.old 0 (call_words kind wanted.now) }
+    ensures { list.new ≡ sets list.old 0 (call_words (kind_number kind) wanted.now) }
 {
-    let mut before = get(wanted, 0);
-    let mut i = 1;
-    let mut at = 0;
-    while i < wanted.len() {
-        let next = get(wanted, i);
-        write_call(list, at, kind, next, before);
+    let Some((&first, behind)) = wanted.split_first() else {
+        return;
+    };
+    let mut before = first;
+    for (k, &next) in behind.iter().enumerate() {
+        write_call(list, 5 * k, kind, next, before);
         before = next;
-        at += 5;
-        i += 1;
     }
 }
 
-/// The order of so many items, which are marked.
+/// The order of so many items, which are marked: how many calls it takes.
 fn settle(
-    kind: u32,
+    kind: Kind,
     wanted: &[u32],
     count: usize,
     items: &mut [u8],
     list: &mut [u32],
-) -> Arrangement
+) -> Result<usize, NotArranged>
     requires { count < 2 ^ 61 }
-    ensures { outcome result list.new
-        ≡ settled kind wanted.now count items.old list.old }
+    ensures { outcome (told result) list.new
+        ≡ settled (kind_number kind) wanted.now count items.old list.old }
 {
-    if wanted.len() != count {
-        return refused(111);
-    }
-    if !take_off(wanted, items) {
-        return refused(111);
+    if wanted.len() != count || !take_off(wanted, items) {
+        return Err(NotArranged::OtherItems);
     }
     let calls = count.saturating_sub(1);
     if list.len() < 5 * calls {
-        return refused(112);
+        return Err(NotArranged::Short);
     }
     write_calls(kind, wanted, list);
-    Arrangement { code: 0, calls }
+    Ok(calls)
 }
 
 // ---- the three
 
 /// Items that are the numbers of records.
 fn order_numbers(
-    kind: u32,
+    kind: Kind,
     part: &[u32],
     size: usize,
     count: u32,
     wanted: &[u32],
     items: &mut [u8],
     list: &mut [u32],
-) -> Arrangement
+) -> Result<usize, NotArranged>
     requires size { 3 ≤ size }
     requires whole { size * count ≡ length part.now }
-    ensures { outcome result list.new ≡ settled kind wanted.now count
+    ensures { outcome (told result) list.new ≡ settled (kind_number kind) wanted.now count
         (marked (numbers_in size count part.now) items.old) list.old }
 {
     mark_numbers(part, size, items);
@@ -202,28 +254,30 @@ fn order_words(
     wanted: &[u32],
     items: &mut [u8],
     list: &mut [u32],
-) -> Arrangement
-    ensures { (count : ℕ) → 6 * count ≡ length part.now → outcome result list.new ≡ settled 16 wanted.now
+) -> Result<usize, NotArranged>
+    ensures { (count : ℕ) → 6 * count ≡ length part.now → outcome (told result) list.new ≡ settled 16 wanted.now
         (length (words_at (edges_from count part.now) vertex))
         (marked (words_at (edges_from count part.now) vertex) items.old) list.old }
 {
     let found = mark_words(part, vertex, items);
-    settle(16, wanted, found, items, list)
+    settle(Kind::Word, wanted, found, items, list)
 }
 
-/// Vseq in the order wanted, by calls of kind 12: 105, 108 or 109 where the words do not load; 111 where those wanted
-/// are not the vertices each once; 112 where the list is too short. With a code no call is told and nothing written.
-pub fn arrange_vertices(words: &[u32], wanted: &[u32], list: &mut [u32]) -> Arrangement
-    ensures { outcome result list.new
+/// Vseq in the order wanted, by calls of kind 12 at the front of list: how many. Words that do not load are refused
+/// first, then those wanted that are not the vertices each once, then a list that is too short. A refusal writes nothing.
+pub fn arrange_vertices(
+    words: &[u32],
+    wanted: &[u32],
+    list: &mut [u32],
+) -> Result<usize, NotArranged>
+    ensures { outcome (told result) list.new
         ≡ vertex_order words.now wanted.now list.old }
 {
-    if let Err(bad) = check_saved(words) {
-        return refused(bad.code());
-    }
+    check_saved(words)?;
     let mut items = [0u8; ITEMS];
     order_numbers(
-        12,
-        part(words, 1),
+        Kind::Vertex,
+        Part::Vertices.within(words),
         record_size(words),
         get(words, 0),
         wanted,
@@ -233,17 +287,15 @@ pub fn arrange_vertices(words: &[u32], wanted: &[u32], list: &mut [u32]) -> Arra
 }
 
 /// Eseq, by calls of kind 14.
-pub fn arrange_edges(words: &[u32], wanted: &[u32], list: &mut [u32]) -> Arrangement
-    ensures { outcome result list.new
+pub fn arrange_edges(words: &[u32], wanted: &[u32], list: &mut [u32]) -> Result<usize, NotArranged>
+    ensures { outcome (told result) list.new
         ≡ edge_order words.now wanted.now list.old }
 {
-    if let Err(bad) = check_saved(words) {
-        return refused(bad.code());
-    }
+    check_saved(words)?;
     let mut items = [0u8; ITEMS];
     order_numbers(
-        14,
-        part(words, 2),
+        Kind::Edge,
+        Part::Edges.within(words),
         EDGE,
         get(words, 1),
         wanted,
@@ -252,17 +304,20 @@ pub fn arrange_edges(words: &[u32], wanted: &[u32], list: &mut [u32]) -> Arrange
     )
 }
 
-/// The list of a vertex, by calls of kind 16; 4 where the vertex is missing, before 111.
-pub fn arrange_words(words: &[u32], vertex: u32, wanted: &[u32], list: &mut [u32]) -> Arrangement
-    ensures { outcome result list.new
+/// The list of a vertex, by calls of kind 16. A vertex that is missing is refused before those wanted.
+pub fn arrange_words(
+    words: &[u32],
+    vertex: u32,
+    wanted: &[u32],
+    list: &mut [u32],
+) -> Result<usize, NotArranged>
+    ensures { outcome (told result) list.new
         ≡ word_order words.now vertex wanted.now list.old }
 {
-    if let Err(bad) = check_saved(words) {
-        return refused(bad.code());
-    }
-    if !has_number(part(words, 1), record_size(words), vertex) {
-        return refused(4);
+    check_saved(words)?;
+    if !has_number(Part::Vertices.within(words), record_size(words), vertex) {
+        return Err(NotArranged::NoVertex);
     }
     let mut items = [0u8; ITEMS];
-    order_words(part(words, 2), vertex, wanted, &mut items, list)
+    order_words(Part::Edges.within(words), vertex, wanted, &mut items, list)
 }

@@ -1,4 +1,4 @@
--- Codes from tests.
+-- When words are a reading.
 use Rattle.std.specs.Prelude.{◌==◌}
 use Prim.Native.Nat.{ℕ, ◌≤◌, ◌<◌}
 use mathlib.Core.Path.{◌≡◌, refl}
@@ -6,20 +6,7 @@ use mathlib.Core.Bool.{Bool, true, false, ◌||◌}
 use native.Mathlib.Omega.{arith}
 use lib.Dec.{leb}
 use borrow.Author.Tests.{le-leb, lt-leb, eq-eqb, ne_eqb}
-use Rattle.lists.specs.Choice.{within}
 use Rattle.graph.specs.Graph.{is_reading}
-use Rattle.lists.proofs.Bools.{and_false}
-
-pub below_range : (capacity n : ℕ) → n ≡ 0 → within 1 capacity n ≡ false
-below_range capacity n e = rw (lt-leb 1 n (omega arith))
-
-pub above_range : (capacity n : ℕ) → capacity < n → within 1 capacity n ≡ false
-above_range capacity n h = rw (lt-leb n capacity h) (and_false (leb 1 n))
-
-pub inside_range : (capacity n : ℕ) → (n ≡ 0 → ⊥) → n ≤ capacity → within 1 capacity n ≡ true
-inside_range capacity n d h = rw (le-leb 1 n (omega arith), le-leb n capacity h)
-
--- ---- readings
 
 pub near_reading : (k d : ℕ) → k ≤ 1 → is_reading k d ≡ (d == 0)
 near_reading k d h = rw (le-leb k 1 h, ne_eqb k 2 (omega arith)) (go (d == 0))

@@ -1,7 +1,7 @@
 -- The codes of the words are the codes of the graph that they hold.
 use Rattle.std.specs.Prelude.{◌==◌}
 use Prim.Native.Nat.{ℕ, ◌-◌, ◌*◌, ◌/◌, ◌≤◌}
-use mathlib.Core.Path.{◌≡◌, refl, sym, ap, ◌∙◌}
+use mathlib.Core.Path.{◌≡◌, refl, ap, ◌∙◌}
 use mathlib.Core.Bool.{Bool, true, false, not, ◌||◌}
 use mathlib.Core.List.{List}
 use native.Mathlib.Omega.{arith}
@@ -10,24 +10,14 @@ use lib.ListN.{length}
 use borrow.Author.Tests.{eq-eqb, ne_eqb}
 use Rattle.lists.specs.Choice.{◌⇒◌else◌, within}
 use Rattle.graph.specs.Graph.{Graph, has_vertex, has_edge, edge_of, this}
+use Rattle.graph_tables.specs.declared.Lookup.{Lookup}
 use Rattle.graph_tables.specs.declared.Lookup.TheVariants.{Found, Missing}
-use Rattle.graph_tables.specs.Tables.{lookup_vertex, lookup_edge, vertex_code, edge_code, wthis}
+use Rattle.graph_tables.specs.Tables.{lookup_vertex, lookup_edge, vertex_code, edge_code, wthis, HalfRowIn}
 use Rattle.machine.specs.Codes.{lacks_vertex, lacks_edge}
 use Rattle.graph_tables.specs.Holds.{HoldsV, HoldsE, HoldsVE}
 use Rattle.machine.specs.Rules.{first_code}
 use Rattle.change_codes.specs.Refusals.{number_code, used_code, type_code, vertices_code, edges_code, words_code}
 use Rattle.graph_tables.proofs.LookedUp.{vertex_looked, edge_looked, word_in}
-
--- an equation, and what it means in every graph that is held
-pub with_meaning : {r x : ℕ} {H : Graph → Type 0} {y : Graph → ℕ} → r ≡ x → ((g : Graph) → H g → x ≡ y g) → (r ≡ x) × ((g : Graph) → H g → r ≡ y g)
-with_meaning e f = (e, λ g h. e ∙ f g h)
-
--- the first of two codes: it applies; it does not, and the second decides
-pub first_fails : (c x y : ℕ) → c ≡ x → (c ≡ 0 → ⊥) → c ≡ first_code x y
-first_fails c x y e n = rw (ne_eqb x 0 (λ z. n (e ∙ z))) e
-
-pub first_passes : {c d : ℕ} (x y : ℕ) → c ≡ x → c ≡ 0 → d ≡ y → d ≡ first_code x y
-first_passes x y e z h = rw (eq-eqb x 0 (sym e ∙ z)) h
 
 -- a code, and then the rest
 pub then_code : (s : Bool) (k c d e : ℕ) → 1 ≤ k → c ≡ (s ⇒ k else 0) → d ≡ e → first_code c d ≡ (s ⇒ k else e)
@@ -94,6 +84,15 @@ module _ (edges : List ℕ) (g : Graph) (h : HoldsE edges g) where
       go true true i j = rw (edge_means (edge_of a), edge_means (edge_of b), i, j, seen a i, seen b j)
       go true false i j = rw (edge_means (edge_of a), edge_means (edge_of b), i, j)
       go false t i j = rw (edge_means (edge_of a), i)
+
+-- two words of edges that are named have their halves in the table
+pub words_in : (edges : List ℕ) (x y : ℕ) → 0 ≡ edges_code edges (x / 2) (y / 2) → HalfRowIn edges x × HalfRowIn edges y
+words_in edges x y = go (lookup_edge edges (x / 2)) (lookup_edge edges (y / 2)) refl refl
+  where
+    go : (e f : Lookup) → e ≡ lookup_edge edges (x / 2) → f ≡ lookup_edge edges (y / 2) → 0 ≡ first_code (edge_code e) (edge_code f) → HalfRowIn edges x × HalfRowIn edges y
+    go (Found i) (Found j) s t z = (word_in edges x (Found i) i s refl, word_in edges y (Found j) j t refl)
+    go (Found i) Missing s t z = omega (arith, z)
+    go Missing f s t z = omega (arith, z)
 
 -- ---- the kinds
 

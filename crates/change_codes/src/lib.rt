@@ -1,5 +1,7 @@
-// Codes 2 to 9 of a change, read off the tables: the lowest that applies, 0 where none does. Kind 2 has its code 4 in
+// Codes 2 to 9 of a change, read off the tables: the lowest that applies is why it is refused. Kind 2 has its code 4 in
 // vertex_deletion. Each contract says the code of any words, and then that it is the code of the graph that they hold.
+// What asks for vertices and what asks for edges stay apart: they differ in look-up, refusal and what a graph says of
+// them, and one function over a trait of these would be no shorter than two of two lines.
 #![tactic(auto)]
 
 ghost use Rattle.std.specs.Prelude.{◌≡◌, not, ◌||◌, ◌/◌, leb, length, ◌==◌};
@@ -9,250 +11,236 @@ ghost use Rattle.graph.specs.Graph as chart;
 ghost use Rattle.graph_tables.specs.Tables.{lookup_vertex, lookup_edge, vertex_code, edge_code};
 ghost use Rattle.machine.specs.Codes.{lacks_vertex, lacks_edge};
 ghost use Rattle.machine.specs.Rules.{first_code};
+ghost use Rattle.commands.specs.Refusals.{refusal_code, code_if_refused};
 ghost use Rattle.graph_tables.specs.Holds.{HoldsV, HoldsE, HoldsVE};
 ghost use Rattle.change_codes.specs.Refusals.{number_code, used_code, type_code, reading_code, twice_code};
 ghost use Rattle.change_codes.specs.Refusals.{vertices_code, edges_code, words_code};
 
-use graph_tables::Lookup;
-use graph_tables::fields::HALF_THIS;
-use graph_tables::lookups::{find_edge, find_vertex, find_word};
-use graph_tables::rows::half_field;
+use commands::refusal::Refusal;
+use graph_tables::fields::{EDGE_WORDS, HALF_THIS, VERTEX_WORDS};
+use graph_tables::{Lookup, Tables};
 
-// Code 4: a vertex that is named; kind 7 has no other.
-pub fn vertex_code(vertices: &[u32], v: u32) -> u32
-    ensures value { result ≡ vertex_code (lookup_vertex vertices.now v) }
-    ensures value_2 { (g : Graph) → HoldsV vertices.now g → result ≡ (lacks_vertex g v ⇒ 4 else 0) }
+// Refused with this, where it applies.
+#[inline(always)]
+fn refuse_if(applies: bool, refusal: Refusal) -> Result<(), Refusal>
+    ensures { code_if_refused result ≡ (applies ⇒ refusal_code refusal else 0) }
 {
-    let f = find_vertex(vertices, v);
-    let Lookup::Found(_) = f else {
-        return 4;
-    };
-    0
+    if applies { Err(refusal) } else { Ok(()) }
 }
 
-// Code 5: an edge that is named; kind 4 has no other.
-pub fn edge_code(edges: &[u32], e: u32) -> u32
-    ensures value { result ≡ edge_code (lookup_edge edges.now e) }
-    ensures value_2 { (g : Graph) → HoldsE edges.now g → result ≡ (lacks_edge g e ⇒ 5 else 0) }
+/// Code 4: a vertex that is named; kind 7 has no other.
+#[inline(always)]
+pub fn check_vertex(tables: &Tables<'_>, v: u32) -> Result<(), Refusal>
+    ensures value { code_if_refused result ≡ vertex_code (lookup_vertex tables.now.vertices.now v) }
+    ensures of_graph { (g : Graph) → HoldsV tables.now.vertices.now g
+        → code_if_refused result ≡ (lacks_vertex g v ⇒ 4 else 0) }
 {
-    let f = find_edge(edges, e);
-    let Lookup::Found(_) = f else {
-        return 5;
+    let Lookup::Found(_) = tables.find_vertex(v) else {
+        return Err(Refusal::NoVertex);
     };
-    0
+    Ok(())
+}
+
+/// Code 5: an edge that is named; kind 4 has no other.
+#[inline(always)]
+pub fn check_edge(tables: &Tables<'_>, e: u32) -> Result<(), Refusal>
+    ensures value { code_if_refused result ≡ edge_code (lookup_edge tables.now.edges.now e) }
+    ensures of_graph { (g : Graph) → HoldsE tables.now.edges.now g
+        → code_if_refused result ≡ (lacks_edge g e ⇒ 5 else 0) }
+{
+    let Lookup::Found(_) = tables.find_edge(e) else {
+        return Err(Refusal::NoEdge);
+    };
+    Ok(())
+}
+
+// Code 4: two vertices that are named.
+#[inline(always)]
+fn check_vertices(tables: &Tables<'_>, x: u32, y: u32) -> Result<(), Refusal>
+    ensures { code_if_refused result ≡ vertices_code tables.now.vertices.now x y }
+{
+    check_vertex(tables, x)?;
+    check_vertex(tables, y)
+}
+
+// Code 5: two edges that are named.
+#[inline(always)]
+fn check_edges(tables: &Tables<'_>, x: u32, y: u32) -> Result<(), Refusal>
+    ensures { code_if_refused result ≡ edges_code tables.now.edges.now x y }
+{
+    check_edge(tables, x)?;
+    check_edge(tables, y)
 }
 
 // Code 6: a type that is named.
-fn type_code(types: u32, t: u32) -> u32
-    ensures { result ≡ type_code types t }
+#[inline(always)]
+fn check_type(types: u32, t: u32) -> Result<(), Refusal>
+    ensures { code_if_refused result ≡ type_code types t }
 {
-    if types <= t {
-        return 6;
-    }
-    0
+    refuse_if(types <= t, Refusal::NoType)
 }
 
 // Code 2: a number that is made, of a capacity.
-fn number_code(capacity: usize, n: u32) -> u32
-    ensures { result ≡ number_code capacity n }
+#[inline(always)]
+fn check_number(capacity: usize, n: u32) -> Result<(), Refusal>
+    ensures { code_if_refused result ≡ number_code capacity n }
 {
-    if n == 0 {
-        return 2;
-    }
-    if capacity < n as usize {
-        return 2;
-    }
-    0
+    refuse_if(n == 0 || capacity < n as usize, Refusal::NumberOutside)
 }
 
 // Code 7: kind and decimetres of a reading.
-fn reading_code(k: u32, d: u32) -> u32
-    ensures { result ≡ reading_code k d }
+#[inline(always)]
+fn check_reading(k: u32, d: u32) -> Result<(), Refusal>
+    ensures { code_if_refused result ≡ reading_code k d }
 {
-    if k <= 1 {
-        if d == 0 {
-            return 0;
-        }
-        return 7;
-    }
-    if k == 2 {
-        if d <= 9999 {
-            return 0;
-        }
-        return 7;
-    }
-    7
+    refuse_if(
+        !matches!((k, d), (0 | 1, 0) | (2, 0..=9999)),
+        Refusal::NoReading,
+    )
 }
 
 // Code 9: the same twice.
-fn twice_code(a: u32, b: u32) -> u32
-    ensures { result ≡ twice_code a b }
+#[inline(always)]
+fn check_distinct(a: u32, b: u32) -> Result<(), Refusal>
+    ensures { code_if_refused result ≡ twice_code a b }
 {
-    if a == b {
-        return 9;
-    }
-    0
+    refuse_if(a == b, Refusal::SameTwice)
 }
 
-// Kind 1: codes 2, 3, 6.
-pub fn create_vertex(vertices: &[u32], types: u32, n: u32, t: u32) -> u32
-    ensures value { result ≡ first_code (number_code (length vertices.now / 8) n)
-        (first_code (used_code (lookup_vertex vertices.now n)) (type_code types t)) }
-    ensures value_2 { (g : Graph) → HoldsV vertices.now g
-        → result ≡ (not (within 1 (length vertices.now / 8) n) ⇒ 2 else has_vertex g n ⇒ 3 else leb types t ⇒ 6
-        else 0) }
+/// Kind 1: codes 2, 3, 6.
+#[inline(always)]
+pub fn create_vertex(tables: &Tables<'_>, types: u32, n: u32, t: u32) -> Result<(), Refusal>
+    ensures value { code_if_refused result
+        ≡ first_code (number_code (length tables.now.vertices.now / 8) n)
+        (first_code (used_code (lookup_vertex tables.now.vertices.now n)) (type_code types t)) }
+    ensures of_graph { (g : Graph) → HoldsV tables.now.vertices.now g → code_if_refused result
+        ≡ (not (within 1 (length tables.now.vertices.now / 8) n) ⇒ 2 else has_vertex g n ⇒ 3 else
+        leb types t ⇒ 6 else 0) }
 {
-    let code = number_code(vertices.len() / 8, n);
-    if code != 0 {
-        return code;
-    }
-    let f = find_vertex(vertices, n);
-    let Lookup::Missing = f else {
-        return 3;
+    check_number(tables.vertices.len() / VERTEX_WORDS, n)?;
+    let Lookup::Missing = tables.find_vertex(n) else {
+        return Err(Refusal::NumberInUse);
     };
-    type_code(types, t)
+    check_type(types, t)
 }
 
-// Kind 3: codes 2, 3, 4, 6.
+/// Kind 3: codes 2, 3, 4, 6.
+#[inline(always)]
 pub fn create_edge(
-    vertices: &[u32],
-    edges: &[u32],
+    tables: &Tables<'_>,
     types: u32,
     n: u32,
     x: u32,
     y: u32,
     t: u32,
-) -> u32
-    ensures value { result ≡ first_code (number_code (length edges.now / 12) n)
-        (first_code (used_code (lookup_edge edges.now n))
-        (first_code (vertices_code vertices.now x y) (type_code types t))) }
-    ensures value_2 { (g : Graph) → HoldsVE vertices.now edges.now g
-        → result ≡ (not (within 1 (length edges.now / 12) n) ⇒ 2 else has_edge g n ⇒ 3 else
+) -> Result<(), Refusal>
+    ensures value { code_if_refused result
+        ≡ first_code (number_code (length tables.now.edges.now / 12) n)
+        (first_code (used_code (lookup_edge tables.now.edges.now n))
+        (first_code (vertices_code tables.now.vertices.now x y) (type_code types t))) }
+    ensures of_graph { (g : Graph) → HoldsVE tables.now.vertices.now tables.now.edges.now g
+        → code_if_refused result
+        ≡ (not (within 1 (length tables.now.edges.now / 12) n) ⇒ 2 else has_edge g n ⇒ 3 else
         (lacks_vertex g x || lacks_vertex g y) ⇒ 4 else leb types t ⇒ 6 else 0) }
 {
-    let code = number_code(edges.len() / 12, n);
-    if code != 0 {
-        return code;
-    }
-    let f = find_edge(edges, n);
-    let Lookup::Missing = f else {
-        return 3;
+    check_number(tables.edges.len() / EDGE_WORDS, n)?;
+    let Lookup::Missing = tables.find_edge(n) else {
+        return Err(Refusal::NumberInUse);
     };
-    let from = find_vertex(vertices, x);
-    let Lookup::Found(_) = from else {
-        return 4;
-    };
-    let to = find_vertex(vertices, y);
-    let Lookup::Found(_) = to else {
-        return 4;
-    };
-    type_code(types, t)
+    check_vertices(tables, x, y)?;
+    check_type(types, t)
 }
 
-// Kind 5: codes 4, 6.
-pub fn retype_vertex(vertices: &[u32], types: u32, n: u32, t: u32) -> u32
-    ensures value { result ≡ first_code (vertex_code (lookup_vertex vertices.now n)) (type_code types t) }
-    ensures value_2 { (g : Graph) → HoldsV vertices.now g
-        → result ≡ (lacks_vertex g n ⇒ 4 else leb types t ⇒ 6 else 0) }
+/// Kind 5: codes 4, 6.
+#[inline(always)]
+#[tactic(auto, using(crate::proofs::Meanings::vertex_then))]
+pub fn retype_vertex(tables: &Tables<'_>, types: u32, n: u32, t: u32) -> Result<(), Refusal>
+    ensures value { code_if_refused result
+        ≡ first_code (vertex_code (lookup_vertex tables.now.vertices.now n)) (type_code types t) }
+    ensures of_graph { (g : Graph) → HoldsV tables.now.vertices.now g
+        → code_if_refused result ≡ (lacks_vertex g n ⇒ 4 else leb types t ⇒ 6 else 0) }
 {
-    let f = find_vertex(vertices, n);
-    let Lookup::Found(_) = f else {
-        return 4;
-    };
-    type_code(types, t)
+    check_vertex(tables, n)?;
+    check_type(types, t)
 }
 
-// Kind 6: codes 5, 6.
-pub fn retype_edge(edges: &[u32], types: u32, n: u32, t: u32) -> u32
-    ensures value { result ≡ first_code (edge_code (lookup_edge edges.now n)) (type_code types t) }
-    ensures value_2 { (g : Graph) → HoldsE edges.now g
-        → result ≡ (lacks_edge g n ⇒ 5 else leb types t ⇒ 6 else 0) }
+/// Kind 6: codes 5, 6.
+#[inline(always)]
+#[tactic(auto, using(crate::proofs::Meanings::edge_then))]
+pub fn retype_edge(tables: &Tables<'_>, types: u32, n: u32, t: u32) -> Result<(), Refusal>
+    ensures value { code_if_refused result
+        ≡ first_code (edge_code (lookup_edge tables.now.edges.now n)) (type_code types t) }
+    ensures of_graph { (g : Graph) → HoldsE tables.now.edges.now g
+        → code_if_refused result ≡ (lacks_edge g n ⇒ 5 else leb types t ⇒ 6 else 0) }
 {
-    let f = find_edge(edges, n);
-    let Lookup::Found(_) = f else {
-        return 5;
-    };
-    type_code(types, t)
+    check_edge(tables, n)?;
+    check_type(types, t)
 }
 
-// Kind 8: codes 5, 7.
-pub fn set_reading(edges: &[u32], n: u32, k: u32, d: u32) -> u32
-    ensures value { result ≡ first_code (edge_code (lookup_edge edges.now n)) (reading_code k d) }
-    ensures value_2 { (g : Graph) → HoldsE edges.now g
-        → result ≡ (lacks_edge g n ⇒ 5 else not (is_reading k d) ⇒ 7 else 0) }
+/// Kind 8: codes 5, 7.
+#[inline(always)]
+#[tactic(auto, using(crate::proofs::Meanings::edge_then))]
+pub fn set_reading(tables: &Tables<'_>, n: u32, k: u32, d: u32) -> Result<(), Refusal>
+    ensures value { code_if_refused result
+        ≡ first_code (edge_code (lookup_edge tables.now.edges.now n)) (reading_code k d) }
+    ensures of_graph { (g : Graph) → HoldsE tables.now.edges.now g
+        → code_if_refused result ≡ (lacks_edge g n ⇒ 5 else not (is_reading k d) ⇒ 7 else 0) }
 {
-    let f = find_edge(edges, n);
-    let Lookup::Found(_) = f else {
-        return 5;
-    };
-    reading_code(k, d)
+    check_edge(tables, n)?;
+    check_reading(k, d)
 }
 
-// Kinds 9 and 10: codes 4, 5.
-pub fn set_end(vertices: &[u32], edges: &[u32], n: u32, v: u32) -> u32
-    ensures value { result ≡ first_code (vertex_code (lookup_vertex vertices.now v))
-        (edge_code (lookup_edge edges.now n)) }
-    ensures value_2 { (g : Graph) → HoldsVE vertices.now edges.now g
-        → result ≡ (lacks_vertex g v ⇒ 4 else lacks_edge g n ⇒ 5 else 0) }
+/// Kinds 9 and 10: codes 4, 5.
+#[inline(always)]
+#[tactic(auto, using(crate::proofs::Meanings::set_end_means))]
+pub fn set_end(tables: &Tables<'_>, n: u32, v: u32) -> Result<(), Refusal>
+    ensures value { code_if_refused result
+        ≡ first_code (vertex_code (lookup_vertex tables.now.vertices.now v))
+        (edge_code (lookup_edge tables.now.edges.now n)) }
+    ensures of_graph { (g : Graph) → HoldsVE tables.now.vertices.now tables.now.edges.now g
+        → code_if_refused result ≡ (lacks_vertex g v ⇒ 4 else lacks_edge g n ⇒ 5 else 0) }
 {
-    let f = find_vertex(vertices, v);
-    let Lookup::Found(_) = f else {
-        return 4;
-    };
-    edge_code(edges, n)
+    check_vertex(tables, v)?;
+    check_edge(tables, n)
 }
 
-// Kinds 11 and 12: codes 4, 9.
-pub fn order_vertices(vertices: &[u32], x: u32, y: u32) -> u32
-    ensures value { result ≡ first_code (vertices_code vertices.now x y) (twice_code x y) }
-    ensures value_2 { (g : Graph) → HoldsV vertices.now g
-        → result ≡ ((lacks_vertex g x || lacks_vertex g y) ⇒ 4 else (x == y) ⇒ 9 else 0) }
+/// Kinds 11 and 12: codes 4, 9.
+#[inline(always)]
+pub fn order_vertices(tables: &Tables<'_>, x: u32, y: u32) -> Result<(), Refusal>
+    ensures value { code_if_refused result
+        ≡ first_code (vertices_code tables.now.vertices.now x y) (twice_code x y) }
+    ensures of_graph { (g : Graph) → HoldsV tables.now.vertices.now g → code_if_refused result
+        ≡ ((lacks_vertex g x || lacks_vertex g y) ⇒ 4 else (x == y) ⇒ 9 else 0) }
 {
-    let f = find_vertex(vertices, x);
-    let Lookup::Found(_) = f else {
-        return 4;
-    };
-    let h = find_vertex(vertices, y);
-    let Lookup::Found(_) = h else {
-        return 4;
-    };
-    twice_code(x, y)
+    check_vertices(tables, x, y)?;
+    check_distinct(x, y)
 }
 
-// Kinds 13 and 14: codes 5, 9.
-pub fn order_edges(edges: &[u32], x: u32, y: u32) -> u32
-    ensures value { result ≡ first_code (edges_code edges.now x y) (twice_code x y) }
-    ensures value_2 { (g : Graph) → HoldsE edges.now g
-        → result ≡ ((lacks_edge g x || lacks_edge g y) ⇒ 5 else (x == y) ⇒ 9 else 0) }
+/// Kinds 13 and 14: codes 5, 9.
+#[inline(always)]
+pub fn order_edges(tables: &Tables<'_>, x: u32, y: u32) -> Result<(), Refusal>
+    ensures value { code_if_refused result
+        ≡ first_code (edges_code tables.now.edges.now x y) (twice_code x y) }
+    ensures of_graph { (g : Graph) → HoldsE tables.now.edges.now g → code_if_refused result
+        ≡ ((lacks_edge g x || lacks_edge g y) ⇒ 5 else (x == y) ⇒ 9 else 0) }
 {
-    let f = find_edge(edges, x);
-    let Lookup::Found(_) = f else {
-        return 5;
-    };
-    let h = find_edge(edges, y);
-    let Lookup::Found(_) = h else {
-        return 5;
-    };
-    twice_code(x, y)
+    check_edges(tables, x, y)?;
+    check_distinct(x, y)
 }
 
-// Kinds 15 and 16: codes 5, 8, 9.
-pub fn order_words(edges: &[u32], x: u32, y: u32) -> u32
-    ensures value { result ≡ first_code (words_code edges.now x y) (twice_code x y) }
-    ensures value_2 { (g : Graph) → HoldsE edges.now g
-        → result ≡ ((lacks_edge g (edge_of x) || lacks_edge g (edge_of y)) ⇒ 5 else not (chart.this g x == chart.this g y) ⇒ 8
-        else (x == y) ⇒ 9 else 0) }
+/// Kinds 15 and 16: codes 5, 8, 9.
+#[inline(always)]
+pub fn order_words(tables: &Tables<'_>, x: u32, y: u32) -> Result<(), Refusal>
+    ensures value { code_if_refused result
+        ≡ first_code (words_code tables.now.edges.now x y) (twice_code x y) }
+    ensures of_graph { (g : Graph) → HoldsE tables.now.edges.now g → code_if_refused result
+        ≡ ((lacks_edge g (edge_of x) || lacks_edge g (edge_of y)) ⇒ 5 else
+        not (chart.this g x == chart.this g y) ⇒ 8 else (x == y) ⇒ 9 else 0) }
 {
-    let f = find_word(edges, x);
-    let Lookup::Found(_) = f else {
-        return 5;
-    };
-    let h = find_word(edges, y);
-    let Lookup::Found(_) = h else {
-        return 5;
-    };
-    if half_field(edges, x, HALF_THIS) != half_field(edges, y, HALF_THIS) {
-        return 8;
-    }
-    twice_code(x, y)
+    check_edges(tables, x / 2, y / 2)?;
+    refuse_if(
+        tables.half_field(x, HALF_THIS) != tables.half_field(y, HALF_THIS),
+        Refusal::OtherList,
+    )?;
+    check_distinct(x, y)
 }

@@ -3,3 +3,4 @@ pub mod Turns
 pub mod Notes
 pub mod Outcomes
 pub mod Examples
+pub mod Mapped

@@ -1,14 +1,17 @@
 -- Two images of one path, compared (REFERENCE 17): how many edges they share, of how many of those the readings agree,
 -- and how many only one of them has. For all words, also such as do not load.
-use Rattle.std.specs.Prelude.{ℕ, ◌+◌, ◌-◌, Bool, true, false, not, ◌&&◌, List, leb, ◌==◌}
+use Rattle.std.specs.Prelude.{ℕ, ◌+◌, ◌-◌, Bool, true, false, not, ◌&&◌, List, leb, ◌==◌, Result, Ok, Err}
 use Rattle.lists.specs.Choice.{◌⇒◌else◌, to_bit}
 use Rattle.lists.specs.Lists.{any, sum_of}
 use Rattle.graph.specs.Graph.{Edge}
 use Rattle.graph.specs.declared.Reading.{Reading}
 use Rattle.graph.specs.declared.Reading.TheVariants.{Untested, Silent, Heard}
 use Rattle.image.specs.Image.{load}
-use Rattle.image_check.specs.Checks.{saved_bounds, load_code}
+use Rattle.image_check.specs.Checks.{saved_bounds, load_code, bad_code}
 use Rattle.comparison.specs.declared.Compared.{Compared}
+use Rattle.comparison.specs.declared.Counts.{Counts}
+use Rattle.comparison.specs.declared.NotCompared.{NotCompared}
+use Rattle.comparison.specs.declared.NotCompared.TheVariants.{First, Second}
 
 -- ---- one edge beside another
 
@@ -72,3 +75,20 @@ comparison first second tolerance =
     not (load_code saved_bounds first == 0) ⇒ refused (load_code saved_bounds first)
     else not (load_code saved_bounds second == 0) ⇒ refused 110
     else compared tolerance (load first).eseq (load second).eseq
+
+-- ---- for the code
+
+abbrev pub not_compared_code : NotCompared → ℕ
+not_compared_code (First bad) = bad_code bad
+not_compared_code Second = 110
+
+-- what C is told of it
+abbrev pub told : Result Counts NotCompared → Compared
+told (Ok counts) = record {
+  code = 0;
+  matched = counts.matched;
+  agreeing = counts.agreeing;
+  first = counts.first;
+  second = counts.second;
+}
+told (Err refusal) = refused (not_compared_code refusal)

@@ -4,18 +4,51 @@
 
 ghost use Rattle.std.specs.Prelude.{◌≡◌, ◌≤◌, ◌*◌, ◌^◌, ℕ, length};
 ghost use Rattle.graph.specs.Limits.{most_edges};
-ghost use Rattle.comparison.specs.Comparison.{matches, agrees, alike, refused, comparison};
+ghost use Rattle.comparison.specs.Comparison.{matches, agrees, alike, comparison, not_compared_code, told};
 ghost use Rattle.comparison.specs.Walks.{edge_at, noted, places_of, paired_from};
 
 use graph::{MOST_EDGES, Reading};
-use graph_tables::rows::reading_of;
+use image::by_name::Part;
 use image::layout::EDGE;
-use image::part;
-use image_check::check_saved;
+use image_check::{BadImage, check_saved};
 use lists::get;
 use lists::words::put;
 
-/// A code and four counts; with a code all four are 0.
+/// What two images have in common, in edges.
+#[derive(Clone, Copy, Debug, PartialEq, Eq)]
+pub struct Counts {
+    /// Edges that both have, with the same ends.
+    pub matched: u32,
+    /// Those of them whose readings agree.
+    pub agreeing: u32,
+    /// Edges that only the first has.
+    pub first: u32,
+    /// Edges that only the second has.
+    pub second: u32,
+}
+
+/// Why two images are not compared.
+#[derive(Clone, Copy, Debug, PartialEq, Eq)]
+pub enum NotCompared {
+    /// The first does not load.
+    First(BadImage),
+    /// The second does not load, and the first does.
+    Second,
+}
+
+impl NotCompared {
+    /// The code of the first image that does not load, or 110.
+    pub fn code(self) -> u32
+        ensures { result ≡ not_compared_code self }
+    {
+        match self {
+            NotCompared::First(bad) => bad.code(),
+            NotCompared::Second => 110,
+        }
+    }
+}
+
+/// What C is told: a code and four counts; with a code all four are 0.
 #[repr(C)]
 #[derive(Clone, Copy, Debug, PartialEq, Eq)]
 pub struct Compared {
@@ -28,16 +61,39 @@ pub struct Compared {
     pub second: u32,
 }
 
+impl From<Result<Counts, NotCompared>> for Compared {
+    ghost from_gives = { λ came answer. answer ≡ told came };
+
+    fn from(came: Result<Counts, NotCompared>) -> Compared {
+        match came {
+            Ok(counts) => Compared {
+                code: 0,
+                matched: counts.matched,
+                agreeing: counts.agreeing,
+                first: counts.first,
+                second: counts.second,
+            },
+            Err(refusal) => Compared {
+                code: refusal.code(),
+                matched: 0,
+                agreeing: 0,
+                first: 0,
+                second: 0,
+            },
+        }
+    }
+}
+
 // Scratch: a word for each edge number from 0 on.
 const PLACES: usize = MOST_EDGES as usize + 1;
 
 /// Whether an edge record and the one at j have one number and the same ends.
-fn is_match(record: &[u32], b: &[u32], j: usize) -> bool
-    requires six { length record.now ≡ 6 }
+fn is_match(edge: &[u32], b: &[u32], j: usize) -> bool
+    requires six { length edge.now ≡ 6 }
     requires near { j ≤ 2 ^ 40 }
-    ensures { result ≡ matches (edge_at record.now 0) (edge_at b.now j) }
+    ensures { result ≡ matches (edge_at edge.now 0) (edge_at b.now j) }
 {
-    record[0] == get(b, j) && record[1] == get(b, j + 1) && record[2] == get(b, j + 2)
+    edge[0] == get(b, j) && edge[1] == get(b, j + 1) && edge[2] == get(b, j + 2)
 }
 
 /// Whether two readings agree: both heard and at most the tolerance apart, or neither heard and of one kind.
@@ -46,9 +102,7 @@ fn agree(tolerance: u32, x: Reading, y: Reading) -> bool
 {
     match (x, y) {
         (Reading::Heard(d), Reading::Heard(e)) => d.abs_diff(e) <= tolerance,
-        (Reading::Untested, Reading::Untested) => true,
-        (Reading::Silent, Reading::Silent) => true,
-        _ => false,
+        _ => x == y,
     }
 }
 
@@ -57,16 +111,16 @@ fn reading_at(words: &[u32], at: usize) -> Reading
     requires { at ≤ 2 ^ 40 }
     ensures { result ≡ (edge_at words.now at).reading }
 {
-    reading_of(get(words, at + 4), get(words, at + 5))
+    Reading::from_words(get(words, at + 4), get(words, at + 5))
 }
 
 /// Whether they match and their readings agree.
-fn is_alike(record: &[u32], b: &[u32], j: usize, tolerance: u32) -> bool
-    requires six { length record.now ≡ 6 }
+fn is_alike(edge: &[u32], b: &[u32], j: usize, tolerance: u32) -> bool
+    requires six { length edge.now ≡ 6 }
     requires near { j ≤ 2 ^ 40 }
-    ensures { result ≡ alike tolerance (edge_at record.now 0) (edge_at b.now j) }
+    ensures { result ≡ alike tolerance (edge_at edge.now 0) (edge_at b.now j) }
 {
-    is_match(record, b, j) && agree(tolerance, reading_at(record, 0), reading_at(b, j))
+    is_match(edge, b, j) && agree(tolerance, reading_at(edge, 0), reading_at(b, j))
 }
 
 /// Notes under the number of each record which record it is, from 0.
@@ -86,7 +140,7 @@ struct Tally {
 }
 
 /// Each record of a beside the one of b that is noted for its number.
-fn counts(a: &[u32], b: &[u32], places: &[u32], tolerance: u32) -> Tally
+fn counted(a: &[u32], b: &[u32], places: &[u32], tolerance: u32) -> Tally
     requires { length a.now ≤ 6 * most_edges }
     ensures matched { (count : ℕ) → 6 * count ≡ length a.now
         → result.matched ≡ paired_from matches places.now b.now count a.now }
@@ -114,41 +168,24 @@ fn walked(a: &[u32], b: &[u32], tolerance: u32) -> Tally
 {
     let mut places = [0u32; PLACES];
     note(b, &mut places);
-    counts(a, b, &places, tolerance)
+    counted(a, b, &places, tolerance)
 }
 
-/// A code, and nothing counted.
-fn refused(code: u32) -> Compared
-    ensures { result ≡ refused code }
+/// Two images, held against each other. The first that does not load is refused.
+pub fn compare(first: &[u32], second: &[u32], tolerance: u32) -> Result<Counts, NotCompared>
+    ensures { told result ≡ comparison first.now second.now tolerance }
 {
-    Compared {
-        code,
-        matched: 0,
-        agreeing: 0,
-        first: 0,
-        second: 0,
-    }
-}
-
-/// Two images, held against each other: 105, 108 or 109 where the first does not load; only then 110, where the second
-/// does not.
-pub fn compare(first: &[u32], second: &[u32], tolerance: u32) -> Compared
-    ensures { result ≡ comparison first.now second.now tolerance }
-{
-    if let Err(bad) = check_saved(first) {
-        return refused(bad.code());
-    }
-    if check_saved(second).is_err() {
-        return refused(110);
-    }
-    let m = get(first, 1);
-    let n = get(second, 1);
-    let c = walked(part(first, 2), part(second, 2), tolerance);
-    Compared {
-        code: 0,
+    check_saved(first).map_err(NotCompared::First)?;
+    check_saved(second).or(Err(NotCompared::Second))?;
+    let c = walked(
+        Part::Edges.within(first),
+        Part::Edges.within(second),
+        tolerance,
+    );
+    Ok(Counts {
         matched: c.matched,
         agreeing: c.agreeing,
-        first: m - c.matched,
-        second: n - c.matched,
-    }
+        first: get(first, 1) - c.matched,
+        second: get(second, 1) - c.matched,
+    })
 }

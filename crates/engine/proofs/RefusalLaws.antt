@@ -12,14 +12,50 @@ use Rattle.lists.specs.Choice.{◌⇒◌else◌, within}
 use Rattle.lists.proofs.Bools.{and_true, within_range}
 use Rattle.type_rows.specs.Rows.{good_rows}
 use Rattle.image.specs.Image.{image_length}
-use Rattle.image_check.specs.Checks.{bounds, verdict, code_of, offset_of, load_offset}
+use Rattle.image_check.specs.Checks.{bounds, verdict, bad_code, bad_offset, code_of, offset_of, load_offset}
 use Rattle.machine.specs.Calls.{bounds_in}
 use Rattle.machine.specs.Run.{Lent, parameters_of, list_refusal, number_beside, list_number}
 use Rattle.machine.proofs.ListRows.{start_rows}
-use Rattle.engine.specs.Refusals.{in_limits, lengths_code, Lends}
+use Rattle.engine.specs.Refusals.{list_code, list_offset, of_image, in_limits, lengths_code, Lends}
 use Rattle.std.specs.Prelude.{Ok, Err}
+use Rattle.image_check.specs.declared.BadImage.{BadImage}
 use Rattle.image_check.specs.declared.BadImage.TheVariants.{Header, Record, Incidence}
+use Rattle.engine.specs.declared.list_refusal.ListRefusal.{ListRefusal}
+use Rattle.engine.specs.declared.list_refusal.ListRefusal.TheVariants.{
+  BadCalls,
+  ShortAnswers,
+  BadCapacity,
+  BadRows,
+  BadStart,
+  ShortImage,
+  BadRecord,
+  BadIncidence,
+  ShortCopies,
+  BadList,
+  NoFailure,
+}
 use Rattle.image_check.specs.Checks.{Verdict}
+
+-- ---- codes
+
+pub code_positive : (r : ListRefusal) → list_code r ≡ 0 → ⊥
+code_positive BadCalls e = omega (arith, e)
+code_positive ShortAnswers e = omega (arith, e)
+code_positive BadCapacity e = omega (arith, e)
+code_positive BadRows e = omega (arith, e)
+code_positive BadStart e = omega (arith, e)
+code_positive ShortImage e = omega (arith, e)
+code_positive (BadRecord offset) e = omega (arith, e)
+code_positive (BadIncidence offset) e = omega (arith, e)
+code_positive ShortCopies e = omega (arith, e)
+code_positive BadList e = omega (arith, e)
+code_positive NoFailure e = omega (arith, e)
+
+-- what is told of a bad start image
+pub of_image_tells : (bad : BadImage) → (list_code (of_image bad) ≡ bad_code bad) × (list_offset (of_image bad) ≡ bad_offset bad)
+of_image_tells Header = (refl, refl)
+of_image_tells (Record offset) = (refl, refl)
+of_image_tells (Incidence offset) = (refl, refl)
 
 -- ---- three tests first
 

@@ -1,8 +1,67 @@
 -- The refusals of a list, from the start's words, the type rows and the lengths of all that is lent.
-use Rattle.std.specs.Prelude.{ℕ, ◌*◌, ◌/◌, ◌%◌, ◌≡◌, Bool, not, ◌&&◌, List, ltb, length, ◌==◌}
+use Rattle.std.specs.Prelude.{ℕ, ◌*◌, ◌/◌, ◌%◌, ◌≡◌, Bool, not, ◌&&◌, List, ltb, length, ◌==◌, ⊤, Result, Ok, Err}
 use Rattle.lists.specs.Choice.{◌⇒◌else◌, within}
 use Rattle.graph.specs.Limits.{most_vertices, most_edges, most_changes}
 use Rattle.machine.specs.Run.{Lent}
+use Rattle.image_check.specs.declared.BadImage.{BadImage}
+use Rattle.image_check.specs.declared.BadImage.TheVariants.{Header, Record, Incidence}
+use Rattle.engine.specs.declared.list_refusal.ListRefusal.{ListRefusal}
+use Rattle.engine.specs.declared.list_refusal.ListRefusal.TheVariants.{
+  BadCalls,
+  ShortAnswers,
+  BadCapacity,
+  BadRows,
+  BadStart,
+  ShortImage,
+  BadRecord,
+  BadIncidence,
+  ShortCopies,
+  BadList,
+  NoFailure,
+}
+
+-- REFERENCE 8
+abbrev pub list_code : ListRefusal → ℕ
+list_code BadCalls = 101
+list_code ShortAnswers = 102
+list_code BadCapacity = 103
+list_code BadRows = 104
+list_code BadStart = 105
+list_code ShortImage = 106
+list_code (BadRecord offset) = 108
+list_code (BadIncidence offset) = 109
+list_code ShortCopies = 113
+list_code BadList = 114
+list_code NoFailure = 115
+
+-- the number beside the code: the offset of the first bad word, else 0
+abbrev pub list_offset : ListRefusal → ℕ
+list_offset BadCalls = 0
+list_offset ShortAnswers = 0
+list_offset BadCapacity = 0
+list_offset BadRows = 0
+list_offset BadStart = 0
+list_offset ShortImage = 0
+list_offset (BadRecord offset) = offset
+list_offset (BadIncidence offset) = offset
+list_offset ShortCopies = 0
+list_offset BadList = 0
+list_offset NoFailure = 0
+
+-- of what is tried: 0 where it is not refused
+abbrev pub code_if_refused : Result ⊤ ListRefusal → ℕ
+code_if_refused (Ok _) = 0
+code_if_refused (Err r) = list_code r
+
+abbrev pub number_if_refused : Result ⊤ ListRefusal → ℕ
+number_if_refused (Ok _) = 0
+number_if_refused (Err r) = list_offset r
+
+-- a start image that is bad
+abbrev pub of_image : BadImage → ListRefusal
+of_image Header = BadStart
+of_image (Record offset) = BadRecord offset
+of_image (Incidence offset) = BadIncidence offset
 
 -- REFERENCE 12.1
 abbrev pub in_limits : ℕ → ℕ → ℕ → Bool

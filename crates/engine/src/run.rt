@@ -2,26 +2,41 @@
 ghost use Rattle.std.specs.Prelude.{◌≡◌};
 ghost use Rattle.machine.specs.Demands.{Demand2};
 ghost use Rattle.machine.specs.Run.{list_refusal, accepted as accepted_of, run as run_of};
-ghost use Rattle.engine.specs.Outcomes.{lent, run_result, Untouched, MeetsDemand1, MeetsDemand3};
+ghost use Rattle.engine.specs.Outcomes.{lent, run_result, refused_result, Untouched, MeetsDemand1, MeetsDemand3};
 ghost use Rattle.lists.specs.Slices.{slice};
 
 use crate::begin::begin;
 use crate::calls::each;
+use crate::list_refusal::ListRefusal;
 use crate::refusals::refusal;
 use image_tables::save;
 use type_rows::closure;
 
-// The code of the list, the calls done, the words of the end image. Of a refused list `done` is the number beside its
-// code. The layout is that of include/futtockfig.h.
+/// What a run returns. The layout is that of include/futtockfig.h.
 #[repr(C)]
 #[derive(Clone, Copy, Debug, PartialEq, Eq)]
 pub struct RunResult {
+    /// 0, or why the list is refused.
     pub code: u32,
+    /// How many calls were done; of a refused list the number beside its code.
     pub done: usize,
+    /// How many words the end image has; of a refused list 0.
     pub words: usize,
 }
 
-// A list that is not refused. What the tables and the journal hold afterwards is left open.
+impl From<ListRefusal> for RunResult {
+    ghost from_gives = { λ r result. result ≡ refused_result r };
+
+    fn from(refusal: ListRefusal) -> RunResult {
+        RunResult {
+            code: refusal.code(),
+            done: refusal.number(),
+            words: 0,
+        }
+    }
+}
+
+/// A list that is not refused. What the tables and the journal hold afterwards is left open.
 fn accepted(
     start: &[u32],
     rows: &[u64],
@@ -39,12 +54,12 @@ fn accepted(
 {
     let closed = closure(rows);
     let types = rows.len() as u32;
-    let x = begin(start, vertices, edges);
+    let begun = begin(start, vertices, edges);
     let mut marks = [0u32; marks::WORDS];
-    let y = each(
-        x, vertices, edges, journal, &mut marks, &closed, types, calls, answers,
+    let after = each(
+        begun, vertices, edges, journal, &mut marks, &closed, types, calls, answers,
     );
-    let last = y.current.head;
+    let last = after.current.head;
     let words = save(last, vertices, edges, image);
     RunResult {
         code: 0,
@@ -53,9 +68,9 @@ fn accepted(
     }
 }
 
-// The result, the answers and the end image are those of the specification's run of the lent words, whatever they are.
-// A refused list writes nowhere. After an accepted one, what the tables and the journal hold is left open. The demands
-// hold of the result: 1 and 2 of every one, 3 (the way back) of an accepted one.
+/// The result, the answers and the end image are those of the specification's run of the lent words, whatever they are.
+/// A refused list writes nowhere. After an accepted one, what the tables and the journal hold is left open. The demands
+/// hold of the result: 1 and 2 of every one, 3 (the way back) of an accepted one.
 pub fn run(
     start: &[u32],
     rows: &[u64],
@@ -79,7 +94,7 @@ pub fn run(
     ensures meets_demand3 { MeetsDemand3 (lent start.now rows.now calls.now vertices.old edges.old journal.old answers.old image.old)
         (run_result result answers.new image.new) }
 {
-    let refused = refusal(
+    if let Err(refused) = refusal(
         start,
         rows,
         calls.len(),
@@ -88,13 +103,8 @@ pub fn run(
         journal.len(),
         answers.len(),
         image.len(),
-    );
-    if refused.code != 0 {
-        return RunResult {
-            code: refused.code,
-            done: refused.number as usize,
-            words: 0,
-        };
+    ) {
+        return RunResult::from(refused);
     }
     accepted(start, rows, calls, vertices, edges, journal, answers, image)
 }

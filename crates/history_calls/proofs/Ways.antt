@@ -23,10 +23,10 @@ use Rattle.graph_tables.specs.Tables.{state}
 use Rattle.timeline.specs.JournalRows.{shifted, Reach}
 use Rattle.timeline.specs.Steps.{Journal}
 use Rattle.history_calls.specs.declared.Store.{Store}
-use Rattle.history_calls.specs.declared.Way.{Way}
+use Rattle.history_calls.specs.Outcomes.{Way}
 use Rattle.history_calls.specs.Memory.{Memory, memory}
 use Rattle.history_calls.specs.Represents.{Represents, Follows}
-use Rattle.history_calls.specs.Outcomes.{done, Leads, nowhere, way_of}
+use Rattle.history_calls.specs.Outcomes.{done, Leads, way_of}
 use Rattle.history_calls.proofs.Calls.{code_is, mark_place, mark_inside, moved_to_lem}
 use Rattle.history_calls.proofs.Following.{refused, accepted}
 
@@ -49,22 +49,6 @@ leads_by (NameMark a d e) n1 n2 n3 n4 n5 n6 n7 n8 n9 = n7 a d e refl
 leads_by (GoToName a d) n1 n2 n3 n4 n5 n6 n7 n8 n9 = tt
 leads_by (SetBench a) n1 n2 n3 n4 n5 n6 n7 n8 n9 = n8 a refl
 leads_by (MadeBy a d e) n1 n2 n3 n4 n5 n6 n7 n8 n9 = n9 a d e refl
-
-pub no_way : (x : Store) (places : List ℕ) (c : HistoryCall) → (c ≡ Undo → ⊥) → (c ≡ Redo → ⊥)
-    → ((a : ℕ) → c ≡ GoTo a → ⊥) → ((a d : ℕ) → c ≡ GoToName a d → ⊥) → nowhere ≡ way_of x places c
-no_way x places (SetMark a) n1 n2 n3 n4 = refl
-no_way x places (DropMark a) n1 n2 n3 n4 = refl
-no_way x places Undo n1 n2 n3 n4 = absurd (n1 refl)
-no_way x places Redo n1 n2 n3 n4 = absurd (n2 refl)
-no_way x places (GoTo a) n1 n2 n3 n4 = absurd (n3 a refl)
-no_way x places Commit n1 n2 n3 n4 = refl
-no_way x places (Between a d) n1 n2 n3 n4 = refl
-no_way x places Standing n1 n2 n3 n4 = refl
-no_way x places Free n1 n2 n3 n4 = refl
-no_way x places (NameMark a d e) n1 n2 n3 n4 = refl
-no_way x places (GoToName a d) n1 n2 n3 n4 = absurd (n4 a d refl)
-no_way x places (SetBench a) n1 n2 n3 n4 = refl
-no_way x places (MadeBy a d e) n1 n2 n3 n4 = refl
 
 -- ---- numbers
 
@@ -110,7 +94,7 @@ module _ (b : Bounds) (x : Store) (mem : Memory) (m : Machine) (h : Represents b
   inside = omega (arith, h.journal.place, h.journal.steps, h.journal.inside)
 
   -- to a mark that stands
-  module _ (a : ℕ) (z : standing_code x.set a ≡ 0) where
+  module _ (a : ℕ) (z : standing_code x.set.bits a ≡ 0) where
     abbrev p : ℕ
     p = x.current.position.place
 
@@ -157,12 +141,12 @@ module _ (b : Bounds) (x : Store) (mem : Memory) (m : Machine) (h : Represents b
   led (SetBench a) l = absurd l
   led (MadeBy a d e) l = absurd l
   led (GoToName a d) l =
-      let k = holder_in x.set mem.marks 0 (name a d) in
-      let e = holder_same m x.set mem.marks 0 (name a d) h.marks h.names in
+      let k = holder_in x.set.bits mem.marks 0 (name a d) in
+      let e = holder_same m x.set.bits mem.marks 0 (name a d) h.marks h.names in
       record {
         coded = ap (λ (j : ℕ). (j == 0) ⇒ 19 else 0) e;
-        reach = λ z. to_reach k (holder_stands x.set mem.marks (name a d) (found k z));
-        deeds = λ z. ap (λ (j : ℕ). going_to j m) (sym e) ∙ to_deeds k (holder_stands x.set mem.marks (name a d) (found k z));
+        reach = λ z. to_reach k (holder_stands x.set.bits mem.marks (name a d) (found k z));
+        deeds = λ z. ap (λ (j : ℕ). going_to j m) (sym e) ∙ to_deeds k (holder_stands x.set.bits mem.marks (name a d) (found k z));
       }
 
   module _ (c : HistoryCall) (l : Leads c) (w : Way) (e : w ≡ way_of x mem.marks c) where

@@ -14,7 +14,7 @@ use Rattle.history_calls.specs.Memory.{Memory, tables_of}
 -- the store x and the lent words stand for the machine m
 pub record Represents (b : Bounds) (x : Store) (mem : Memory) (m : Machine) : Type 0 where
   pub journal : Journal b x.current.position (tables_of x mem) mem.journal m.line
-  pub marks : Marked m.marks x.set mem.marks
+  pub marks : Marked m.marks x.set.bits mem.marks
   pub inside : (k q : ℕ) → m.marks k ≡ at q → q ≤ length m.line.steps
   pub names : Named m.marks m.names mem.marks
   pub bench : x.bench ≡ m.bench

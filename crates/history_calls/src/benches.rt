@@ -3,42 +3,35 @@ ghost use Rattle.std.specs.Prelude.{◌≡◌, ℕ, List};
 ghost use Rattle.graph.specs.Graph.{Graph};
 ghost use Rattle.history.specs.Machine.{Step, steps_between, made_by};
 ghost use Rattle.timeline.specs.Steps.{Behind};
+ghost use Rattle.commands.specs.Refusals.{code_if_refused};
 ghost use Rattle.history_calls.specs.Memory.{memory};
 ghost use Rattle.history_calls.specs.Represents.{Stands, Performs};
-ghost use Rattle.history_calls.specs.Outcomes.{bench_code, bench_set, made_code};
+ghost use Rattle.history_calls.specs.Outcomes.{called, stored, bench_code, bench_set, made_code};
 
-use crate::{Called, Store, stay};
-use commands::{Answer, HistoryCall};
+use crate::Store;
+use commands::HistoryCall;
+use commands::refusal::Refusal;
 use graph::MOST_BENCHES;
-use marks::codes::{both_code, standing_code};
+use marks::{MarkSet, place_of};
 
-// Code 20 or 0.
-fn bench_code(bench: u32) -> u32
-    ensures { result ≡ bench_code bench }
+// It must be a bench.
+#[inline(always)]
+fn check_bench(bench: u32) -> Result<(), Refusal>
+    ensures { code_if_refused result ≡ bench_code bench }
 {
     if MOST_BENCHES <= bench {
-        return 20;
+        return Err(Refusal::NoBench);
     }
-    0
+    Ok(())
 }
 
-// Kind 58: later steps are made by this bench.
-pub fn set_bench(store: Store, bench: u32) -> Called
-    ensures { result ≡ bench_set store bench }
+// Of kind 59: two marks that stand, and a bench.
+#[inline(always)]
+fn check_made(set: MarkSet, a: u32, b: u32, bench: u32) -> Result<(), Refusal>
+    ensures { code_if_refused result ≡ made_code set.bits a b bench }
 {
-    let current = store.current;
-    let code = bench_code(bench);
-    if code != 0 {
-        return stay(store, code, 0);
-    }
-    Called {
-        store: Store {
-            current,
-            set: store.set,
-            bench,
-        },
-        answer: Answer { code: 0, number: 0 },
-    }
+    set.check_both(a, b)?;
+    check_bench(bench)
 }
 
 // The steps that a bench made between two places, in either order.
@@ -49,38 +42,46 @@ fn made_between(journal: &[u32], p: u32, q: u32, bench: u32) -> u32
         → Behind journal.now g ss q v → result ≡ made_by bench (steps_between p q ss) }
 {
     if q < p {
-        return timeline::made_by(journal, q, p, bench);
+        timeline::made_by(journal, q, p, bench)
+    } else {
+        timeline::made_by(journal, p, q, bench)
     }
-    timeline::made_by(journal, p, q, bench)
 }
 
-// Code 11, 13, 20 or 0 of kind 59.
-fn made_code(set: u64, a: u32, b: u32, bench: u32) -> u32
-    ensures { result ≡ made_code set a b bench }
-{
-    let c = standing_code(set, a);
-    let d = standing_code(set, b);
-    let code = both_code(c, d);
-    if code != 0 {
-        return code;
+impl Store {
+    /// Kind 58: later steps are made by this bench.
+    ///
+    /// # Errors
+    /// `NoBench` where there is none of this number.
+    #[inline(always)]
+    pub fn set_bench(self, bench: u32) -> Result<Store, Refusal>
+        ensures { stored self result ≡ bench_set self bench }
+    {
+        check_bench(bench)?;
+        Ok(Store { bench, ..self })
     }
-    bench_code(bench)
-}
 
-// Kind 59: of the steps that lie between two marks, how many a bench made.
-pub fn made_by(store: Store, journal: &[u32], marks: &[u32], a: u32, b: u32, bench: u32) -> Called
-    requires { (vertices edges : List ℕ) × Stands store (memory vertices edges journal.now marks.now) }
-    ensures by_index { (vertices edges : List ℕ) → (free : ℕ) → Performs (HistoryCall.MadeBy a b bench) free store
-        (memory vertices edges journal.now marks.now) result
-        (memory vertices edges journal.now marks.now) }
-    ensures store_value { result.store ≡ store }
-{
-    let code = made_code(store.set, a, b, bench);
-    if code != 0 {
-        return stay(store, code, 0);
+    /// Kind 59: of the steps that lie between two marks, how many a bench made.
+    ///
+    /// # Errors
+    /// `NoMark`, `MarkGone` where one of the marks is none, or does not stand; `NoBench`.
+    #[inline(always)]
+    pub fn made_by(
+        self,
+        journal: &[u32],
+        marks: &[u32],
+        a: u32,
+        b: u32,
+        bench: u32,
+    ) -> Result<u32, Refusal>
+        requires { (vertices edges : List ℕ) × Stands self (memory vertices edges journal.now marks.now) }
+        ensures { (vertices edges : List ℕ) → (free : ℕ) → Performs (HistoryCall.MadeBy a b bench) free self
+            (memory vertices edges journal.now marks.now) (called self result)
+            (memory vertices edges journal.now marks.now) }
+    {
+        check_made(self.set, a, b, bench)?;
+        let p = place_of(marks, a);
+        let q = place_of(marks, b);
+        Ok(made_between(journal, p, q, bench))
     }
-    let p = marks::place_of(marks, a);
-    let q = marks::place_of(marks, b);
-    let number = made_between(journal, p, q, bench);
-    stay(store, 0, number)
 }

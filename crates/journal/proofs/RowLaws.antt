@@ -1,20 +1,17 @@
 -- A row that was written is read back, and the rows before it stand.
 use Prim.Native.Nat.{ℕ, zero, suc, ◌+◌, ◌*◌, ◌≤◌, ◌<◌}
 use mathlib.Core.Path.{◌≡◌, refl, sym, ap, ◌∙◌}
-use mathlib.Core.Logic.{◌≢◌}
-use mathlib.Core.Bool.{Bool}
 use mathlib.Core.List.{List, [], ◌∷◌}
 use native.Mathlib.Omega.{arith}
-use lib.ListN.{length, get_or, set, length-set}
-use lib.Seq.{get_or-set_same, get_or-set_other}
-use borrow.Author.Tests.{ne_eqb}
+use lib.ListN.{length, get_or, set, length-set, take, drop}
+use lib.Seq.{get_or-set_same, get_or-set_other, get_or-take, get_or-drop}
 use Rattle.graph.specs.declared.Reading.{Reading}
 use Rattle.graph.specs.declared.Edit.{Edit}
 use Rattle.graph.specs.declared.Edit.TheVariants.{InsertVertex, RemoveVertex, InsertEdge, RemoveEdge, SetVertex, SetEdge, MoveVertex, MoveEdge, MoveWord}
 use Rattle.graph.specs.Graph.{reading_kind, decimetres, reading_of, IsWords}
 use Rattle.graph.proofs.Readings.{reading_back}
 use Rattle.journal.proofs.Stamps.{stamped_row, stamped_cost}
-use Rattle.journal.specs.Rows.{row_words, edit_of, edit_at, store_from, RowStep, costing, row_at, step_at, rowed, bench_at, signed, SameBelow, turned}
+use Rattle.journal.specs.Rows.{row_words, edit_of, edit_at, store_from, RowStep, costing, row_at, step_at, rowed, bench_at, signed, SameBelow}
 
 -- ---- words stored one after another
 
@@ -33,27 +30,18 @@ store_at q (x ∷ l) t (suc i) h f =
     let e : q + suc i ≡ q + 1 + i = omega arith in
     rw e (store_at (q + 1) l (set t (q + 0) x) i (omega arith) (simp length-set (omega arith)))
 
+store_next : (q : ℕ) (l t : List ℕ) (i : ℕ) → i < length l → store_from q (take (suc i) l) t ≡ set (store_from q (take i l) t) (q + i) (get_or l i 0)
+store_next q [] t i h = absurd (omega arith)
+store_next q (x ∷ l) t zero h = refl
+store_next q (x ∷ l) t (suc i) h =
+    let e : q + suc i ≡ q + 1 + i = omega arith in
+    rw e (store_next (q + 1) l (set t (q + 0) x) i (omega arith))
+
+-- one word more
+pub store_more : (q : ℕ) (l t : List ℕ) (i : ℕ) → i < length l → store_from q (take (i + 1) l) t ≡ set (store_from q (take i l) t) (q + i) (get_or l i 0)
+store_more q l t i h = let e : i + 1 ≡ suc i = omega arith in rw e (store_next q l t i h)
+
 -- ---- an edit as words, and back
-
--- as a `match` on k says it of its last arm, the last number first
-abbrev NoneOf : ℕ → List ℕ → Type 0
-NoneOf k [] = Unit {0}
-NoneOf k (n ∷ ns) = NoneOf k ns × (k ≢ n)
-
--- what is none of the first eight is the ninth
-pub ninth : (f g h i : ℕ) {k a b c d e : ℕ} → NoneOf k (8 ∷ 7 ∷ 6 ∷ 5 ∷ 4 ∷ 3 ∷ 2 ∷ 1 ∷ []) → edit_of k a b c d e f g h i ≡ MoveWord a b c d e
-unfolding edit_of
-ninth f g h i r =
-    simp (
-      ne_eqb _ _ r.1,
-      ne_eqb _ _ r.0.1,
-      ne_eqb _ _ r.0.0.1,
-      ne_eqb _ _ r.0.0.0.1,
-      ne_eqb _ _ r.0.0.0.0.1,
-      ne_eqb _ _ r.0.0.0.0.0.1,
-      ne_eqb _ _ r.0.0.0.0.0.0.1,
-      ne_eqb _ _ r.0.0.0.0.0.0.0.1,
-    )
 
 pub words_length : (e : Edit) → length (row_words e) ≡ 10
 words_length (InsertVertex n t v p) = refl
@@ -98,6 +86,10 @@ edit_at_lem t l q at =
       at 8 (omega arith),
       at 9 (omega arith),
     )
+
+-- the edit of the ten words from word q on
+pub part_edit : (t : List ℕ) (q n : ℕ) → n ≡ 10 → edit_at (take n (drop q t)) 0 ≡ edit_at t q
+part_edit t q n e = sym (edit_at_lem t (take n (drop q t)) q (λ i h. sym (get_or-take n (drop q t) i 0 (omega (arith, e, h)) ∙ get_or-drop q t i 0)))
 
 -- ---- words that agree below row u
 
@@ -174,28 +166,7 @@ module _ (u x : ℕ) (t : List ℕ) where
   unfolding signed bench_at
   signed_bench h = get_or-set_same t (12 * u + 11) x 0 (omega arith)
 
--- ---- the calls
-
-pub bench_read : (t : List ℕ) (i w c : ℕ) → c ≡ get_or t (12 * w + 11) 0 → w ≡ i → c ≡ bench_at t i
-unfolding bench_at
-bench_read t i w c a b = a ∙ ap (λ (x : ℕ). get_or t (12 * x + 11) 0) b
-
-pub bench_written : (t : List ℕ) (i w c : ℕ) → w ≡ i → set t (12 * w + 11) c ≡ signed i c t
-unfolding signed
-bench_written t i w c b = ap (λ (x : ℕ). set t (12 * x + 11) c) b
-
-pub row_read : (t : List ℕ) (i w : ℕ) (e : Edit) (back : Bool) → e ≡ turned back (edit_at t (12 * w)) → w ≡ i → e ≡ turned back (row_at t i)
-unfolding row_at
-row_read t i w e back a b = a ∙ ap (λ (x : ℕ). turned back (edit_at t (12 * x))) b
-
-pub cost_read : (t : List ℕ) (i w c : ℕ) → c ≡ get_or t (12 * w + 10) 0 → w ≡ i → c ≡ (step_at t i).cost
-unfolding step_at
-cost_read t i w c a b = a ∙ ap (λ (x : ℕ). get_or t (12 * x + 10) 0) b
-
 -- ---- a row, word by word
-
-pub words_written : (t t' : List ℕ) (i w c : ℕ) (l : List ℕ) → t' ≡ store_from (12 * w) l t → w ≡ i → set t' (12 * w + 10) c ≡ set (store_from (12 * i) l t) (12 * i + 10) c
-words_written t t' i w c l a b = ap (λ (x : List ℕ). set x (12 * w + 10) c) a ∙ ap (λ (x : ℕ). set (store_from (12 * x) l t) (12 * x + 10) c) b
 
 pub rowed_by : (i : ℕ) (e : Edit) (c : ℕ) (t t' l : List ℕ) → l ≡ row_words e → t' ≡ set (store_from (12 * i) l t) (12 * i + 10) c → t' ≡ rowed i e (costing c) t
 unfolding rowed

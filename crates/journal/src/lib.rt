@@ -9,185 +9,116 @@ ghost use Rattle.journal.specs.Rows.{edit_of, turned, edit_at, store_from, row_a
 
 use graph::Edit;
 use graph_tables::rows::reading_of;
-use lists::numbers::wide;
 
-// Five words, half of an edit.
-#[derive(Clone, Copy, Debug, PartialEq, Eq)]
-pub struct Five {
-    pub a: u32,
-    pub b: u32,
-    pub c: u32,
-    pub d: u32,
-    pub e: u32,
-}
+pub mod kinds; // which edit a row is
+pub mod room; // the room for the next row
 
-fn put_five(journal: &mut [u32], q: usize, words: Five)
-    requires { q + 5 ≤ length journal.old }
-    ensures { journal.new ≡ store_from q (words.a ∷ words.b ∷ words.c ∷ words.d ∷ words.e ∷ [])
-        journal.old }
+// The edit that ten words are, or what undoes it: one choice by the kind for both.
+#[inline(always)]
+#[tactic(auto, unfolding(crate::specs::Rows::edit_of))]
+fn decode(words: &[u32], back: bool) -> Edit
+    requires { 10 ≤ length words.now }
+    ensures { result ≡ turned back (edit_at words.now 0) }
 {
-    journal[q + 0] = words.a;
-    journal[q + 1 + 0] = words.b;
-    journal[q + 1 + 1 + 0] = words.c;
-    journal[q + 1 + 1 + 1 + 0] = words.d;
-    journal[q + 1 + 1 + 1 + 1 + 0] = words.e;
-}
-
-fn decode(k: u32, words: Five, f: u32, g: u32, h: u32, i: u32) -> Edit
-    ensures { result ≡ edit_of k words.a words.b words.c words.d words.e f g h i }
-{
-    match k {
-        1 => Edit::InsertVertex(words.a, words.b, words.c, words.d),
-        2 => Edit::RemoveVertex(words.a, words.b, words.c, words.d),
-        3 => {
-            let r = reading_of(words.e, f);
-            Edit::InsertEdge(words.a, words.b, words.c, words.d, r, g, h, i)
+    match (words[0], back) {
+        (kinds::INSERT_VERTEX, false) | (kinds::REMOVE_VERTEX, true) => {
+            Edit::InsertVertex(words[1], words[2], words[3], words[4])
         }
-        4 => {
-            let r = reading_of(words.e, f);
-            Edit::RemoveEdge(words.a, words.b, words.c, words.d, r, g, h, i)
+        (kinds::REMOVE_VERTEX, false) | (kinds::INSERT_VERTEX, true) => {
+            Edit::RemoveVertex(words[1], words[2], words[3], words[4])
         }
-        5 => Edit::SetVertex(words.a, words.b, words.c, words.d, words.e),
-        6 => {
-            let r = reading_of(words.c, words.d);
-            let s = reading_of(f, g);
-            Edit::SetEdge(words.a, words.b, r, words.e, s)
+        (kinds::INSERT_EDGE, false) | (kinds::REMOVE_EDGE, true) => {
+            let reading = reading_of(words[5], words[6]);
+            Edit::InsertEdge(
+                words[1], words[2], words[3], words[4], reading, words[7], words[8], words[9],
+            )
         }
-        7 => Edit::MoveVertex(words.a, words.b, words.c),
-        8 => Edit::MoveEdge(words.a, words.b, words.c),
-        _ => Edit::MoveWord(words.a, words.b, words.c, words.d, words.e),
+        (kinds::REMOVE_EDGE, false) | (kinds::INSERT_EDGE, true) => {
+            let reading = reading_of(words[5], words[6]);
+            Edit::RemoveEdge(
+                words[1], words[2], words[3], words[4], reading, words[7], words[8], words[9],
+            )
+        }
+        (kinds::SET_VERTEX, false) => Edit::SetVertex(
+            words[1], words[2], words[3], words[4], words[5],
+        ),
+        (kinds::SET_VERTEX, true) => Edit::SetVertex(
+            words[1], words[4], words[5], words[2], words[3],
+        ),
+        (kinds::SET_EDGE, false) => {
+            let (old, new) = (
+                reading_of(words[3], words[4]),
+                reading_of(words[6], words[7]),
+            );
+            Edit::SetEdge(words[1], words[2], old, words[5], new)
+        }
+        (kinds::SET_EDGE, true) => {
+            let (new, old) = (
+                reading_of(words[3], words[4]),
+                reading_of(words[6], words[7]),
+            );
+            Edit::SetEdge(words[1], words[5], old, words[2], new)
+        }
+        (kinds::MOVE_VERTEX, false) => Edit::MoveVertex(words[1], words[2], words[3]),
+        (kinds::MOVE_VERTEX, true) => Edit::MoveVertex(words[1], words[3], words[2]),
+        (kinds::MOVE_EDGE, false) => Edit::MoveEdge(words[1], words[2], words[3]),
+        (kinds::MOVE_EDGE, true) => Edit::MoveEdge(words[1], words[3], words[2]),
+        (_, false) => Edit::MoveWord(words[1], words[2], words[3], words[4], words[5]),
+        (_, true) => Edit::MoveWord(words[1], words[4], words[5], words[2], words[3]),
     }
 }
 
-// What undoes the edit, read off the same words: one choice by the kind instead of two.
-fn decode_back(k: u32, words: Five, f: u32, g: u32, h: u32, i: u32) -> Edit
-    ensures { result ≡ inverse (edit_of k words.a words.b words.c words.d words.e f g h i) }
-{
-    match k {
-        1 => Edit::RemoveVertex(words.a, words.b, words.c, words.d),
-        2 => Edit::InsertVertex(words.a, words.b, words.c, words.d),
-        3 => {
-            let r = reading_of(words.e, f);
-            Edit::RemoveEdge(words.a, words.b, words.c, words.d, r, g, h, i)
-        }
-        4 => {
-            let r = reading_of(words.e, f);
-            Edit::InsertEdge(words.a, words.b, words.c, words.d, r, g, h, i)
-        }
-        5 => Edit::SetVertex(words.a, words.d, words.e, words.b, words.c),
-        6 => {
-            let r = reading_of(words.c, words.d);
-            let s = reading_of(f, g);
-            Edit::SetEdge(words.a, words.e, s, words.b, r)
-        }
-        7 => Edit::MoveVertex(words.a, words.c, words.b),
-        8 => Edit::MoveEdge(words.a, words.c, words.b),
-        _ => Edit::MoveWord(words.a, words.d, words.e, words.b, words.c),
-    }
-}
-
-fn decode_turned(k: u32, words: Five, f: u32, g: u32, h: u32, i: u32, back: bool) -> Edit
-    ensures { result ≡ turned back (edit_of k words.a words.b words.c words.d words.e f g h i) }
-{
-    if back {
-        return decode_back(k, words, f, g, h, i);
-    }
-    decode(k, words, f, g, h, i)
-}
-
-// The edit that stands at word q, or what undoes it.
-fn get_edit(journal: &[u32], q: usize, back: bool) -> Edit
-    requires { q + 10 ≤ length journal.now }
-    ensures { result ≡ turned back (edit_at journal.now q) }
-{
-    let k = journal[q + 0];
-    let a = journal[q + 1];
-    let b = journal[q + 2];
-    let c = journal[q + 3];
-    let d = journal[q + 4];
-    let e = journal[q + 5];
-    let f = journal[q + 6];
-    let g = journal[q + 7];
-    let h = journal[q + 8];
-    let i = journal[q + 9];
-    decode_turned(k, Five { a, b, c, d, e }, f, g, h, i, back)
-}
-
-// The edit of a row, or what undoes it.
+/// The edit of a row, or what undoes it.
+#[inline(always)]
 pub fn row_at(journal: &[u32], row: u32, back: bool) -> Edit
     requires { 12 * row + 12 ≤ length journal.now }
     ensures { result ≡ turned back (row_at journal.now row) }
 {
-    get_edit(journal, 12 * wide(row), back)
+    let start = 12 * row as usize;
+    decode(&journal[start..start + 10], back)
 }
 
-// The cost of the step that a row is of.
+/// The cost of the step that a row is of.
+#[inline(always)]
+#[tactic(auto, unfolding(crate::specs::Rows::step_at))]
 pub fn cost_at(journal: &[u32], row: u32) -> u32
     requires { 12 * row + 12 ≤ length journal.now }
     ensures { result ≡ (step_at journal.now row).cost }
 {
-    journal[12 * wide(row) + 10]
+    journal[12 * row as usize + 10]
 }
 
-// The bench of the step that begins with a row.
+/// The bench of the step that begins with a row.
+#[inline(always)]
+#[tactic(auto, unfolding(crate::specs::Rows::bench_at))]
 pub fn bench_at(journal: &[u32], row: u32) -> u32
     requires { 12 * row + 12 ≤ length journal.now }
     ensures { result ≡ bench_at journal.now row }
 {
-    journal[12 * wide(row) + 11]
+    journal[12 * row as usize + 11]
 }
 
-// The step that begins with a row was made by this bench.
+/// The step that begins with a row was made by this bench.
+#[inline(always)]
+#[tactic(auto, unfolding(crate::specs::Rows::signed))]
 pub fn put_bench(journal: &mut [u32], row: u32, bench: u32)
     requires { 12 * row + 12 ≤ length journal.old }
     ensures { journal.new ≡ signed row bench journal.old }
 {
-    journal[12 * wide(row) + 11] = bench;
+    journal[12 * row as usize + 11] = bench;
 }
 
-// Ten words and the cost of their step as one row: the writer of every row. Which words an edit is, `row_words` says.
-pub fn put_row(
-    journal: &mut [u32],
-    row: u32,
-    cost: u32,
-    k: u32,
-    a: u32,
-    b: u32,
-    c: u32,
-    d: u32,
-    e: u32,
-    f: u32,
-    g: u32,
-    h: u32,
-    j: u32,
-)
+/// Ten words and the cost of their step as one row: the writer of every row. Which words an edit is, `row_words` says.
+#[inline(always)]
+#[tactic(auto, using(crate::proofs::RowLaws::store_more))]
+pub fn put_row(journal: &mut [u32], row: u32, cost: u32, words: [u32; 10])
     requires { 12 * row + 12 ≤ length journal.old }
-    ensures { journal.new ≡ set
-        (store_from (12 * row) (k ∷ a ∷ b ∷ c ∷ d ∷ e ∷ f ∷ g ∷ h ∷ j ∷ []) journal.old) (12 * row + 10)
-        cost }
+    ensures { journal.new ≡ set (store_from (12 * row) words journal.old) (12 * row + 10) cost }
 {
-    let q = 12 * wide(row);
-    put_five(
-        journal,
-        q,
-        Five {
-            a: k,
-            b: a,
-            c: b,
-            d: c,
-            e: d,
-        },
-    );
-    put_five(
-        journal,
-        q + 1 + 1 + 1 + 1 + 1,
-        Five {
-            a: e,
-            b: f,
-            c: g,
-            d: h,
-            e: j,
-        },
-    );
-    journal[q + 10] = cost;
+    let start = 12 * row as usize;
+    // Word by word: with copy_from_slice the ten words go through memory, and their places are compared first.
+    for (i, &word) in words.iter().enumerate() {
+        journal[start + i] = word;
+    }
+    journal[start + 10] = cost;
 }

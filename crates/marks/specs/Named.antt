@@ -1,9 +1,14 @@
 -- The names of the standing marks, in the words behind the places.
-use Rattle.std.specs.Prelude.{ℕ, ◌+◌, ◌-◌, ◌*◌, ◌≡◌, Bool, true, not, ◌&&◌, List, get_or, set as set_at, ◌==◌}
+use Rattle.std.specs.Prelude.{ℕ, ◌+◌, ◌-◌, ◌*◌, ◌≡◌, Bool, true, not, ◌&&◌, List, get_or, set as set_at, Option, Some, None, ◌==◌}
 use Rattle.lists.specs.Choice.{◌⇒◌else◌}
 use Rattle.graph.specs.Limits.{most_marks}
 use Rattle.history.specs.Machine.{MarkPlace, stands, is_mark, Name, name, no_name, is_name, same_name, seek}
 use Rattle.marks.specs.Marked.{in_set}
+use Rattle.marks.specs.declared.Name.{Name as Words}
+
+-- the name that two words are
+abbrev pub name_of : Words → Name
+name_of n = name n.first n.second
 
 -- where the two words of the name of mark a begin
 abbrev pub name_at : ℕ → ℕ
@@ -27,6 +32,10 @@ bears_in set words n a = in_set set a && (is_name n && same_name (name_in words 
 -- the mark of the set, other than `but`, that has the name; 0 where none has
 unfoldable pub holder_in : ℕ → List ℕ → ℕ → Name → ℕ
 holder_in set words but n = seek most_marks 1 (λ k. not (k == but) && bears_in set words n k)
+
+-- a mark that was sought, where 0 is none
+abbrev pub mark_found : ℕ → Option ℕ
+mark_found a = (a == 0) ⇒ None else Some a
 
 -- each mark that stands has its name
 abbrev pub Named : (ℕ → MarkPlace) → (ℕ → Name) → List ℕ → Type 0

@@ -1,75 +1,76 @@
-// The codes of a call that names marks, read off the set and the words of the marks.
+// May a mark be set, dropped, named or gone to: read off the set and the words of the marks.
 ghost use Rattle.std.specs.Prelude.{◌≡◌, length};
-ghost use Rattle.history.specs.Machine.{name};
+ghost use Rattle.commands.specs.Refusals.{code_if_refused};
 ghost use Rattle.marks.specs.Marked.{mark_words};
+ghost use Rattle.marks.specs.Named.{name_of};
 ghost use Rattle.marks.specs.Codes.{standing_code, new_code, both_code, name_code};
 
-use crate::{holder, is_name, stands};
-use graph::MOST_MARKS;
+use crate::{MarkSet, Name, is_mark};
+use commands::refusal::Refusal;
 
-// Code 11, 13 or 0: mark a must stand.
-pub fn standing_code(set: u64, a: u32) -> u32
-    ensures { result ≡ standing_code set a }
-{
-    if a == 0 {
-        return 11;
+impl MarkSet {
+    /// Mark a must stand.
+    ///
+    /// # Errors
+    /// `NoMark` where a is no mark, `MarkGone` where it does not stand.
+    #[inline(always)]
+    pub fn check_standing(self, a: u32) -> Result<(), Refusal>
+        ensures { code_if_refused result ≡ standing_code self.bits a }
+    {
+        if !is_mark(a) {
+            return Err(Refusal::NoMark);
+        }
+        if !self.has(a) {
+            return Err(Refusal::MarkGone);
+        }
+        Ok(())
     }
-    if MOST_MARKS < a {
-        return 11;
-    }
-    if stands(set, a) {
-        return 0;
-    }
-    13
-}
 
-// Code 11, 12 or 0: mark a must not stand.
-pub fn new_code(set: u64, a: u32) -> u32
-    ensures { result ≡ new_code set a }
-{
-    if a == 0 {
-        return 11;
+    /// Mark a must not stand.
+    ///
+    /// # Errors
+    /// `NoMark` where a is no mark, `MarkStands` where it stands.
+    #[inline(always)]
+    pub fn check_new(self, a: u32) -> Result<(), Refusal>
+        ensures { code_if_refused result ≡ new_code self.bits a }
+    {
+        if !is_mark(a) {
+            return Err(Refusal::NoMark);
+        }
+        if self.has(a) {
+            return Err(Refusal::MarkStands);
+        }
+        Ok(())
     }
-    if MOST_MARKS < a {
-        return 11;
-    }
-    if stands(set, a) {
-        return 12;
-    }
-    0
-}
 
-// The code of two marks that must stand, from the code of each.
-pub fn both_code(c: u32, d: u32) -> u32
-    ensures { result ≡ both_code c d }
-{
-    if c == 11 {
-        return 11;
+    /// Marks a and b must stand.
+    ///
+    /// # Errors
+    /// `NoMark` where one of them is no mark, `MarkGone` where one does not stand.
+    #[inline(always)]
+    pub fn check_both(self, a: u32, b: u32) -> Result<(), Refusal>
+        ensures { code_if_refused result ≡ both_code (standing_code self.bits a) (standing_code self.bits b) }
+    {
+        if !is_mark(a) || !is_mark(b) {
+            return Err(Refusal::NoMark);
+        }
+        self.check_standing(a)?;
+        self.check_standing(b)
     }
-    if d == 11 {
-        return 11;
-    }
-    if c == 13 {
-        return 13;
-    }
-    d
-}
 
-// Code 11, 13, 18 or 0: mark a must stand, and b, c be a name that no other mark has.
-pub fn name_code(set: u64, words: &[u32], a: u32, b: u32, c: u32) -> u32
-    requires { length words.now ≡ mark_words }
-    ensures { result ≡ name_code set words.now a (name b c) }
-{
-    let code = standing_code(set, a);
-    if code != 0 {
-        return code;
+    /// Mark a must stand, and the words be a name that no other mark has.
+    ///
+    /// # Errors
+    /// `NoMark`, `MarkGone` as above, `NoName` where it is no name, or another mark's.
+    #[inline(always)]
+    pub fn check_name(self, words: &[u32], a: u32, name: Name) -> Result<(), Refusal>
+        requires { length words.now ≡ mark_words }
+        ensures { code_if_refused result ≡ name_code self.bits words.now a (name_of name) }
+    {
+        self.check_standing(a)?;
+        if !name.is_given() || self.holder(words, a, name).is_some() {
+            return Err(Refusal::NoName);
+        }
+        Ok(())
     }
-    if !is_name(b, c) {
-        return 18;
-    }
-    let other = holder(set, words, a, b, c);
-    if other != 0 {
-        return 18;
-    }
-    0
 }

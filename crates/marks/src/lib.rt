@@ -1,207 +1,227 @@
-// The standing marks: one 64-bit set, and the place and the name of each.
+// The standing marks: one 64-bit set, and the place and the name of each. The words of the marks are a slice, whose
+// length is required: a part of a longer array can be lent too, which an array type would rule out (DECISIONS 89).
 #![tactic(auto)]
 
-pub mod codes;
+pub mod codes; // may a mark be set, named, or gone to
 
 ghost use Rattle.std.specs.Prelude.{◌≡◌, true, false, not, ◌&&◌, List, ℕ, ◌-◌, ◌%◌, ltb, length, ◌==◌};
 ghost use Rattle.std.specs.Int.Count.{ones};
 ghost use Rattle.lists.specs.Choice.{◌⇒◌else◌};
-ghost use Rattle.history.specs.Machine.{MarkPlace, is_mark, gone, at, no_marks, name, is_name};
+ghost use Rattle.history.specs.Machine.{MarkPlace, is_mark, gone, at, no_marks, is_name};
 ghost use Rattle.history.specs.Machine.{marked, cut_marks, count_standing, distance};
 ghost use Rattle.marks.specs.Marked.{mark_words, in_set, place_in, with_mark, without_mark, cut_set, Marked};
-ghost use Rattle.marks.specs.Named.{name_at, name_set, mark_put, bears_in, holder_in};
+ghost use Rattle.marks.specs.Named.{name_of, name_at, name_in, name_set, mark_put, bears_in, holder_in, mark_found};
 
 use graph::MOST_MARKS;
 
-// The words lent for the marks: a place each, then the two words of the name of each.
+/// The words lent for the marks: a place each, then the two words of the name of each.
 pub const WORDS: usize = 3 * (MOST_MARKS as usize);
 
+/// The marks that stand: bit a - 1 is mark a's.
+#[derive(Clone, Copy, Debug, PartialEq, Eq)]
+pub struct MarkSet {
+    pub bits: u64,
+}
+
+/// The two words of a name; two zeros are none.
+#[derive(Clone, Copy, Debug, PartialEq, Eq)]
+pub struct Name {
+    pub first: u32,
+    pub second: u32,
+}
+
+impl Name {
+    pub const NONE: Name = Name {
+        first: 0,
+        second: 0,
+    };
+
+    /// Is it a name?
+    #[inline(always)]
+    pub fn is_given(self) -> bool
+        ensures { result ≡ is_name (name_of self) }
+    {
+        self.first != 0 || self.second != 0
+    }
+}
+
 // Is it the number of a mark?
+#[inline(always)]
 fn is_mark(a: u32) -> bool
     ensures { result ≡ is_mark a }
 {
-    if a == 0 {
-        return false;
-    }
-    a <= MOST_MARKS
+    (1..=MOST_MARKS).contains(&a)
 }
 
-// Does mark a stand? No where a is no mark.
-pub fn stands(set: u64, a: u32) -> bool
-    ensures { result ≡ in_set set a }
-{
-    if !is_mark(a) {
-        return false;
-    }
-    let k = a - 1;
-    (set >> k) % 2 == 1
-}
-
-// The place of mark a; 0 where a is no mark.
-pub fn place_of(places: &[u32], a: u32) -> u32
-    requires { length places.now ≡ mark_words }
-    ensures { result ≡ place_in places.now a }
+/// The place of mark a; 0 where a is no mark.
+#[inline(always)]
+pub fn place_of(words: &[u32], a: u32) -> u32
+    requires { length words.now ≡ mark_words }
+    ensures { result ≡ place_in words.now a }
 {
     if !is_mark(a) {
         return 0;
     }
-    let k = a - 1;
-    places[k as usize]
+    words[(a - 1) as usize]
 }
 
 // Where the two words of the name of mark a begin.
+#[inline(always)]
 fn name_at(a: u32) -> usize
     requires { is_mark a ≡ true }
     ensures { result ≡ name_at a }
 {
-    let k = a - 1;
-    (MOST_MARKS + 2 * k) as usize
+    (MOST_MARKS + 2 * (a - 1)) as usize
 }
 
-// Mark a has the name b, c; 0, 0 is none. Where a is no mark, nothing changes.
-pub fn name_mark(words: &mut [u32], a: u32, b: u32, c: u32)
+// The words of the name of mark a.
+#[inline(always)]
+fn name_in(words: &[u32], a: u32) -> Name
+    requires { (length words.now ≡ mark_words) × (is_mark a ≡ true) }
+    ensures { name_of result ≡ name_in words.now a }
+{
+    let at = name_at(a);
+    Name {
+        first: words[at],
+        second: words[at + 1],
+    }
+}
+
+/// Mark a has this name. Where a is no mark, nothing changes.
+#[inline(always)]
+pub fn name_mark(words: &mut [u32], a: u32, name: Name)
     requires { length words.old ≡ mark_words }
-    ensures { words.new ≡ name_set a (name b c) words.old }
+    ensures { words.new ≡ name_set a (name_of name) words.old }
 {
-    if !is_mark(a) {
-        return;
+    if is_mark(a) {
+        let at = name_at(a);
+        words[at] = name.first;
+        words[at + 1] = name.second;
     }
-    let i = name_at(a);
-    words[i] = b;
-    words[i + 1] = c;
 }
 
-// Are the two words a name?
-pub fn is_name(b: u32, c: u32) -> bool
-    ensures { result ≡ is_name (name b c) }
-{
-    if b != 0 {
-        return true;
+impl MarkSet {
+    /// No mark stands.
+    #[inline(always)]
+    pub fn none() -> MarkSet
+        ensures value { result.bits ≡ 0 }
+        ensures by_index { (words : List ℕ) → length words ≡ mark_words → Marked no_marks result.bits words }
+    {
+        MarkSet { bits: 0 }
     }
-    c != 0
-}
 
-// Does mark a, which is not `but`, stand and have the name b, c?
-fn bears(set: u64, words: &[u32], but: u32, b: u32, c: u32, a: u32) -> bool
-    requires { length words.now ≡ mark_words }
-    ensures { result ≡ (not (a == but) && bears_in set words.now (name b c) a) }
-{
-    if a == but {
-        return false;
+    /// Does mark a stand? No where a is no mark.
+    #[inline(always)]
+    pub fn has(self, a: u32) -> bool
+        ensures { result ≡ in_set self.bits a }
+    {
+        is_mark(a) && (self.bits >> (a - 1)) % 2 == 1
     }
-    if !stands(set, a) {
-        return false;
-    }
-    if !is_name(b, c) {
-        return false;
-    }
-    let i = name_at(a);
-    if words[i] != b {
-        return false;
-    }
-    words[i + 1] == c
-}
 
-// The standing mark, other than `but`, that has the name b, c; 0 where none has.
-pub fn holder(set: u64, words: &[u32], but: u32, b: u32, c: u32) -> u32
-    requires { length words.now ≡ mark_words }
-    ensures { result ≡ holder_in set words.now but (name b c) }
-{
-    let mut a: u32 = 1;
-    while a <= MOST_MARKS {
-        if bears(set, words, but, b, c, a) {
-            return a;
+    /// How many marks stand (kind 50), the count of ones of the set.
+    #[inline(always)]
+    pub fn len(self) -> u32
+        ensures value { result ≡ ones self.bits }
+        ensures by_index { (words : List ℕ) → (ms : ℕ → MarkPlace) → Marked ms self.bits words → result ≡ count_standing ms }
+    {
+        self.bits.count_ones()
+    }
+
+    // Does mark a stand and have this name?
+    #[inline(always)]
+    fn bears(self, words: &[u32], name: Name, a: u32) -> bool
+        requires { length words.now ≡ mark_words }
+        ensures { result ≡ bears_in self.bits words.now (name_of name) a }
+    {
+        self.has(a) && name.is_given() && name_in(words, a) == name
+    }
+
+    /// The standing mark, other than `but`, that has this name.
+    pub fn holder(self, words: &[u32], but: u32, name: Name) -> Option<u32>
+        requires { length words.now ≡ mark_words }
+        ensures { result ≡ mark_found (holder_in self.bits words.now but (name_of name)) }
+    {
+        (1..MOST_MARKS + 1).find(|&a| a != but && self.bears(words, name, a))
+    }
+
+    /// Mark a is set (kind 17) at place p, with no name. Where a is no mark, nothing changes.
+    #[inline(always)]
+    pub fn set_mark(self, words: &mut [u32], a: u32, p: u32) -> MarkSet
+        requires { length words.old ≡ mark_words }
+        ensures value { result.bits ≡ with_mark a self.bits }
+        ensures words_after { words.new
+            ≡ (is_mark a ⇒ mark_put a p words.old else words.old) }
+        ensures by_index { (ms : ℕ → MarkPlace) → is_mark a ≡ true → in_set self.bits a ≡ false
+            → Marked ms self.bits words.old → Marked (marked a (at p) ms) result.bits words.new }
+    {
+        if !is_mark(a) {
+            return self;
         }
-        a += 1;
+        let k = a - 1;
+        words[k as usize] = p;
+        name_mark(words, a, Name::NONE);
+        MarkSet {
+            bits: self.bits | (1 << k),
+        }
     }
-    0
-}
 
-// Mark a is set (kind 17) at place p, with no name. Where a is no mark, nothing changes.
-pub fn set_mark(set: u64, places: &mut [u32], a: u32, p: u32) -> u64
-    requires { length places.old ≡ mark_words }
-    ensures value { result ≡ with_mark a set }
-    ensures places_after { places.new
-        ≡ (is_mark a ⇒ mark_put a p places.old else places.old) }
-    ensures by_index { (ms : ℕ → MarkPlace) → is_mark a ≡ true → in_set set a ≡ false
-        → Marked ms set places.old → Marked (marked a (at p) ms) result places.new }
-{
-    if !is_mark(a) {
-        return set;
+    /// Mark a is dropped (kind 18). Where it does not stand, nothing changes.
+    #[inline(always)]
+    pub fn without(self, a: u32) -> MarkSet
+        ensures value { result.bits ≡ without_mark a self.bits }
+        ensures by_index { (words : List ℕ) → (ms : ℕ → MarkPlace) → in_set self.bits a ≡ true
+            → Marked ms self.bits words → Marked (marked a gone ms) result.bits words }
+    {
+        if !self.has(a) {
+            return self;
+        }
+        let k = a - 1;
+        MarkSet {
+            bits: self.bits ^ (1 << k),
+        }
     }
-    let k = a - 1;
-    places[k as usize] = p;
-    name_mark(places, a, 0, 0);
-    set | (1u64 << k)
-}
 
-// Mark a is dropped (kind 18). Where it does not stand, nothing changes.
-pub fn drop_mark(set: u64, a: u32) -> u64
-    ensures value { result ≡ without_mark a set }
-    ensures by_index { (places : List ℕ) → (ms : ℕ → MarkPlace) → in_set set a ≡ true → Marked ms set places
-        → Marked (marked a gone ms) result places }
-{
-    if !stands(set, a) {
-        return set;
+    // Mark a, which stands, goes if its place is above p.
+    #[inline(always)]
+    fn cut_mark(self, words: &[u32], a: u32, p: u32) -> MarkSet
+        requires { (length words.now ≡ mark_words) × (in_set self.bits a ≡ true) }
+        ensures { result.bits ≡ (ltb p (place_in words.now a) ⇒ without_mark a self.bits else self.bits) }
+    {
+        let k = a - 1;
+        if words[k as usize] <= p {
+            return self;
+        }
+        MarkSet {
+            bits: self.bits ^ (1 << k),
+        }
     }
-    let k = a - 1;
-    set ^ (1u64 << k)
-}
 
-// Mark a, which stands, goes if its place is above p.
-fn cut_mark(set: u64, places: &[u32], a: u32, p: u32) -> u64
-    requires { (length places.now ≡ mark_words) × (in_set set a ≡ true) }
-    ensures { result ≡ (ltb p (place_in places.now a) ⇒ without_mark a set else set) }
-{
-    let k = a - 1;
-    if places[k as usize] <= p {
-        return set;
+    /// A change at place p: the marks whose place is above p go.
+    pub fn cut(self, words: &[u32], p: u32) -> MarkSet
+        requires { length words.now ≡ mark_words }
+        ensures value { result.bits ≡ cut_set p words.now self.bits }
+        ensures by_index { (ms : ℕ → MarkPlace) → Marked ms self.bits words.now
+            → Marked (cut_marks p ms) result.bits words.now }
+    {
+        // The marks above a, still to be looked at, are the digits of `left`. A `for` over the marks would look at those
+        // that do not stand too: from one that stands the next is found by counting zeros.
+        let mut set = self;
+        let mut left = self.bits;
+        let mut a: u32 = 0;
+        while left != 0 {
+            let zeros = left.trailing_zeros();
+            a = a + zeros + 1;
+            set = set.cut_mark(words, a, p);
+            left = (left >> zeros) / 2;
+        }
+        set
     }
-    set ^ (1u64 << k)
 }
 
-// A change at place p: the marks whose place is above p go. The marks above a, still to be looked at, are the digits of
-// `left`. From one standing mark the next is found by counting zeros, so those that do not stand cost nothing.
-pub fn cut_marks(set: u64, places: &[u32], p: u32) -> u64
-    requires { length places.now ≡ mark_words }
-    ensures value { result ≡ cut_set p places.now set }
-    ensures by_index { (ms : ℕ → MarkPlace) → Marked ms set places.now
-        → Marked (cut_marks p ms) result places.now }
-{
-    let mut s = set;
-    let mut left = set;
-    let mut a: u32 = 0;
-    while left != 0 {
-        let z = u64::trailing_zeros(left);
-        a = a + z + 1;
-        s = cut_mark(s, places, a, p);
-        left = (left >> z) / 2;
-    }
-    s
-}
-
-// How many marks stand (kind 50), the count of ones of the set.
-pub fn count_marks(set: u64) -> u32
-    ensures value { result ≡ ones set }
-    ensures by_index { (places : List ℕ) → (ms : ℕ → MarkPlace) → Marked ms set places → result ≡ count_standing ms }
-{
-    u64::count_ones(set)
-}
-
-// The steps between two places: kind 49, and the ways of kinds 21 and 57.
+/// The steps between two places: kind 49, and the ways of kinds 21 and 57.
+#[inline(always)]
 pub fn between(p: u32, q: u32) -> u32
     ensures { result ≡ distance p q }
 {
-    if q < p {
-        return p - q;
-    }
-    q - p
-}
-
-// No mark stands.
-pub fn no_marks() -> u64
-    ensures value { result ≡ 0 }
-    ensures by_index { (places : List ℕ) → length places ≡ mark_words → Marked no_marks result places }
-{
-    0
+    p.abs_diff(q)
 }

@@ -16,7 +16,7 @@ use Rattle.graph.specs.Graph.{Graph}
 use Rattle.graph.specs.WellFormed.{well_formed}
 use Rattle.image.specs.Image.{SavesAs, record_size, part, edge_count, edge_part, load, loadable}
 use Rattle.image_check.specs.Checks.{code_of, load_code, load_offset, verdict}
-use Rattle.image_check.proofs.Verdicts.{zero_sound}
+use Rattle.image_check.proofs.Verdicts.{zero_sound, code_not_zero}
 use Rattle.image_check.proofs.LoadCodes.{code_loads}
 use Rattle.image.proofs.Loads.{loads, loads_back, saves_loads, loaded}
 use Rattle.image_check.proofs.SavedSound.{loads_sound}
@@ -24,11 +24,17 @@ use Rattle.image.proofs.Parts.{long_edges}
 use Rattle.image.proofs.Room.{few_edges_lem}
 use Rattle.image.proofs.EdgePart.{part_two, eseq_count}
 use Rattle.page.specs.Rows.{row_bytes, rows_of, rows_from}
-use Rattle.page.specs.Page.{PageResult, page_bounds, page_bytes, page_code, page_of}
+use Rattle.page.specs.declared.NoPage.{NoPage}
+use Rattle.page.specs.declared.NoPage.TheVariants.{Image, Short}
+use Rattle.page.specs.Page.{PageResult, page_bounds, page_bytes, page_code, page_of, no_page_code}
 use Rattle.page.proofs.RowLaws.{rows_length}
 use Rattle.std.specs.Prelude.{Ok, Err}
 use Rattle.image_check.specs.declared.BadImage.TheVariants.{Header, Record, Incidence}
 use Rattle.image_check.specs.Checks.{Verdict}
+
+pub no_page_not_zero : (none : NoPage) → no_page_code none ≡ 0 → ⊥
+no_page_not_zero (Image bad) e = code_not_zero bad e
+no_page_not_zero Short e = omega arith
 
 abbrev pub answer : ℕ → ℕ → List ℕ → PageResult
 answer code bytes page = record { code = code; bytes = bytes; page = page }

@@ -1,12 +1,14 @@
 -- The page of an image: the code and the number of bytes, and what the page is afterwards, for all words.
-use Rattle.std.specs.Prelude.{ℕ, ◌*◌, List, length, ltb, ◌==◌}
+use Rattle.std.specs.Prelude.{ℕ, ◌*◌, List, length, ltb, ◌==◌, Result, Ok, Err}
 use Rattle.lists.specs.Choice.{◌⇒◌else◌}
 use Rattle.lists.specs.Lists.{overwritten}
 use Rattle.graph.specs.WellFormed.{Bounds}
 use Rattle.image.specs.Image.{load}
-use Rattle.image_check.specs.Checks.{saved_bounds, load_code, load_offset}
+use Rattle.image_check.specs.Checks.{saved_bounds, load_code, load_offset, bad_code, bad_offset}
 use Rattle.page.specs.Rows.{row_bytes, rows_of}
 use Rattle.page.specs.declared.Printed.{Printed}
+use Rattle.page.specs.declared.NoPage.{NoPage}
+use Rattle.page.specs.declared.NoPage.TheVariants.{Image, Short}
 
 -- what the words are held against, whatever a run elsewhere is lent
 abbrev pub page_bounds : Bounds
@@ -37,3 +39,19 @@ page_of ws page =
 -- what the code gives, with the page that it leaves
 abbrev pub printed : Printed → List ℕ → PageResult
 printed r page = record { code = r.code; bytes = r.bytes; page = page }
+
+-- ---- for the code
+
+-- the code of what keeps a page from being written, and the number beside it
+abbrev pub no_page_code : NoPage → ℕ
+no_page_code (Image bad) = bad_code bad
+no_page_code Short = 107
+
+abbrev pub no_page_offset : NoPage → ℕ
+no_page_offset (Image bad) = bad_offset bad
+no_page_offset Short = 0
+
+-- what C is told of it
+abbrev pub told : Result ℕ NoPage → Printed
+told (Ok bytes) = record { code = 0; bytes = bytes }
+told (Err none) = record { code = no_page_code none; bytes = no_page_offset none }

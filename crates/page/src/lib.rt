@@ -1,24 +1,80 @@
 // The page of an image (a saved chart): one row of 25 bytes for each edge.
-// Each function but print writes a text at a place of out and returns the place behind it.
+// Each function but print writes a text at a place of out and returns the place behind it: bytes and place stay two, and
+// the columns are written by hand, since each clause so is one equation of the bytes and both places.
 #![tactic(auto)]
 
 ghost use Rattle.std.specs.Prelude.{◌≡◌, ◌+◌, ◌*◌, ◌/◌, ◌≤◌, length, replicate};
 ghost use Rattle.decimal.specs.Stored.{Stored};
-ghost use Rattle.graph.specs.Graph.{reading_of};
 ghost use Rattle.page.specs.Rows.{column, cell, reading_column, row_of, edge_read, rows_from};
-ghost use Rattle.page.specs.Page.{page_of, printed};
+ghost use Rattle.page.specs.Page.{page_of, printed, no_page_code, no_page_offset, told};
+ghost use Rattle.page.specs.declared.NoPage.TheVariants.{Image};
 
 use decimal::bytes;
+use graph::Reading;
+use image::by_name::Part;
 use image::layout::EDGE;
-use image::part;
-use image_check::check_saved;
+use image_check::{BadImage, check_saved};
 
-/// A code, and how many bytes were written; with a code none, and bytes is the offset of the first bad word, else 0.
+/// Why there is no page of an image.
+#[derive(Clone, Copy, Debug, PartialEq, Eq)]
+pub enum NoPage {
+    /// The words do not load.
+    Image(BadImage),
+    /// There are fewer bytes than 25 an edge.
+    Short,
+}
+
+impl NoPage {
+    /// The code of the words that do not load, or 107.
+    pub fn code(self) -> u32
+        ensures { result ≡ no_page_code self }
+    {
+        match self {
+            NoPage::Image(bad) => bad.code(),
+            NoPage::Short => 107,
+        }
+    }
+
+    /// The offset of the first bad word, from 0 at the first word; 0 where none is bad.
+    pub fn offset(self) -> usize
+        ensures { result ≡ no_page_offset self }
+    {
+        match self {
+            NoPage::Image(bad) => bad.offset() as usize,
+            NoPage::Short => 0,
+        }
+    }
+}
+
+impl From<BadImage> for NoPage {
+    ghost from_gives = { λ cause none. none ≡ Image cause };
+
+    fn from(cause: BadImage) -> NoPage {
+        NoPage::Image(cause)
+    }
+}
+
+/// What C is told: a code, and how many bytes were written; with a code none, and bytes is the offset of the first bad
+/// word, else 0.
 #[repr(C)]
 #[derive(Clone, Copy, Debug, PartialEq, Eq)]
 pub struct Printed {
     pub code: u32,
     pub bytes: usize,
+}
+
+impl From<Result<usize, NoPage>> for Printed {
+    ghost from_gives = { λ came answer. answer ≡ told came };
+
+    fn from(came: Result<usize, NoPage>) -> Printed {
+        match came {
+            Ok(bytes) => Printed { code: 0, bytes },
+            Err(none) => Printed {
+                code: none.code(),
+                bytes: none.offset(),
+            },
+        }
+    }
 }
 
 fn spaces(out: &mut [u8], at: usize, count: usize) -> usize
@@ -48,15 +104,15 @@ fn column(out: &mut [u8], at: usize, width: usize, n: u32) -> usize
     p + 1
 }
 
-// A reading by its two words, right-aligned in six columns.
-fn reading(out: &mut [u8], at: usize, kind: u32, decimetres: u32) -> usize
+// A reading, right-aligned in six columns.
+fn reading(out: &mut [u8], at: usize, reading: Reading) -> usize
     requires { at + 6 ≤ length out.old }
-    ensures { Stored (reading_column (reading_of kind decimetres)) at out.old out.new result }
+    ensures { Stored (reading_column reading) at out.old out.new result }
 {
-    match kind {
-        0 => bytes(out, at, b"     -"),
-        1 => bytes(out, at, b"silent"),
-        _ => column(out, at, 6, decimetres),
+    match reading {
+        Reading::Untested => bytes(out, at, b"     -"),
+        Reading::Silent => bytes(out, at, b"silent"),
+        Reading::Heard(decimetres) => column(out, at, 6, decimetres),
     }
 }
 
@@ -80,7 +136,7 @@ fn row(out: &mut [u8], at: usize, edge: &[u32]) -> usize
     let b = cell(out, a, 4, edge[1]);
     let c = cell(out, b, 4, edge[2]);
     let d = cell(out, c, 2, edge[3]);
-    let e = reading(out, d, edge[4], edge[5]);
+    let e = reading(out, d, Reading::from_words(edge[4], edge[5]));
     out[e] = b'\n';
     e + 1
 }
@@ -97,27 +153,17 @@ fn rows(out: &mut [u8], records: &[u32]) -> usize
     at
 }
 
-/// The page of an image: 105, 108 or 109 where the words do not load; only of words that load 107, under 25 bytes
-/// an edge. With a code the page is as it was, and bytes behind the rows are so in any case.
-pub fn print(words: &[u32], page: &mut [u8]) -> Printed
-    ensures { printed result page.new ≡ page_of words.now page.old }
+/// Writes the page of an image to the front of page, and answers how many bytes it has. Words that do not load are
+/// refused first, then a page of under 25 bytes an edge. A refusal leaves the page as it was, and bytes behind the rows
+/// are so in any case.
+pub fn print(words: &[u32], page: &mut [u8]) -> Result<usize, NoPage>
+    ensures { printed (told result) page.new ≡ page_of words.now page.old }
 {
-    if let Err(bad) = check_saved(words) {
-        return Printed {
-            code: bad.code(),
-            bytes: bad.offset() as usize,
-        };
-    }
-    let records = part(words, 2);
+    check_saved(words)?;
+    let records = Part::Edges.within(words);
     let count = records.len() / EDGE;
     if page.len() < 25 * count {
-        return Printed {
-            code: 107,
-            bytes: 0,
-        };
+        return Err(NoPage::Short);
     }
-    Printed {
-        code: 0,
-        bytes: rows(page, records),
-    }
+    Ok(rows(page, records))
 }

@@ -2,19 +2,15 @@
 use Prim.Native.Nat.{ℕ, min}
 use mathlib.Core.Path.{◌≡◌, refl, ◌∙◌}
 use mathlib.Core.Bool.{not, ◌||◌}
-use mathlib.Core.List.{[], ◌∷◌}
-use types.Run.{OneOf, miss}
-use denote.Enum.Declared.{tag_of}
 use Rattle.lists.specs.Choice.{◌⇒◌else◌}
 use Rattle.graph.specs.declared.Reading.{Reading}
 use Rattle.graph.specs.declared.Reading.TheVariants.{Untested, Silent, Heard}
 use Rattle.graph.specs.Graph.{Graph, decimetres}
-use Rattle.graph.specs.contracts.Reading.{the_type}
 use Rattle.prices.specs.Prices.{way, is_heard, nothing_heard, one_way, two_way}
 use Rattle.graph.specs.Changes.{VertexThere}
 use Rattle.graph_tables.specs.Tables.{State}
 use Rattle.graph_tables.specs.Holds.{Holds}
-use Rattle.commands.specs.Answers.{answer_of, refuses}
+use Rattle.commands.specs.Answers.{answer_of}
 use Rattle.price_calls.specs.Ways.{both_ways, price_at}
 use Rattle.price_calls.proofs.Heard.{way_is}
 
@@ -34,16 +30,3 @@ both_is g a b = both (way g a b) (way g b a)
 pub price_is : (s : State) (g : Graph) → Holds s g → (a b : ℕ) → VertexThere g a → VertexThere g b →
     price_at s.vertices s.edges a b ≡ answer_of (nothing_heard g a b ⇒ 16 else 0) (two_way g a b)
 price_is s g h a b there back = (λ i. both_ways (way_is s g h a b there i) (way_is s g h b a back i)) ∙ both_is g a b
-
--- ---- a way that is not heard: untested or silent, by its number
-
-pub there_not : (x y : Reading) → OneOf (0 ∷ 1 ∷ []) (tag_of the_type x) → refuses 16 ≡ both_ways x y
-there_not Untested y k = refl
-there_not Silent y k = refl
-there_not (Heard d) y k = absurd (miss (0 ∷ 1 ∷ []) 2 tt k)
-
-pub back_not : (x y : Reading) (d : ℕ) → x ≡ Heard d → OneOf (0 ∷ 1 ∷ []) (tag_of the_type y) →
-    refuses 16 ≡ both_ways x y
-back_not x Untested d e k = rw e
-back_not x Silent d e k = rw e
-back_not x (Heard j) d e k = absurd (miss (0 ∷ 1 ∷ []) 2 tt k)

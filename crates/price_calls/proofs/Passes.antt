@@ -10,7 +10,8 @@ use Rattle.linked_lists.specs.declared.Ends.{Ends}
 use Rattle.linked_lists.specs.Lists.{Fresh}
 use Rattle.linked_lists.specs.Links.{backward, forward, link_of, Chain, nodes_from}
 use Rattle.linked_lists.proofs.Model.{nodes_chain}
-use Rattle.walks.proofs.ListWalks.{Walk}
+use Rattle.graph_tables.specs.Tables.{incidence_links, vertex_ends}
+use Rattle.walks.proofs.ListWalks.{Walk, Along}
 
 abbrev pub ahead : LinkLayout → List ℕ → Ends → ℕ → List ℕ
 ahead layout t e w = nodes_from (link_of forward layout t e) (length t + layout.offset) w
@@ -36,3 +37,13 @@ module _ (f : ℕ → ℕ) (P : ℕ → Type 0) (layout : LinkLayout) (t : List 
           ap (ahead layout t e) (p ∙ ap (link_of forward layout t e) here)
           ∙ nodes_chain (link_of forward layout t e) (link_of backward layout t e) (length t + layout.offset) x l c.1 r.1 (omega arith) in
           now ∙ (λ i. sym here i ∷ sym then i)
+
+-- ---- along the list of vertex a
+
+-- it stands at word w, and adds no numbers up
+abbrev pub Stands : List ℕ → List ℕ → ℕ → ℕ → Type 0
+Stands vertices edges a w = Along (λ x. 0) vertices edges a w 0
+
+-- what is ahead of word w
+abbrev pub rest : List ℕ → List ℕ → ℕ → ℕ → List ℕ
+rest vertices edges a w = ahead incidence_links edges (vertex_ends vertices a) w

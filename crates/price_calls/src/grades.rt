@@ -1,10 +1,9 @@
 // The printed price lists: the lower limit of each grade, and the grade of a range by such a table.
-ghost use Rattle.std.specs.Prelude.{◌≡◌, ◌+◌, ◌<◌, length, leb};
-ghost use Rattle.lists.specs.Choice.{to_bit};
-ghost use Rattle.prices.specs.Grades.{old_limits, new_limits, grade_by};
-ghost use Rattle.prices.specs.Prices.{grade_of};
+ghost use Rattle.std.specs.Prelude.{◌≡◌, ◌^◌, ◌<◌, length};
+ghost use Rattle.prices.specs.Grades.{grade_by};
+ghost use Rattle.price_calls.specs.PriceLists.{ListNamed, limits_in};
 
-use lists::numbers::less_one;
+use commands::refusal::Refusal;
 
 // Behind each limit its grade.
 const OLD_LIMITS: [u32; 40] = [
@@ -103,49 +102,54 @@ const NEW_LIMITS: [u32; 50] = [
     9800, // 49
 ];
 
-// One more where the limit is not above the range.
-fn counted(n: u32, limit: u32, range: u32) -> u32
-    requires { n < 4294967295 }
-    ensures { result ≡ n + to_bit (leb limit range) }
-{
-    if limit <= range {
-        return n + 1;
-    }
-    n
+/// A printed price list.
+#[derive(Clone, Copy, Debug, PartialEq, Eq)]
+pub enum PriceList {
+    Old,
+    New,
 }
 
-// How many limits are not above the range, less one. A table has no more lines than a word can count.
+/// The list of a number: 2 is the new one, 0 and 1 are the old. There is no other.
+impl TryFrom<u32> for PriceList {
+    type Error = Refusal;
+
+    ghost try_from_gives = { ListNamed };
+
+    #[inline(always)]
+    fn try_from(number: u32) -> Result<PriceList, Refusal> {
+        match number {
+            0 | 1 => Ok(PriceList::Old),
+            2 => Ok(PriceList::New),
+            _ => Err(Refusal::NoPriceList),
+        }
+    }
+}
+
+impl PriceList {
+    /// The grade of a range.
+    #[inline(always)]
+    #[tactic(auto, unfolding(prices::specs::Grades::old_limits, prices::specs::Grades::new_limits))]
+    pub fn grade(self, range: u32) -> u32
+        ensures { result ≡ grade_by (limits_in self) range }
+    {
+        match self {
+            PriceList::Old => grade_by(&OLD_LIMITS, range),
+            PriceList::New => grade_by(&NEW_LIMITS, range),
+        }
+    }
+}
+
+// How many limits are not above the range, less one. A table has no more lines than a word can count. No branch asks
+// for a limit, so that the compiler makes vector compares; `filter` and `count` would ask.
+#[inline(always)]
+#[tactic(auto, unfolding(prices::specs::Grades::grade_by))]
 fn grade_by(limits: &[u32], range: u32) -> u32
-    requires { length limits.now < 4294967296 }
+    requires { length limits.now < 2 ^ 32 }
     ensures { result ≡ grade_by limits.now range }
 {
-    let mut n: u32 = 0;
-    let mut i = 0;
-    while i < limits.len() {
-        n = counted(n, limits[i], range);
-        i += 1;
+    let mut reached: u32 = 0;
+    for limit in limits {
+        reached += u32::from(*limit <= range);
     }
-    less_one(n)
-}
-
-fn old_grade(range: u32) -> u32
-    ensures { result ≡ grade_by old_limits range }
-{
-    grade_by(&OLD_LIMITS, range)
-}
-
-fn new_grade(range: u32) -> u32
-    ensures { result ≡ grade_by new_limits range }
-{
-    grade_by(&NEW_LIMITS, range)
-}
-
-// The grade of a range by price list c: 2 is the new one, 0 and 1 are the old.
-pub fn grade_of(c: u32, range: u32) -> u32
-    ensures { result ≡ grade_of c range }
-{
-    if c == 2 {
-        return new_grade(range);
-    }
-    old_grade(range)
+    reached.saturating_sub(1)
 }

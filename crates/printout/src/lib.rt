@@ -14,11 +14,9 @@ fn print_words(words: &[u32], out: &mut [u8; 100000]) -> usize
     requires { length words.now ≤ 200000 }
     ensures { WrittenAt (rows_or_code words.now) result out.old out.new }
 {
-    let printed = print(words, out);
-    if printed.code == 0 {
-        printed.bytes
-    } else {
-        write_refused(printed.code, printed.bytes as u32, out)
+    match print(words, out) {
+        Ok(count) => count,
+        Err(none) => write_refused(none.code(), none.offset() as u32, out),
     }
 }
 

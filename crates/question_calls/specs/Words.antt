@@ -1,11 +1,17 @@
 -- The answer to a question that is one word of a named row, whatever words the table has.
-use Rattle.std.specs.Prelude.{ℕ, ◌+◌, ◌-◌, ◌*◌, ◌%◌, List, get_or}
+use Rattle.std.specs.Prelude.{ℕ, ◌+◌, ◌-◌, ◌*◌, ◌%◌, List, Result, Ok, Err, get_or}
 use Rattle.graph.specs.Graph.{edge_of}
 use Rattle.graph_tables.specs.declared.Lookup.{Lookup}
 use Rattle.graph_tables.specs.declared.Lookup.TheVariants.{Found, Missing}
 use Rattle.graph_tables.specs.Tables.{lookup_vertex, lookup_edge}
 use Rattle.commands.specs.declared.Answer.{Answer}
+use Rattle.commands.specs.declared.refusal.Refusal.{Refusal}
 use Rattle.commands.specs.Answers.{accepts, refuses}
+
+-- where the row that was looked up starts; where it is missing, the refusal
+abbrev pub row_or : Refusal → Lookup → Result ℕ Refusal
+row_or refusal (Found at) = Ok at
+row_or refusal Missing = Err refusal
 
 -- the word so far behind the start of the row that was found; where it is missing, the code
 abbrev pub word_answer : ℕ → List ℕ → ℕ → Lookup → Answer

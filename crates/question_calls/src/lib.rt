@@ -1,224 +1,225 @@
-// The answers to questions. Where a name is missing, the look-up says so and the function leaves with the code.
+// The answers to questions. Where a name is missing, the look-up says so and the function leaves with the refusal.
 // A caller has tables that hold a graph; the words of the question may be any.
 #![tactic(auto)]
 
-ghost use Rattle.std.specs.Prelude.{◌≡◌, List, ℕ, ◌<◌, true};
+ghost use Rattle.std.specs.Prelude.{◌≡◌, List, ℕ, ◌<◌, ◌/◌, true};
 ghost use Rattle.graph.specs.Graph.{Graph};
-ghost use Rattle.lists.specs.Choice.{to_bit};
 ghost use Rattle.type_rows.specs.Rows.{good_rows};
 ghost use Rattle.type_rows.specs.Closure.{closure_words};
 ghost use Rattle.graph.specs.WellFormed.{Bounds};
 ghost use Rattle.graph_tables.specs.Capacities.{Sized};
-ghost use Rattle.graph_tables.specs.declared.Head.{Head};
-ghost use Rattle.graph_tables.specs.Tables.{state};
+ghost use Rattle.graph_tables.specs.Tables.{state_of, lookup_vertex, lookup_edge};
 ghost use Rattle.graph_tables.specs.Holds.{Holds};
 ghost use Rattle.commands.specs.declared.Question.TheVariants as ask;
+ghost use Rattle.commands.specs.declared.refusal.Refusal.TheVariants as refusal;
 ghost use Rattle.commands.specs.Answers.{answer_of};
+ghost use Rattle.commands.specs.Refusals.{answer_by};
 ghost use Rattle.machine.specs.Codes.{question_code};
 ghost use Rattle.machine.specs.Machine.{question_number};
-ghost use Rattle.question_calls.specs.Words.{vertex_word, edge_word, half_word, that_word};
+ghost use Rattle.question_calls.specs.Words.{row_or, vertex_word, edge_word, half_word, that_word};
 
-use commands::{Answer, Question, accepted, refused};
+use commands::refusal::Refusal;
+use commands::{Answer, Question};
 use graph_tables::fields::{
     EDGE_ALPHA, EDGE_DECIMETRES, EDGE_KIND, EDGE_NEXT, EDGE_OMEGA, EDGE_TYPE, HALF_NEXT, HALF_THIS,
     VERTEX_FIRST, VERTEX_NEXT, VERTEX_TYPE, VERTEX_VALUE,
 };
-use graph_tables::lookups::{find_edge, find_vertex, find_word};
-use graph_tables::rows::half_field;
-use graph_tables::{Head, Lookup};
+use graph_tables::{Head, Lookup, Tables};
 use type_rows::is_below;
+use walks::Side;
 use walks::counting::degree;
 use walks::orders::{edge_before, vertex_before, word_before};
 
-// A word of the row of vertex a.
-fn vertex_word(vertices: &[u32], a: u32, field: usize) -> Answer
-    requires { field < 8 }
-    ensures { result ≡ vertex_word vertices.now a field }
+// Where the row of vertex a starts.
+#[inline(always)]
+fn vertex_row(tables: &Tables<'_>, a: u32) -> Result<usize, Refusal>
+    ensures { result ≡ row_or refusal.NoVertex (lookup_vertex tables.now.vertices.now a) }
 {
-    let f = find_vertex(vertices, a);
-    let Lookup::Found(at) = f else {
-        return refused(4);
+    let Lookup::Found(at) = tables.find_vertex(a) else {
+        return Err(Refusal::NoVertex);
     };
-    accepted(vertices[at + field])
+    Ok(at)
+}
+
+// Where the row of edge a starts.
+#[inline(always)]
+fn edge_row(tables: &Tables<'_>, a: u32) -> Result<usize, Refusal>
+    ensures { result ≡ row_or refusal.NoEdge (lookup_edge tables.now.edges.now a) }
+{
+    let Lookup::Found(at) = tables.find_edge(a) else {
+        return Err(Refusal::NoEdge);
+    };
+    Ok(at)
+}
+
+// A word of the row of vertex a.
+#[inline(always)]
+fn vertex_word(tables: &Tables<'_>, a: u32, field: usize) -> Result<u32, Refusal>
+    requires { field < 8 }
+    ensures { answer_by result ≡ vertex_word tables.now.vertices.now a field }
+{
+    let at = vertex_row(tables, a)?;
+    Ok(tables.vertices[at + field])
 }
 
 // A word of the row of edge a.
-fn edge_word(edges: &[u32], a: u32, field: usize) -> Answer
+#[inline(always)]
+fn edge_word(tables: &Tables<'_>, a: u32, field: usize) -> Result<u32, Refusal>
     requires { field < 12 }
-    ensures { result ≡ edge_word edges.now a field }
+    ensures { answer_by result ≡ edge_word tables.now.edges.now a field }
 {
-    let f = find_edge(edges, a);
-    let Lookup::Found(at) = f else {
-        return refused(5);
-    };
-    accepted(edges[at + field])
+    let at = edge_row(tables, a)?;
+    Ok(tables.edges[at + field])
 }
 
 // A word of the half of oriented word w.
-fn half_word(edges: &[u32], w: u32, field: usize) -> Answer
+#[inline(always)]
+fn half_word(tables: &Tables<'_>, w: u32, field: usize) -> Result<u32, Refusal>
     requires { field < 6 }
-    ensures { result ≡ half_word edges.now w field }
+    ensures { answer_by result ≡ half_word tables.now.edges.now w field }
 {
-    edge_word(edges, w / 2, 6 * (w % 2) as usize + field)
+    edge_word(tables, w / 2, 6 * (w % 2) as usize + field)
 }
 
 // The vertex that the other half is seen from.
-fn that_word(edges: &[u32], w: u32) -> Answer
-    ensures { result ≡ that_word edges.now w }
+#[inline(always)]
+fn that_word(tables: &Tables<'_>, w: u32) -> Result<u32, Refusal>
+    ensures { answer_by result ≡ that_word tables.now.edges.now w }
 {
-    edge_word(edges, w / 2, EDGE_OMEGA - 6 * (w % 2) as usize)
-}
-
-// 1 for true, 0 for false.
-fn as_number(b: bool) -> u32
-    ensures { result ≡ to_bit b }
-{
-    if b {
-        return 1;
-    }
-    0
+    edge_word(tables, w / 2, EDGE_OMEGA - 6 * (w % 2) as usize)
 }
 
 // Kind 46.
-fn order_of_vertices(head: Head, vertices: &[u32], a: u32, b: u32) -> Answer
-    requires { (edges : List ℕ) × (g : Graph) × Holds (state head vertices.now edges) g }
-    ensures { (g : Graph) → (n : ℕ) → (rows edges : List ℕ) → Holds (state head vertices.now edges) g
-        → result ≡ answer_of (question_code n g (ask.VertexOrder a b)) (question_number rows g (ask.VertexOrder a b)) }
+#[inline(always)]
+fn order_of_vertices(head: Head, tables: &Tables<'_>, a: u32, b: u32) -> Result<u32, Refusal>
+    requires { (g : Graph) × Holds (state_of head tables.now) g }
+    ensures { (g : Graph) → (n : ℕ) → (rows : List ℕ) → Holds (state_of head tables.now) g
+        → answer_by result ≡ answer_of (question_code n g (ask.VertexOrder a b)) (question_number rows g (ask.VertexOrder a b)) }
 {
-    let f = find_vertex(vertices, a);
-    let Lookup::Found(_) = f else {
-        return refused(4);
-    };
-    let h = find_vertex(vertices, b);
-    let Lookup::Found(_) = h else {
-        return refused(4);
-    };
-    let before = vertex_before(head, vertices, a, b);
-    accepted(as_number(before))
+    vertex_row(tables, a)?;
+    vertex_row(tables, b)?;
+    Ok(u32::from(vertex_before(tables, head, a, b)))
 }
 
 // Kind 47.
-fn order_of_edges(head: Head, edges: &[u32], a: u32, b: u32) -> Answer
-    requires { (vertices : List ℕ) × (g : Graph) × Holds (state head vertices edges.now) g }
-    ensures { (g : Graph) → (n : ℕ) → (rows vertices : List ℕ)
-        → Holds (state head vertices edges.now) g
-        → result ≡ answer_of (question_code n g (ask.EdgeOrder a b)) (question_number rows g (ask.EdgeOrder a b)) }
+#[inline(always)]
+fn order_of_edges(head: Head, tables: &Tables<'_>, a: u32, b: u32) -> Result<u32, Refusal>
+    requires { (g : Graph) × Holds (state_of head tables.now) g }
+    ensures { (g : Graph) → (n : ℕ) → (rows : List ℕ) → Holds (state_of head tables.now) g
+        → answer_by result ≡ answer_of (question_code n g (ask.EdgeOrder a b)) (question_number rows g (ask.EdgeOrder a b)) }
 {
-    let f = find_edge(edges, a);
-    let Lookup::Found(_) = f else {
-        return refused(5);
-    };
-    let h = find_edge(edges, b);
-    let Lookup::Found(_) = h else {
-        return refused(5);
-    };
-    let before = edge_before(head, edges, a, b);
-    accepted(as_number(before))
+    edge_row(tables, a)?;
+    edge_row(tables, b)?;
+    Ok(u32::from(edge_before(tables, head, a, b)))
 }
 
 // Kind 48.
-fn order_of_words(vertices: &[u32], edges: &[u32], a: u32, b: u32) -> Answer
-    requires { (head : Head) × (g : Graph) × Holds (state head vertices.now edges.now) g }
-    ensures { (g : Graph) → (n : ℕ) → (rows : List ℕ) → (head : Head)
-        → Holds (state head vertices.now edges.now) g
-        → result ≡ answer_of (question_code n g (ask.WordOrder a b)) (question_number rows g (ask.WordOrder a b)) }
+#[inline(always)]
+fn order_of_words(tables: &Tables<'_>, a: u32, b: u32) -> Result<u32, Refusal>
+    requires { (head : Head) × (g : Graph) × Holds (state_of head tables.now) g }
+    ensures { (g : Graph) → (n : ℕ) → (rows : List ℕ) → (head : Head) → Holds (state_of head tables.now) g
+        → answer_by result ≡ answer_of (question_code n g (ask.WordOrder a b)) (question_number rows g (ask.WordOrder a b)) }
 {
-    let f = find_word(edges, a);
-    let Lookup::Found(_) = f else {
-        return refused(5);
-    };
-    let h = find_word(edges, b);
-    let Lookup::Found(_) = h else {
-        return refused(5);
-    };
-    if half_field(edges, a, HALF_THIS) != half_field(edges, b, HALF_THIS) {
-        return refused(8);
+    edge_row(tables, a / 2)?;
+    edge_row(tables, b / 2)?;
+    if tables.half_field(a, HALF_THIS) != tables.half_field(b, HALF_THIS) {
+        return Err(Refusal::OtherList);
     }
-    let before = word_before(vertices, edges, a, b);
-    accepted(as_number(before))
+    Ok(u32::from(word_before(tables, a, b)))
 }
 
 // Kind 45.
+#[inline(always)]
 fn degree_of(
+    tables: &Tables<'_>,
     closed: &[u64; 64],
-    vertices: &[u32],
-    edges: &[u32],
     types: u32,
     a: u32,
     t: u32,
     c: u32,
-) -> Answer
-    requires { (b : Bounds) × (head : Head) × (g : Graph) × Sized b (state head vertices.now edges.now)
-        × Holds (state head vertices.now edges.now) g }
+) -> Result<u32, Refusal>
+    requires { (b : Bounds) × (head : Head) × (g : Graph) × Sized b (state_of head tables.now)
+        × Holds (state_of head tables.now) g }
     ensures { (g : Graph) → (rows : List ℕ) → (b : Bounds) → (head : Head)
-        → Sized b (state head vertices.now edges.now) → Holds (state head vertices.now edges.now) g → good_rows rows ≡ true
+        → Sized b (state_of head tables.now) → Holds (state_of head tables.now) g → good_rows rows ≡ true
         → closed.now ≡ closure_words rows
-        → result ≡ answer_of (question_code types g (ask.Degree a t c)) (question_number rows g (ask.Degree a t c)) }
+        → answer_by result ≡ answer_of (question_code types g (ask.Degree a t c)) (question_number rows g (ask.Degree a t c)) }
 {
-    let f = find_vertex(vertices, a);
-    let Lookup::Found(_) = f else {
-        return refused(4);
-    };
+    vertex_row(tables, a)?;
     if types <= t {
-        return refused(6);
+        return Err(Refusal::NoType);
     }
-    if 2 < c {
-        return refused(15);
+    if Side::try_from(c).is_err() {
+        return Err(Refusal::NoSide);
     }
-    accepted(degree(closed, vertices, edges, a, t, c))
+    Ok(degree(closed, tables, a, t, c))
 }
 
 // Kind 52.
-fn below_of(closed: &[u64; 64], types: u32, s: u32, t: u32) -> Answer
+#[inline(always)]
+fn below_of(closed: &[u64; 64], types: u32, s: u32, t: u32) -> Result<u32, Refusal>
     ensures { (g : Graph) → (rows : List ℕ) → good_rows rows ≡ true → closed.now ≡ closure_words rows
-        → result ≡ answer_of (question_code types g (ask.Below s t)) (question_number rows g (ask.Below s t)) }
+        → answer_by result ≡ answer_of (question_code types g (ask.Below s t)) (question_number rows g (ask.Below s t)) }
 {
-    if types <= s {
-        return refused(6);
+    if types <= s || types <= t {
+        return Err(Refusal::NoType);
     }
-    if types <= t {
-        return refused(6);
-    }
-    let below = is_below(closed, s, t);
-    accepted(as_number(below))
+    Ok(u32::from(is_below(closed, s, t)))
 }
 
-// The answer to a question; types is their number, closed the closure of some rows.
+// The number that a question asks for.
+#[inline(always)]
+fn number_of(
+    head: Head,
+    tables: &Tables<'_>,
+    closed: &[u64; 64],
+    types: u32,
+    question: Question,
+) -> Result<u32, Refusal>
+    requires sized { (b : Bounds) × (g : Graph) × Sized b (state_of head tables.now)
+        × Holds (state_of head tables.now) g }
+    ensures { (g : Graph) → (rows : List ℕ) → (b : Bounds) → Sized b (state_of head tables.now)
+        → Holds (state_of head tables.now) g → good_rows rows ≡ true → closed.now ≡ closure_words rows
+        → answer_by result ≡ answer_of (question_code types g question) (question_number rows g question) }
+{
+    match question {
+        Question::FirstVertex => Ok(head.vfirst),
+        Question::NextVertex(a) => vertex_word(tables, a, VERTEX_NEXT),
+        Question::FirstEdge => Ok(head.efirst),
+        Question::NextEdge(a) => edge_word(tables, a, EDGE_NEXT),
+        Question::FirstWord(a) => vertex_word(tables, a, VERTEX_FIRST),
+        Question::NextWord(a) => half_word(tables, a, HALF_NEXT),
+        Question::Alpha(a) => edge_word(tables, a, EDGE_ALPHA),
+        Question::Omega(a) => edge_word(tables, a, EDGE_OMEGA),
+        Question::This(a) => half_word(tables, a, HALF_THIS),
+        Question::That(a) => that_word(tables, a),
+        Question::VertexType(a) => vertex_word(tables, a, VERTEX_TYPE),
+        Question::EdgeType(a) => edge_word(tables, a, EDGE_TYPE),
+        Question::Value(a) => vertex_word(tables, a, VERTEX_VALUE),
+        Question::ReadingKind(a) => edge_word(tables, a, EDGE_KIND),
+        Question::Decimetres(a) => edge_word(tables, a, EDGE_DECIMETRES),
+        Question::Degree(a, t, c) => degree_of(tables, closed, types, a, t, c),
+        Question::VertexOrder(a, b) => order_of_vertices(head, tables, a, b),
+        Question::EdgeOrder(a, b) => order_of_edges(head, tables, a, b),
+        Question::WordOrder(a, b) => order_of_words(tables, a, b),
+        Question::Below(s, t) => below_of(closed, types, s, t),
+    }
+}
+
+/// The answer to a question; `types` is their number, `closed` the closure of some rows.
 pub fn reply(
     head: Head,
-    vertices: &[u32],
-    edges: &[u32],
+    tables: &Tables<'_>,
     closed: &[u64; 64],
     types: u32,
     question: Question,
 ) -> Answer
-    requires sized { (b : Bounds) × (g : Graph) × Sized b (state head vertices.now edges.now)
-        × Holds (state head vertices.now edges.now) g }
+    requires sized { (b : Bounds) × (g : Graph) × Sized b (state_of head tables.now)
+        × Holds (state_of head tables.now) g }
     requires by_index { (rows : List ℕ) × (good_rows rows ≡ true) × (closed.now ≡ closure_words rows) }
-    ensures { (g : Graph) → (rows : List ℕ) → (b : Bounds) → Sized b (state head vertices.now edges.now)
-        → Holds (state head vertices.now edges.now) g → good_rows rows ≡ true → closed.now ≡ closure_words rows
+    ensures { (g : Graph) → (rows : List ℕ) → (b : Bounds) → Sized b (state_of head tables.now)
+        → Holds (state_of head tables.now) g → good_rows rows ≡ true → closed.now ≡ closure_words rows
         → result ≡ answer_of (question_code types g question) (question_number rows g question) }
 {
-    match question {
-        Question::FirstVertex => accepted(head.vfirst),
-        Question::NextVertex(a) => vertex_word(vertices, a, VERTEX_NEXT),
-        Question::FirstEdge => accepted(head.efirst),
-        Question::NextEdge(a) => edge_word(edges, a, EDGE_NEXT),
-        Question::FirstWord(a) => vertex_word(vertices, a, VERTEX_FIRST),
-        Question::NextWord(a) => half_word(edges, a, HALF_NEXT),
-        Question::Alpha(a) => edge_word(edges, a, EDGE_ALPHA),
-        Question::Omega(a) => edge_word(edges, a, EDGE_OMEGA),
-        Question::This(a) => half_word(edges, a, HALF_THIS),
-        Question::That(a) => that_word(edges, a),
-        Question::VertexType(a) => vertex_word(vertices, a, VERTEX_TYPE),
-        Question::EdgeType(a) => edge_word(edges, a, EDGE_TYPE),
-        Question::Value(a) => vertex_word(vertices, a, VERTEX_VALUE),
-        Question::ReadingKind(a) => edge_word(edges, a, EDGE_KIND),
-        Question::Decimetres(a) => edge_word(edges, a, EDGE_DECIMETRES),
-        Question::Degree(a, t, c) => degree_of(closed, vertices, edges, types, a, t, c),
-        Question::VertexOrder(a, b) => order_of_vertices(head, vertices, a, b),
-        Question::EdgeOrder(a, b) => order_of_edges(head, edges, a, b),
-        Question::WordOrder(a, b) => order_of_words(vertices, edges, a, b),
-        Question::Below(s, t) => below_of(closed, types, s, t),
-    }
+    Answer::from(number_of(head, tables, closed, types, question))
 }

@@ -17,7 +17,7 @@ use Rattle.text.specs.Reading.{Verdict, calls, unreadable, pieces, good_line, li
 use Rattle.text.specs.ImageLine.{ImageLine, image, other, read_image, line_words, line_verdict}
 use Rattle.text.proofs.ImageLines.{told_other}
 use Rattle.resume_text.specs.declared.Lengths.{Lengths}
-use Rattle.resume_text.specs.Input.{Input, saved, bad_line, first_length, first_line, later_lines, joined, read_input, behind_verdict, input_verdict, words_behind, calls_in}
+use Rattle.resume_text.specs.Input.{Input, saved, bad_line, first_length, first_line, later_lines, joined, read_input, calls_verdict, input_verdict, words_behind, calls_in}
 
 -- ---- the first line
 
@@ -111,24 +111,24 @@ module _ (bytes : List ℕ) where
   none_read e = rw (told_other (read_image (first_line bytes)) e) (refl, refl)
 
   -- an image, and a bad line behind it
-  pub bad_read : (n : ℕ) (u : Unreadable) → Some n ≡ line_verdict (read_image (first_line bytes)) → Err u ≡ behind_verdict (read_text (later_lines bytes)) →
+  pub bad_read : (n : ℕ) (u : Unreadable) → Some n ≡ line_verdict (read_image (first_line bytes)) → Err u ≡ calls_verdict (read_text (later_lines bytes)) →
       (Err u ≡ input_verdict (read_input bytes)) × (calls_in bytes ≡ call_words (read_text (later_lines bytes)))
   unfolding read_input
   bad_read n u e f = go (read_image (first_line bytes)) (read_text (later_lines bytes)) e f
     where
-      go : (l : ImageLine) (v : Verdict) → Some n ≡ line_verdict l → Err u ≡ behind_verdict v →
+      go : (l : ImageLine) (v : Verdict) → Some n ≡ line_verdict l → Err u ≡ calls_verdict v →
           (Err u ≡ input_verdict (joined l v)) × (words_behind l v ≡ call_words v)
       go (image ws) (calls cs) a b = cc
       go (image ws) (unreadable k) a b = (cc, refl)
       go other v a b = cc
 
   -- an image and calls
-  pub both_read : (n k : ℕ) → Some n ≡ line_verdict (read_image (first_line bytes)) → Ok k ≡ behind_verdict (read_text (later_lines bytes)) →
+  pub both_read : (n k : ℕ) → Some n ≡ line_verdict (read_image (first_line bytes)) → Ok k ≡ calls_verdict (read_text (later_lines bytes)) →
       (Ok (record { image = n; calls = k }) ≡ input_verdict (read_input bytes)) × (calls_in bytes ≡ call_words (read_text (later_lines bytes)))
   unfolding read_input
   both_read n k e f = go (read_image (first_line bytes)) (read_text (later_lines bytes)) e f
     where
-      go : (l : ImageLine) (v : Verdict) → Some n ≡ line_verdict l → Ok k ≡ behind_verdict v →
+      go : (l : ImageLine) (v : Verdict) → Some n ≡ line_verdict l → Ok k ≡ calls_verdict v →
           (Ok (record { image = n; calls = k }) ≡ input_verdict (joined l v)) × (words_behind l v ≡ call_words v)
       go (image ws) (calls cs) a b = (cc, refl)
       go (image ws) (unreadable i) a b = cc

@@ -44,9 +44,9 @@ read_input bytes = joined (read_image (first_line bytes)) (read_text (later_line
 -- ---- as the code gives it
 
 -- how many words the calls behind an image have, or the number of the bad line
-abbrev pub behind_verdict : Verdict → Result ℕ Unreadable
-behind_verdict (calls ws) = Ok (length ws)
-behind_verdict (unreadable n) = Err (record { 0 = line_of_all n })
+abbrev pub calls_verdict : Verdict → Result ℕ Unreadable
+calls_verdict (calls ws) = Ok (length ws)
+calls_verdict (unreadable n) = Err (record { 0 = line_of_all n })
 
 abbrev pub input_verdict : Input → Result Lengths Unreadable
 input_verdict (saved start ws) = Ok (record { image = length start; calls = length ws })

@@ -5,7 +5,7 @@ ghost use Rattle.std.specs.Prelude.{◌≡◌, ◌≤◌, length};
 ghost use Rattle.lists.specs.Lists.{overwritten};
 ghost use Rattle.text.specs.Reading.{read_text, call_words};
 ghost use Rattle.text.specs.ImageLine.{read_image, line_words};
-ghost use Rattle.resume_text.specs.Input.{first_length, first_line, behind_verdict};
+ghost use Rattle.resume_text.specs.Input.{first_length, first_line, calls_verdict};
 ghost use Rattle.resume_text.specs.Input.{calls_in, input_verdict, read_input};
 
 use text::{Unreadable, read, read_image};
@@ -30,7 +30,7 @@ fn first_length(bytes: &[u8]) -> usize
 
 // The calls behind the line of an image. A bad line is counted from that line, which is 1.
 fn read_behind(bytes: &[u8], calls: &mut [u32; 5000]) -> Result<usize, Unreadable>
-    ensures verdict { result ≡ behind_verdict (read_text bytes.now) }
+    ensures verdict { result ≡ calls_verdict (read_text bytes.now) }
     ensures calls_after { calls.new
         ≡ overwritten (call_words (read_text bytes.now)) calls.old }
 {

@@ -2,144 +2,132 @@
 // too far is tested here, on the call's words: the step does not test it. What a store has used and the room left to
 // all have one sum over calls of one store, so that as many as may be go to the engine's loop at once.
 ghost use Rattle.std.specs.Prelude.{◌≡◌, List, [], ◌∷◌, ℕ, ◌+◌, ◌*◌, ◌/◌, ◌≤◌, length};
-ghost use Rattle.lists.specs.Choice.{◌⇒◌else◌};
+ghost use Rattle.std.specs.Option.{unwrap_or};
 ghost use Rattle.lists.specs.Lists.{overwritten};
 ghost use Rattle.graph.specs.WellFormed.{Bounds};
 ghost use Rattle.history.specs.Machine.{Machine, free_of};
-ghost use Rattle.marks.specs.Marked.{mark_words, in_set, place_in};
+ghost use Rattle.marks.specs.Marked.{mark_words};
 ghost use Rattle.commands.specs.Calls.{call_at};
+ghost use Rattle.commands.specs.Refusals.{refusal_code};
 ghost use Rattle.machine.specs.HistoryCodes.{out_of_reach};
 ghost use Rattle.history_calls.specs.Memory.{memory};
 ghost use Rattle.history_calls.specs.Represents.{Represents, Stands};
 ghost use Rattle.engine.specs.Running.{Runs, Granted};
-ghost use Rattle.store_calls.specs.Guard.{next_place, place_ahead, may_redo, goes_on, Together, Alike, Takes};
+ghost use Rattle.store_calls.specs.Guard.{standing_place, next_place, place_ahead, may_redo, goes_on, Together, Alike, Takes};
 
+use commands::refusal::Refusal;
 use engine::calls::carry_out;
 use history_calls::Store;
+use marks::{MarkSet, Name};
 
-// The place of mark a where it stands, else the other.
-fn place_or(set: u64, marks: &[u32], other: u32, a: u32) -> u32
+// The kinds that may redo steps (commands::decode). They are read off the word: what is decoded here would be decoded
+// twice, at 19 to 77 in 100 more for a call.
+const REDO: u32 = 20;
+
+const GO_TO: u32 = 21;
+
+const GO_TO_NAME: u32 = 57;
+
+/// The place of mark a, where it stands.
+fn place_of(set: MarkSet, marks: &[u32], a: u32) -> Option<u32>
     requires { length marks.now ≡ mark_words }
-    ensures { result ≡ (in_set set a ⇒ place_in marks.now a else other) }
+    ensures { result ≡ standing_place set.bits marks.now a }
 {
-    if !marks::stands(set, a) {
-        return other;
+    if set.has(a) {
+        Some(marks::place_of(marks, a))
+    } else {
+        None
     }
-    marks::place_of(marks, a)
 }
 
-// One step on, where there is one.
-fn after_next(place: u32, steps: u32) -> u32
+/// One step on, where there is one.
+fn next_place(place: u32, steps: u32) -> Option<u32>
     requires { place ≤ steps }
-    ensures { result ≡ next_place place steps }
+    ensures { unwrap_or result place ≡ next_place place steps }
 {
-    if place == steps {
-        return place;
-    }
-    place + 1
+    if place == steps { None } else { Some(place + 1) }
 }
 
-// The place that a redo, or a call to a mark or a name, leads to; of any other call, and where there is none, the
-// present one.
-fn place_ahead(store: Store, marks: &[u32], call: &[u32]) -> u32
+/// The place that a redo, or a call to a mark or a name, leads to, where there is one; none of any other call.
+fn place_ahead(store: Store, marks: &[u32], call: &[u32]) -> Option<u32>
     requires marks_len { length marks.now ≡ mark_words }
     requires place_le_steps { store.current.position.place ≤ store.current.position.steps }
-    ensures { result ≡ place_ahead store marks.now (call_at call.now) }
+    ensures { unwrap_or result store.current.position.place ≡ place_ahead store marks.now (call_at call.now) }
 {
-    let place = store.current.position.place;
-    let kind = lists::get(call, 0);
-    let b = lists::get(call, 1);
-    if kind == 20 {
-        return after_next(place, store.current.position.steps);
+    let position = store.current.position;
+    match lists::get(call, 0) {
+        REDO => next_place(position.place, position.steps),
+        GO_TO => place_of(store.set, marks, lists::get(call, 1)),
+        GO_TO_NAME => {
+            let name = Name {
+                first: lists::get(call, 1),
+                second: lists::get(call, 2),
+            };
+            place_of(store.set, marks, store.set.holder(marks, 0, name)?)
+        }
+        _ => None,
     }
-    if kind == 21 {
-        return place_or(store.set, marks, place, b);
-    }
-    if kind == 57 {
-        let c = lists::get(call, 2);
-        let a = marks::holder(store.set, marks, 0, b, c);
-        return place_or(store.set, marks, place, a);
-    }
-    place
 }
 
-// Do the steps that a call of five words would redo cost more than is free?
+/// Whether the steps that a call of five words would redo cost more than is free.
 fn beyond(store: Store, journal: &[u32], marks: &[u32], free: u32, call: &[u32]) -> bool
     requires { (vertices edges : List ℕ) × Stands store (memory vertices edges journal.now marks.now) }
     ensures { (vertices edges : List ℕ) → (b : Bounds) → (m : Machine) → (capacity : ℕ)
         → Represents b store (memory vertices edges journal.now marks.now) m
         → free ≡ free_of capacity m.line → result ≡ out_of_reach capacity m (call_at call.now) }
 {
-    let q = place_ahead(store, marks, call);
-    let place = store.current.position.place;
-    if q <= place {
-        return false;
-    }
-    timeline::too_far(store.current.position, journal, free, q - place)
+    let position = store.current.position;
+    let ahead = place_ahead(store, marks, call).unwrap_or(position.place);
+    position.place < ahead && timeline::too_far(position, journal, free, ahead - position.place)
 }
 
-// Is it a kind that may redo steps?
+/// Whether a kind is one that may redo steps.
 fn may_redo(kind: u32) -> bool
     ensures { result ≡ may_redo kind }
 {
-    if kind == 20 {
-        return true;
-    }
-    if kind == 21 {
-        return true;
-    }
-    kind == 57
+    matches!(kind, REDO | GO_TO | GO_TO_NAME)
 }
 
-// Is call k of the first call's store, and, unless there is room for every step, none that may redo?
+/// Whether call k is of the first call's store, and, unless there is room for every step, none that may redo.
 fn goes_on(calls: &[u32], k: usize, ample: bool) -> bool
     requires { 6 * k + 6 ≤ length calls.now }
     ensures { result ≡ goes_on ample k calls.now }
 {
-    if calls[6 * k] != calls[0] {
-        return false;
-    }
-    if ample {
-        return true;
-    }
-    !may_redo(calls[6 * k + 1])
+    calls[6 * k] == calls[0] && (ample || !may_redo(calls[6 * k + 1]))
 }
 
-// How many calls, from the first of these on, are answered by one loop.
+/// How many calls, from the first of these on, are answered by one loop.
 fn stretch_length(calls: &[u32], ample: bool) -> usize
     requires { 6 ≤ length calls.now }
     ensures { Together ample result calls.now }
 {
     let n = calls.len() / 6;
-    let mut k = 1;
-    while k < n {
+    for k in 1..n {
         if !goes_on(calls, k, ample) {
             return k;
         }
-        k += 1;
     }
-    k
+    n
 }
 
-// The answer to a refused call.
-fn refuse(answers: &mut [u32], code: u32)
+/// The answer to a refused call.
+fn refuse(answers: &mut [u32], refusal: Refusal)
     requires { 2 ≤ length answers.old }
-    ensures { answers.new ≡ overwritten (code ∷ 0 ∷ []) answers.old }
+    ensures { answers.new ≡ overwritten (refusal_code refusal ∷ 0 ∷ []) answers.old }
 {
-    answers[0] = code;
-    answers[1] = 0;
+    answers[..2].copy_from_slice(&[refusal.code(), 0]);
 }
 
-// The store after some calls, and how many.
+/// The store after some calls, and how many.
 #[derive(Clone, Copy, Debug, PartialEq, Eq)]
 pub struct Stretch {
     pub store: Store,
     pub calls: usize,
 }
 
-// The first of these calls of six words, and as many behind it as one loop may answer, where so many changes may be
-// remembered up to the place; 21 for a store that is not there, and 10 for want of room to redo. The words of tables,
-// journal and marks are left open, but for the machine that they stand for; so is how many calls are taken.
+/// The first of these calls of six words, and as many behind it as one loop may answer, where so many changes may be
+/// remembered up to the place; 21 for a store that is not there, and 10 for want of room to redo. The words of tables,
+/// journal and marks are left open, but for the machine that they stand for; so is how many calls are taken.
 pub fn answer(
     store: Store,
     vertices: &mut [u32],
@@ -161,12 +149,12 @@ pub fn answer(
         (memory vertices.new edges.new journal.new marks.new) closed.now types calls.now answers.old answers.new }
 {
     if !there {
-        refuse(answers, 21);
+        refuse(answers, Refusal::NoStore);
         return Stretch { store, calls: 1 };
     }
     let free = capacity - store.current.position.used;
     if beyond(store, journal, marks, free, &calls[1..6]) {
-        refuse(answers, 10);
+        refuse(answers, Refusal::NoRoom);
         return Stretch { store, calls: 1 };
     }
     let count = stretch_length(calls, journal.len() / 12 <= capacity as usize);

@@ -6,32 +6,29 @@ ghost use Rattle.store_calls.specs.Serving.{Serves, Served, slot_of, whole};
 
 use crate::guard::answer;
 use history_calls::Store;
-use lists::numbers::smaller;
 
-// Is it the number of one of so many stores?
+/// Whether it is the number of one of so many stores.
 fn is_store(number: u32, stores: usize) -> bool
     ensures { result ≡ within 1 stores number }
 {
-    if number == 0 {
-        return false;
-    }
-    number as usize <= stores
+    1 <= number && number as usize <= stores
 }
 
-// The place of a store among them; the first where there is no such store.
+/// The place of a store among them; the first where there is no such store.
 fn slot(number: u32, stores: usize) -> usize
     requires { 1 ≤ stores }
     ensures value { result ≡ slot_of number stores }
     ensures upper_bound { result < stores }
 {
-    if !is_store(number, stores) {
-        return 0;
+    if is_store(number, stores) {
+        number as usize - 1
+    } else {
+        0
     }
-    number as usize - 1
 }
 
-// Answers each call by two words, code and number; so much room is left to all stores. Store s has the s-th part of
-// each table, of v, e and t words; the words behind the last part stay.
+/// Answers each call by two words, code and number; so much room is left to all stores. Store s has the s-th part of
+/// each table, of v, e and t words; the words behind the last part stay.
 pub fn serve(
     first: [Store; 8],
     vertices: &mut [u32],
@@ -67,7 +64,7 @@ pub fn serve(
         let i = slot(number, stores);
         let x = all[i];
         let used = x.current.position.used;
-        let granted = smaller(capacity, used + room);
+        let granted = capacity.min(used + room);
         let done = answer(
             x,
             &mut vertices[i * v..i * v + v],
@@ -81,7 +78,7 @@ pub fn serve(
             &mut answers[2 * k..2 * n],
             there,
         );
-        let y = history_calls::same(done.store);
+        let y = done.store.same();
         let after = y.current.position.used;
         all[i] = y;
         room = room + used - after;

@@ -12,14 +12,14 @@ use lib.Seq.{take_all, take-length, drop-length, drop-drop, get_or-take}
 use borrow.Author.Tests.{ltb-true, ltb-false, eq-eqb, ne_eqb}
 use Rattle.lists.specs.Choice.{◌⇒◌else◌}
 use Rattle.graph.specs.WellFormed.{Bounds}
-use Rattle.image_check.specs.Checks.{bad_code, bad_offset, code_of, offset_of, load_code, load_offset}
+use Rattle.image_check.specs.Checks.{Verdict, code_of, offset_of, load_code, load_offset}
 use Rattle.machine.specs.Run.{number_beside}
 use Rattle.stores.specs.Refusals.{number_at}
 use Rattle.image.proofs.Headers.{header_words}
 use Rattle.image_check.proofs.LoadCodes.{code_loads}
 use Rattle.image.proofs.Loads.{loaded}
 use Rattle.machine.specs.StoreRun.{stated_length, images_from, starts_code, starts_offset, image_at}
-use Rattle.image_check.specs.declared.BadImage.{BadImage}
+use Rattle.std.specs.Prelude.{Ok, Err}
 use Rattle.image_check.specs.declared.BadImage.TheVariants.{Header, Record, Incidence}
 
 take_min : (n : ℕ) (ws : List ℕ) → take (min n (length ws)) ws ≡ take n ws
@@ -158,7 +158,8 @@ beside_none c = go ((c == 108) || (c == 109))
     go true = refl
     go false = refl
 
-pub number_is : (at : ℕ) (bad : BadImage) → number_at at bad ≡ number_beside (bad_code bad) (at + bad_offset bad)
-number_is at Header = refl
-number_is at (Record offset) = refl
-number_is at (Incidence offset) = refl
+pub number_is : (at : ℕ) (v : Verdict) → number_at at v ≡ number_beside (code_of v) (at + offset_of v)
+number_is at (Ok tt) = refl
+number_is at (Err Header) = refl
+number_is at (Err (Record offset)) = refl
+number_is at (Err (Incidence offset)) = refl

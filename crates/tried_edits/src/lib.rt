@@ -1,363 +1,341 @@
-// An edit tried: 0 and nothing written where its old and its new agree, 10 where there is no room for its row, else it
-// is written down as one row, a step of cost 1, and carried out.
-#![tactic(auto)]
+// An edit tried: nothing is written where its old and its new agree, it is refused where there is no room for its row,
+// else it is written down as one row, a step of cost 1, and carried out.
+// Each edit has its own function and hands its row on as words: an edit by value would be matched once for its row and
+// once for the tables, and a reading built from its two words and taken apart again.
+#![tactic(auto, using(crate::proofs::Tries::tries))]
 
-ghost use Rattle.std.specs.Prelude.{◌≡◌, ◌&&◌, ◌+◌, ◌*◌, ◌^◌, ◌≤◌, ◌<◌, length, ◌==◌};
+ghost use Rattle.std.specs.Prelude.{◌≡◌, ◌≢◌, ◌+◌, ◌*◌, ◌^◌, ◌<◌, set, OnOk, OnErr, Err};
 ghost use Rattle.linked_lists.specs.Links.{CanMove};
 ghost use Rattle.graph.specs.Graph.{reading_of, IsWords};
-ghost use Rattle.graph_tables.specs.Tables.{state, vertex_links, edge_links, vertex_list_ends, edge_list_ends, VertexRowIn};
-ghost use Rattle.graph_tables.specs.Tables.{EdgeRowIn, CanInsertVertex};
-ghost use Rattle.graph_tables.specs.Tables.{CanInsertEdge, CanRemoveEdge, CanMoveWord};
+ghost use Rattle.graph_tables.specs.Tables.{state_of, SameLoan, vertex_links, edge_links, vertex_list_ends, edge_list_ends};
+ghost use Rattle.graph_tables.specs.Tables.{VertexRowIn, EdgeRowIn};
+ghost use Rattle.graph_tables.specs.Tables.{CanInsertVertex, CanInsertEdge, CanRemoveEdge, CanMoveWord};
+ghost use Rattle.journal.specs.Rows.{store_from};
+ghost use Rattle.journal.specs.Rooms.{SameRoom};
+ghost use Rattle.commands.specs.declared.refusal.Refusal.TheVariants.{NoRoom};
 ghost use Rattle.tried_edits.specs.Plans.{removal_of};
-ghost use Rattle.tried_edits.specs.Tried.{attempt, outcome, Tries};
+ghost use Rattle.tried_edits.specs.Tried.{attempt_of, outcome_of, Tries};
 
 use crate::removal::RemovedEdge;
+use commands::refusal::Refusal;
 use graph::{Edit, Reading};
-use graph_tables::edges::place_edge;
-use graph_tables::incidence::attach;
-use graph_tables::{EdgeRecord, Head};
-use journal::put_row;
+use graph_tables::{EdgeRecord, Head, Places, Tables};
+use journal::kinds;
+use journal::room::Room;
 
 pub mod removal; // what the row of an edge says of its removal
 
-// What a change came to: the head after it, its code (0 where it is accepted) and its cost; 0 where it wrote nothing,
-// since it is refused or alters nothing.
+/// What a change that is not refused came to: the head after it and its cost, 0 where it alters nothing and so wrote
+/// nothing.
 #[derive(Clone, Copy, Debug, PartialEq, Eq)]
 pub struct Made {
     pub head: Head,
-    pub code: u32,
     pub cost: u32,
 }
 
-// A change that wrote nothing: refused, or one that alters nothing.
-pub fn unchanged(head: Head, code: u32) -> Made
-    ensures { result ≡ record { head = head; code = code; cost = 0 } }
-{
-    let head = graph_tables::same(head);
-    Made {
-        head,
-        code,
-        cost: 0,
-    }
+/// Type and value of a vertex.
+#[derive(Clone, Copy, Debug, PartialEq, Eq)]
+pub struct VertexWords {
+    pub sort: u32,
+    pub value: u32,
 }
 
-// A change that was made.
-fn altered(head: Head) -> Made
-    ensures { result ≡ record { head = head; code = 0; cost = 1 } }
-{
-    Made {
-        head,
-        code: 0,
-        cost: 1,
-    }
+/// Type of an edge, kind and decimetres of its reading.
+#[derive(Clone, Copy, Debug, PartialEq, Eq)]
+pub struct EdgeWords {
+    pub sort: u32,
+    pub kind: u32,
+    pub decimetres: u32,
 }
 
-fn agree(a: u32, b: u32, c: u32, d: u32) -> bool
-    ensures { result ≡ ((a == b) && (c == d)) }
-{
-    if a != b {
-        return false;
-    }
-    c == d
+/// Where a word stands: in whose list, and after which word.
+#[derive(Clone, Copy, Debug, PartialEq, Eq)]
+pub struct WordPlace {
+    pub vertex: u32,
+    pub after: u32,
 }
 
-// The type and the reading of an edge, as words.
-fn same_edge(
-    sort: u32,
-    sort2: u32,
-    kind: u32,
-    kind2: u32,
-    decimetres: u32,
-    decimetres2: u32,
-) -> bool
-    ensures { result ≡ ((sort == sort2) && ((kind == kind2) && (decimetres == decimetres2))) }
+// Writes the words of an edit down as a step of one row. Where no row is free, nothing is written.
+#[inline(always)]
+fn put_step(room: &mut Room<'_>, words: [u32; 10]) -> Result<(), Refusal>
+    ensures free { OnOk result (room.old.free ≢ 0) }
+    ensures row { OnOk result (room.new.journal.now
+        ≡ set (store_from (12 * room.old.row) words room.old.journal.now) (12 * room.old.row + 10) 1) }
+    ensures full { OnErr result (room.old.free ≡ 0) }
+    ensures refused { OnErr result (result ≡ Err NoRoom) }
+    ensures kept { OnErr result (room.new.journal.now ≡ room.old.journal.now) }
+    ensures same_room { SameRoom room.old room.new }
 {
-    if sort != sort2 {
-        return false;
+    if room.free == 0 {
+        return Err(Refusal::NoRoom);
     }
-    agree(kind, kind2, decimetres, decimetres2)
+    room.put(1, words);
+    Ok(())
 }
 
-// Vertex n, put in after p.
+/// Vertex n, put in after p.
+#[inline(always)]
 pub fn insert_vertex(
+    tables: &mut Tables<'_>,
     head: Head,
-    vertices: &mut [u32],
-    edges: &[u32],
-    journal: &mut [u32],
-    row: u32,
-    free: u32,
+    room: &mut Room<'_>,
     n: u32,
-    sort: u32,
-    value: u32,
+    words: VertexWords,
     p: u32,
-) -> Made
-    requires { CanInsertVertex n p (state head vertices.old edges.now)
-        × ((free ≡ 0 → ⊥) → 12 * row + 12 ≤ length journal.old) }
-    ensures { Tries (Edit.InsertVertex n sort value p)
-        (attempt row free (state head vertices.old edges.now) journal.old)
-        (outcome result.code result.cost (state result.head vertices.new edges.now)
-        journal.new) }
+) -> Result<Made, Refusal>
+    requires { CanInsertVertex n p (state_of head tables.old) }
+    ensures tries { Tries (Edit.InsertVertex n words.sort words.value p) (attempt_of head tables.old room.old)
+        (outcome_of head result tables.new room.new.journal.now) }
+    ensures same_loan { SameLoan tables.old tables.new }
+    ensures same_room { SameRoom room.old room.new }
 {
-    if free == 0 {
-        return unchanged(head, 10);
-    }
-    put_row(journal, row, 1, 1, n, sort, value, p, 0, 0, 0, 0, 0);
-    let head = graph_tables::vertices::insert_vertex(head, vertices, edges, n, sort, value, p);
-    altered(head)
+    put_step(
+        room,
+        [
+            kinds::INSERT_VERTEX,
+            n,
+            words.sort,
+            words.value,
+            p,
+            0,
+            0,
+            0,
+            0,
+            0,
+        ],
+    )?;
+    let head = tables.insert_vertex(head, n, words.sort, words.value, p);
+    Ok(Made { head, cost: 1 })
 }
 
-// As graph_tables::edges::insert_edge, which has no caller here, so that it is compiled into those that it has.
+/// Edge n, put in untested.
+#[inline(always)]
 pub fn insert_edge(
+    tables: &mut Tables<'_>,
     head: Head,
-    vertices: &mut [u32],
-    edges: &mut [u32],
-    journal: &mut [u32],
-    row: u32,
-    free: u32,
+    room: &mut Room<'_>,
     n: u32,
     a: u32,
     z: u32,
     sort: u32,
-    p: u32,
-    out: u32,
-    into: u32,
-) -> Made
-    requires { (n < 2 ^ 31) × CanInsertEdge n a z sort Reading.Untested p out into
-        (state head vertices.old edges.old)
-        × ((free ≡ 0 → ⊥) → 12 * row + 12 ≤ length journal.old) }
-    ensures { Tries (Edit.InsertEdge n a z sort Reading.Untested p out into)
-        (attempt row free (state head vertices.old edges.old) journal.old)
-        (outcome result.code result.cost (state result.head vertices.new edges.new) journal.new) }
+    at: Places,
+) -> Result<Made, Refusal>
+    requires number { n < 2 ^ 31 }
+    requires can { CanInsertEdge n a z sort Reading.Untested at.order at.out at.into (state_of head tables.old) }
+    ensures tries { Tries (Edit.InsertEdge n a z sort Reading.Untested at.order at.out at.into)
+        (attempt_of head tables.old room.old) (outcome_of head result tables.new room.new.journal.now) }
+    ensures same_loan { SameLoan tables.old tables.new }
+    ensures same_room { SameRoom room.old room.new }
 {
-    if free == 0 {
-        return unchanged(head, 10);
-    }
-    put_row(journal, row, 1, 3, n, a, z, sort, 0, 0, p, out, into);
-    let head = place_edge(
-        head,
-        vertices,
-        edges,
-        EdgeRecord {
-            number: n,
-            alpha: a,
-            omega: z,
-            sort: sort,
-            reading: Reading::Untested,
-        },
-        p,
-    );
-    attach(head, vertices, edges, a, out, 2 * n);
-    attach(head, vertices, edges, z, into, 2 * n + 1);
-    altered(head)
+    put_step(
+        room,
+        [
+            kinds::INSERT_EDGE,
+            n,
+            a,
+            z,
+            sort,
+            0,
+            0,
+            at.order,
+            at.out,
+            at.into,
+        ],
+    )?;
+    let edge = EdgeRecord {
+        number: n,
+        alpha: a,
+        omega: z,
+        sort,
+        reading: Reading::Untested,
+    };
+    let head = tables.insert_edge(head, edge, at);
+    Ok(Made { head, cost: 1 })
 }
 
-// Edge n, taken out by the words of its row.
+/// Edge n, taken out by the words of its row.
+#[inline(always)]
 pub fn remove_edge(
+    tables: &mut Tables<'_>,
     head: Head,
-    vertices: &mut [u32],
-    edges: &mut [u32],
-    journal: &mut [u32],
-    row: u32,
-    free: u32,
+    room: &mut Room<'_>,
     n: u32,
     w: RemovedEdge,
-) -> Made
-    requires { (n < 2 ^ 31) × CanRemoveEdge n w.alpha w.omega (state head vertices.old edges.old)
-        × IsWords w.kind w.decimetres × ((free ≡ 0 → ⊥) → 12 * row + 12 ≤ length journal.old) }
-    ensures { Tries (removal_of n w)
-        (attempt row free (state head vertices.old edges.old) journal.old)
-        (outcome result.code result.cost (state result.head vertices.new edges.new) journal.new) }
+) -> Result<Made, Refusal>
+    requires number { n < 2 ^ 31 }
+    requires can { CanRemoveEdge n w.alpha w.omega (state_of head tables.old) }
+    requires words { IsWords w.kind w.decimetres }
+    ensures tries { Tries (removal_of n w) (attempt_of head tables.old room.old)
+        (outcome_of head result tables.new room.new.journal.now) }
+    ensures same_loan { SameLoan tables.old tables.new }
+    ensures same_room { SameRoom room.old room.new }
 {
-    if free == 0 {
-        return unchanged(head, 10);
-    }
-    put_row(
-        journal,
-        row,
-        1,
-        4,
-        n,
-        w.alpha,
-        w.omega,
-        w.sort,
-        w.kind,
-        w.decimetres,
-        w.order,
-        w.out,
-        w.into,
-    );
-    let head = graph_tables::edges::remove_edge(head, vertices, edges, n, w.alpha, w.omega);
-    altered(head)
+    put_step(room, w.row_words(n))?;
+    let head = tables.remove_edge(head, n, w.alpha, w.omega);
+    Ok(Made { head, cost: 1 })
 }
 
-// Type and value of n, from old to new.
+/// Type and value of n, from old to new.
+#[inline(always)]
 pub fn set_vertex(
+    tables: &mut Tables<'_>,
     head: Head,
-    vertices: &mut [u32],
-    edges: &[u32],
-    journal: &mut [u32],
-    row: u32,
-    free: u32,
+    room: &mut Room<'_>,
     n: u32,
-    sort: u32,
-    value: u32,
-    sort2: u32,
-    value2: u32,
-) -> Made
-    requires { VertexRowIn vertices.old n × ((free ≡ 0 → ⊥) → 12 * row + 12 ≤ length journal.old) }
-    ensures { Tries (Edit.SetVertex n sort value sort2 value2)
-        (attempt row free (state head vertices.old edges.now) journal.old)
-        (outcome result.code result.cost (state result.head vertices.new edges.now)
-        journal.new) }
+    old: VertexWords,
+    new: VertexWords,
+) -> Result<Made, Refusal>
+    requires { VertexRowIn tables.old.vertices.now n }
+    ensures tries { Tries (Edit.SetVertex n old.sort old.value new.sort new.value)
+        (attempt_of head tables.old room.old) (outcome_of head result tables.new room.new.journal.now) }
+    ensures same_loan { SameLoan tables.old tables.new }
+    ensures same_room { SameRoom room.old room.new }
 {
-    if agree(sort, sort2, value, value2) {
-        return unchanged(head, 0);
+    if old == new {
+        return Ok(Made { head, cost: 0 });
     }
-    if free == 0 {
-        return unchanged(head, 10);
-    }
-    put_row(
-        journal, row, 1, 5, n, sort, value, sort2, value2, 0, 0, 0, 0,
-    );
-    graph_tables::vertices::set_vertex(head, vertices, edges, n, sort2, value2);
-    altered(head)
+    put_step(
+        room,
+        [
+            kinds::SET_VERTEX,
+            n,
+            old.sort,
+            old.value,
+            new.sort,
+            new.value,
+            0,
+            0,
+            0,
+            0,
+        ],
+    )?;
+    tables.set_vertex(n, new.sort, new.value);
+    Ok(Made { head, cost: 1 })
 }
 
-// Type and reading of n, from old to new.
+/// Type and reading of n, from old to new.
+#[inline(always)]
 pub fn set_edge(
+    tables: &mut Tables<'_>,
     head: Head,
-    vertices: &[u32],
-    edges: &mut [u32],
-    journal: &mut [u32],
-    row: u32,
-    free: u32,
+    room: &mut Room<'_>,
     n: u32,
-    sort: u32,
-    kind: u32,
-    decimetres: u32,
-    sort2: u32,
-    kind2: u32,
-    decimetres2: u32,
-) -> Made
-    requires { EdgeRowIn edges.old n × IsWords kind decimetres × IsWords kind2 decimetres2 × ((free ≡ 0 → ⊥)
-        → 12 * row + 12 ≤ length journal.old) }
-    ensures { Tries (Edit.SetEdge n sort (reading_of kind decimetres) sort2 (reading_of kind2 decimetres2))
-        (attempt row free (state head vertices.now edges.old) journal.old)
-        (outcome result.code result.cost (state result.head vertices.now edges.new)
-        journal.new) }
+    old: EdgeWords,
+    new: EdgeWords,
+) -> Result<Made, Refusal>
+    requires row { EdgeRowIn tables.old.edges.now n }
+    requires old { IsWords old.kind old.decimetres }
+    requires new { IsWords new.kind new.decimetres }
+    ensures tries { Tries (Edit.SetEdge n old.sort (reading_of old.kind old.decimetres) new.sort
+        (reading_of new.kind new.decimetres)) (attempt_of head tables.old room.old)
+        (outcome_of head result tables.new room.new.journal.now) }
+    ensures same_loan { SameLoan tables.old tables.new }
+    ensures same_room { SameRoom room.old room.new }
 {
-    if same_edge(sort, sort2, kind, kind2, decimetres, decimetres2) {
-        return unchanged(head, 0);
+    if old == new {
+        return Ok(Made { head, cost: 0 });
     }
-    if free == 0 {
-        return unchanged(head, 10);
-    }
-    put_row(
-        journal,
-        row,
-        1,
-        6,
-        n,
-        sort,
-        kind,
-        decimetres,
-        sort2,
-        kind2,
-        decimetres2,
-        0,
-        0,
-    );
-    graph_tables::edges::set_edge_words(head, vertices, edges, n, sort2, kind2, decimetres2);
-    altered(head)
+    put_step(
+        room,
+        [
+            kinds::SET_EDGE,
+            n,
+            old.sort,
+            old.kind,
+            old.decimetres,
+            new.sort,
+            new.kind,
+            new.decimetres,
+            0,
+            0,
+        ],
+    )?;
+    tables.set_edge_words(n, new.sort, new.kind, new.decimetres);
+    Ok(Made { head, cost: 1 })
 }
 
-// Vertex n, from after p to after q.
+/// Vertex n, from after p to after q.
+#[inline(always)]
 pub fn move_vertex(
+    tables: &mut Tables<'_>,
     head: Head,
-    vertices: &mut [u32],
-    edges: &[u32],
-    journal: &mut [u32],
-    row: u32,
-    free: u32,
+    room: &mut Room<'_>,
     n: u32,
     p: u32,
     q: u32,
-) -> Made
-    requires { CanMove vertex_links n q vertices.old (vertex_list_ends head) × ((free ≡ 0 → ⊥)
-        → 12 * row + 12 ≤ length journal.old) }
-    ensures { Tries (Edit.MoveVertex n p q)
-        (attempt row free (state head vertices.old edges.now) journal.old)
-        (outcome result.code result.cost (state result.head vertices.new edges.now)
-        journal.new) }
+) -> Result<Made, Refusal>
+    requires { CanMove vertex_links n q tables.old.vertices.now (vertex_list_ends head) }
+    ensures tries { Tries (Edit.MoveVertex n p q) (attempt_of head tables.old room.old)
+        (outcome_of head result tables.new room.new.journal.now) }
+    ensures same_loan { SameLoan tables.old tables.new }
+    ensures same_room { SameRoom room.old room.new }
 {
     if p == q {
-        return unchanged(head, 0);
+        return Ok(Made { head, cost: 0 });
     }
-    if free == 0 {
-        return unchanged(head, 10);
-    }
-    put_row(journal, row, 1, 7, n, p, q, 0, 0, 0, 0, 0, 0);
-    let head = graph_tables::vertices::move_vertex(head, vertices, edges, n, q);
-    altered(head)
+    put_step(room, [kinds::MOVE_VERTEX, n, p, q, 0, 0, 0, 0, 0, 0])?;
+    let head = tables.move_vertex(head, n, q);
+    Ok(Made { head, cost: 1 })
 }
 
-// Edge n, from after p to after q.
+/// Edge n, from after p to after q.
+#[inline(always)]
 pub fn move_edge(
+    tables: &mut Tables<'_>,
     head: Head,
-    vertices: &[u32],
-    edges: &mut [u32],
-    journal: &mut [u32],
-    row: u32,
-    free: u32,
+    room: &mut Room<'_>,
     n: u32,
     p: u32,
     q: u32,
-) -> Made
-    requires { CanMove edge_links n q edges.old (edge_list_ends head)
-        × ((free ≡ 0 → ⊥) → 12 * row + 12 ≤ length journal.old) }
-    ensures { Tries (Edit.MoveEdge n p q)
-        (attempt row free (state head vertices.now edges.old) journal.old)
-        (outcome result.code result.cost (state result.head vertices.now edges.new)
-        journal.new) }
+) -> Result<Made, Refusal>
+    requires { CanMove edge_links n q tables.old.edges.now (edge_list_ends head) }
+    ensures tries { Tries (Edit.MoveEdge n p q) (attempt_of head tables.old room.old)
+        (outcome_of head result tables.new room.new.journal.now) }
+    ensures same_loan { SameLoan tables.old tables.new }
+    ensures same_room { SameRoom room.old room.new }
 {
     if p == q {
-        return unchanged(head, 0);
+        return Ok(Made { head, cost: 0 });
     }
-    if free == 0 {
-        return unchanged(head, 10);
-    }
-    put_row(journal, row, 1, 8, n, p, q, 0, 0, 0, 0, 0, 0);
-    let head = graph_tables::edges::move_edge(head, vertices, edges, n, q);
-    altered(head)
+    put_step(room, [kinds::MOVE_EDGE, n, p, q, 0, 0, 0, 0, 0, 0])?;
+    let head = tables.move_edge(head, n, q);
+    Ok(Made { head, cost: 1 })
 }
 
-// A word, from its place in a list to a place in the same or another list.
+/// A word, from its place in a list to a place in the same or another list.
+#[inline(always)]
 pub fn move_word(
+    tables: &mut Tables<'_>,
     head: Head,
-    vertices: &mut [u32],
-    edges: &mut [u32],
-    journal: &mut [u32],
-    row: u32,
-    free: u32,
+    room: &mut Room<'_>,
     w: u32,
-    v: u32,
-    p: u32,
-    u: u32,
-    q: u32,
-) -> Made
-    requires { CanMoveWord w v u q (state head vertices.old edges.old)
-        × ((free ≡ 0 → ⊥) → 12 * row + 12 ≤ length journal.old) }
-    ensures { Tries (Edit.MoveWord w v p u q)
-        (attempt row free (state head vertices.old edges.old) journal.old)
-        (outcome result.code result.cost (state result.head vertices.new edges.new) journal.new) }
+    from: WordPlace,
+    to: WordPlace,
+) -> Result<Made, Refusal>
+    requires { CanMoveWord w from.vertex to.vertex to.after (state_of head tables.old) }
+    ensures tries { Tries (Edit.MoveWord w from.vertex from.after to.vertex to.after)
+        (attempt_of head tables.old room.old) (outcome_of head result tables.new room.new.journal.now) }
+    ensures same_loan { SameLoan tables.old tables.new }
+    ensures same_room { SameRoom room.old room.new }
 {
-    if agree(v, u, p, q) {
-        return unchanged(head, 0);
+    if from == to {
+        return Ok(Made { head, cost: 0 });
     }
-    if free == 0 {
-        return unchanged(head, 10);
-    }
-    put_row(journal, row, 1, 9, w, v, p, u, q, 0, 0, 0, 0);
-    graph_tables::incidence::move_word(head, vertices, edges, w, v, u, q);
-    altered(head)
+    put_step(
+        room,
+        [
+            kinds::MOVE_WORD,
+            w,
+            from.vertex,
+            from.after,
+            to.vertex,
+            to.after,
+            0,
+            0,
+            0,
+            0,
+        ],
+    )?;
+    tables.move_word(w, from.vertex, to.vertex, to.after);
+    Ok(Made { head, cost: 1 })
 }

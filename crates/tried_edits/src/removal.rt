@@ -1,13 +1,13 @@
 // What the row of an edge's removal says of the edge, read off its row in the table.
-ghost use Rattle.std.specs.Prelude.{◌≡◌, ◌^◌, ◌<◌};
+ghost use Rattle.std.specs.Prelude.{◌≡◌, ◌^◌, ◌<◌, ◌∷◌, []};
 ghost use Rattle.graph_tables.specs.Tables.{EdgeRowIn};
 ghost use Rattle.tried_edits.specs.Plans.{removed_edge};
 
+use graph_tables::Tables;
 use graph_tables::fields::{EDGE_PREV, HALF_PREV, HALF_THIS};
-use graph_tables::rows::{edge_field, edge_fields, half_field};
-use lists::numbers::choose;
+use journal::kinds;
 
-// Ends, type, reading, and after which edge and which words it stands, the out word once the in word is gone.
+/// Ends, type, reading, and after which edge and which words it stands, the out word once the in word is gone.
 #[derive(Clone, Copy, Debug, PartialEq, Eq)]
 pub struct RemovedEdge {
     pub alpha: u32,
@@ -20,26 +20,47 @@ pub struct RemovedEdge {
     pub into: u32,
 }
 
-// These words of edge n, read off its row. Its ends are read by its two words, whose places are read too: with ends
-// from the start of the row every question takes more instructions.
-pub fn removed_edge(edges: &[u32], n: u32) -> RemovedEdge
-    requires { (n < 2 ^ 31) × EdgeRowIn edges.now n }
-    ensures { result ≡ removed_edge edges.now n }
+impl RemovedEdge {
+    /// The words of the row of the removal of edge n.
+    #[inline(always)]
+    pub fn row_words(self, n: u32) -> [u32; 10]
+        ensures { result ≡ 4 ∷ n ∷ self.alpha ∷ self.omega ∷ self.sort ∷ self.kind ∷ self.decimetres ∷ self.order
+            ∷ self.out ∷ self.into ∷ [] }
+    {
+        [
+            kinds::REMOVE_EDGE,
+            n,
+            self.alpha,
+            self.omega,
+            self.sort,
+            self.kind,
+            self.decimetres,
+            self.order,
+            self.out,
+            self.into,
+        ]
+    }
+}
+
+/// These words of edge n, read off its row. Its ends are read by its two words, whose places are read too: with ends
+/// from the start of the row every question takes more instructions.
+#[inline(always)]
+#[tactic(auto, unfolding(lists::specs::Choice::if_equal))]
+pub fn removed_edge(tables: &Tables<'_>, n: u32) -> RemovedEdge
+    requires { (n < 2 ^ 31) × EdgeRowIn tables.now.edges.now n }
+    ensures { result ≡ removed_edge tables.now.edges.now n }
 {
-    let w = edge_fields(edges, n);
-    let alpha = half_field(edges, 2 * n, HALF_THIS);
-    let omega = half_field(edges, 2 * n + 1, HALF_THIS);
-    let order = edge_field(edges, n, EDGE_PREV);
-    let p = half_field(edges, 2 * n, HALF_PREV);
-    let into = half_field(edges, 2 * n + 1, HALF_PREV);
-    let out = choose(p, 2 * n + 1, into, p);
+    let w = tables.edge_fields(n);
+    let before = tables.half_field(2 * n, HALF_PREV);
+    let into = tables.half_field(2 * n + 1, HALF_PREV);
+    let out = if before == 2 * n + 1 { into } else { before };
     RemovedEdge {
-        alpha,
-        omega,
+        alpha: tables.half_field(2 * n, HALF_THIS),
+        omega: tables.half_field(2 * n + 1, HALF_THIS),
         sort: w.sort,
         kind: w.kind,
         decimetres: w.decimetres,
-        order,
+        order: tables.edge_field(n, EDGE_PREV),
         out,
         into,
     }

@@ -197,14 +197,6 @@ module _ {x : Change} {o : StepStart} {c : ℕ} {n : Stage} (k : Making x o c n)
       (subst (λ (y : Graph). Holds n.state y) g k.holds) y z (v ∙ sym e))
 
 -- what a change costs is read off the tables
-pub cost_same : (x : Change) (b b' : Bounds) (j j' : Position) (s : State) (t : List ℕ) (l l' : Timeline) → Journal b j s t l → Journal b' j' s t l' → (c : ℕ) → c ≡ cost x (present_in l)
+pub cost_same : (x : Change) (b b' : Bounds) (j : Position) (s : State) (t : List ℕ) (l l' : Timeline) → Journal b j s t l → Journal b' j s t l' → (c : ℕ) → c ≡ cost x (present_in l)
     → c ≡ cost x (present_in l')
-cost_same x b b' j j' s t l l' k k' c q = q ∙ ap (cost x) (holds_one s (present_in l) (present_in l') (holds_current b j s t l k) (holds_current b' j' s t l' k'))
-
--- ---- the loop: of any position whose rows end at `base`
-
-pub record RemovalLoop (x : Change) (base c : ℕ) (s₀ : State) (t₀ : List ℕ) (n : Stage) : Type 0 where
-  pub vlen : length n.state.vertices ≡ length s₀.vertices
-  pub elen : length n.state.edges ≡ length s₀.edges
-  pub tlen : length n.journal ≡ length t₀
-  pub goes : (j : Position) (b : Bounds) (l : Timeline) → j.used ≡ base → Journal b j s₀ t₀ l → Allowed b (present_in l) x → Making x (step_start b j s₀ t₀ l) c n
+cost_same x b b' j s t l l' k k' c q = q ∙ ap (cost x) (holds_one s (present_in l) (present_in l') (holds_current b j s t l k) (holds_current b' j s t l' k'))

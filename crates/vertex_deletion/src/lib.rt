@@ -6,7 +6,8 @@ ghost use Rattle.graph.specs.Graph.{Graph, IsWords};
 ghost use Rattle.graph.specs.WellFormed.{Bounds};
 ghost use Rattle.graph.specs.Changes.{cost, Allowed};
 ghost use Rattle.history.specs.Machine.{Timeline, present_in};
-ghost use Rattle.graph_tables.specs.Tables.{state, VertexRowIn, EdgeRowIn, ekind, edecimetres};
+ghost use Rattle.graph_tables.specs.declared.Head.{Head};
+ghost use Rattle.graph_tables.specs.Tables.{state_of, SameLoan, VertexRowIn, EdgeRowIn, ekind, edecimetres};
 ghost use Rattle.graph_tables.specs.Edits.{Can};
 ghost use Rattle.graph_tables.specs.Holds.{Holds};
 ghost use Rattle.graph_tables.specs.Capacities.{Sized};
@@ -16,114 +17,105 @@ ghost use Rattle.tried_edits.specs.Plans.{plan_remove_vertex, plan_remove_edge};
 ghost use Rattle.timeline.specs.Steps.{Journal};
 ghost use Rattle.vertex_deletion.specs.Making.{next_edit, step_start, stage, Making};
 ghost use Rattle.vertex_deletion.specs.Deleting.{Deletes};
-ghost use Rattle.tried_edits.specs.Tried.{outcome};
+ghost use Rattle.tried_edits.specs.Tried.{outcome_of};
 
+use commands::refusal::Refusal;
 use graph::Change;
 use graph_tables::fields::{VERTEX_FIRST, VERTEX_PREV, VERTEX_TYPE, VERTEX_VALUE};
-use graph_tables::lookups::find_vertex;
-use graph_tables::rows::vertex_field;
-use graph_tables::{Head, Lookup};
-use journal::put_row;
+use graph_tables::{Head, Lookup, Tables};
+use journal::{kinds, put_row};
 use timeline::Current;
+use tried_edits::Made;
 use tried_edits::removal::removed_edge;
-use tried_edits::{Made, unchanged};
 
 // What the deletion of vertex a, which is there, costs: 1, and one more for each distinct edge at it.
-fn cost_of(head: Head, vertices: &[u32], edges: &[u32], a: u32) -> u32
-    requires { (b : Bounds) × (g : Graph) × Sized b (state head vertices.now edges.now)
-        × Holds (state head vertices.now edges.now) g × Allowed b g (Change.DeleteVertex a) }
-    ensures { (b : Bounds) → (g : Graph) → Holds (state head vertices.now edges.now) g
+fn cost_of(tables: &Tables<'_>, a: u32) -> u32
+    requires { (head : Head) × (b : Bounds) × (g : Graph) × Sized b (state_of head tables.now)
+        × Holds (state_of head tables.now) g × Allowed b g (Change.DeleteVertex a) }
+    ensures { (head : Head) → (b : Bounds) → (g : Graph) → Holds (state_of head tables.now) g
         → Allowed b g (Change.DeleteVertex a) → result ≡ cost (Change.DeleteVertex a) g }
 {
-    walks::counting::count_edges(vertices, edges, a) + 1
+    walks::counting::count_edges(tables, a) + 1
 }
 
 // Takes edge n out, as one row of a step of this cost.
+#[inline(always)]
 fn remove_edge(
+    tables: &mut Tables<'_>,
     head: Head,
-    vertices: &mut [u32],
-    edges: &mut [u32],
     journal: &mut [u32],
     row: u32,
     cost: u32,
     n: u32,
 ) -> Head
-    requires { (12 * row + 12 ≤ length journal.old) × EdgeRowIn edges.old n
-        × Can (plan_remove_edge edges.old n) (state head vertices.old edges.old)
-        × IsWords (ekind edges.old n) (edecimetres edges.old n) }
-    ensures { Written (plan_remove_edge edges.old n) (costing cost) row (state head vertices.old edges.old)
-        journal.old (state result vertices.new edges.new) journal.new }
+    requires room { 12 * row + 12 ≤ length journal.old }
+    requires row { EdgeRowIn tables.old.edges.now n }
+    requires can { Can (plan_remove_edge tables.old.edges.now n) (state_of head tables.old) }
+    requires words { IsWords (ekind tables.old.edges.now n) (edecimetres tables.old.edges.now n) }
+    ensures made { Written (plan_remove_edge tables.old.edges.now n) (costing cost) row (state_of head tables.old)
+        journal.old (state_of result tables.new) journal.new }
+    ensures same_loan { SameLoan tables.old tables.new }
 {
-    let w = removed_edge(edges, n);
-    put_row(
-        journal,
-        row,
-        cost,
-        4,
-        n,
-        w.alpha,
-        w.omega,
-        w.sort,
-        w.kind,
-        w.decimetres,
-        w.order,
-        w.out,
-        w.into,
-    );
-    graph_tables::edges::remove_edge(head, vertices, edges, n, w.alpha, w.omega)
+    let removed = removed_edge(tables, n);
+    put_row(journal, row, cost, removed.row_words(n));
+    tables.remove_edge(head, n, removed.alpha, removed.omega)
 }
 
 // Takes vertex n out, whose list is empty, as one row of a step of this cost.
+#[inline(always)]
 fn remove_vertex(
+    tables: &mut Tables<'_>,
     head: Head,
-    vertices: &mut [u32],
-    edges: &[u32],
     journal: &mut [u32],
     row: u32,
     cost: u32,
     n: u32,
 ) -> Head
-    requires { (12 * row + 12 ≤ length journal.old) × VertexRowIn vertices.old n
-        × Can (plan_remove_vertex vertices.old n) (state head vertices.old edges.now) }
-    ensures { Written (plan_remove_vertex vertices.old n) (costing cost) row
-        (state head vertices.old edges.now) journal.old (state result vertices.new edges.now)
-        journal.new }
+    requires room { 12 * row + 12 ≤ length journal.old }
+    requires row { VertexRowIn tables.old.vertices.now n }
+    requires can { Can (plan_remove_vertex tables.old.vertices.now n) (state_of head tables.old) }
+    ensures made { Written (plan_remove_vertex tables.old.vertices.now n) (costing cost) row
+        (state_of head tables.old) journal.old (state_of result tables.new) journal.new }
+    ensures same_loan { SameLoan tables.old tables.new }
 {
-    let s = vertex_field(vertices, n, VERTEX_TYPE);
-    let x = vertex_field(vertices, n, VERTEX_VALUE);
-    let p = vertex_field(vertices, n, VERTEX_PREV);
-    put_row(journal, row, cost, 2, n, s, x, p, 0, 0, 0, 0, 0);
-    graph_tables::vertices::remove_vertex(head, vertices, edges, n)
+    let sort = tables.vertex_field(n, VERTEX_TYPE);
+    let value = tables.vertex_field(n, VERTEX_VALUE);
+    let p = tables.vertex_field(n, VERTEX_PREV);
+    let words = [kinds::REMOVE_VERTEX, n, sort, value, p, 0, 0, 0, 0, 0];
+    put_row(journal, row, cost, words);
+    tables.remove_vertex(head, n)
 }
 
 // The next row of the deletion of vertex a: the first edge at it goes, or a itself where none is left.
+#[inline(always)]
 fn next_row(
+    tables: &mut Tables<'_>,
     head: Head,
-    vertices: &mut [u32],
-    edges: &mut [u32],
     journal: &mut [u32],
     row: u32,
     cost: u32,
     a: u32,
 ) -> Head
-    requires { (12 * row + 12 ≤ length journal.old)
-        × ((b : Bounds) × (g : Graph) × Sized b (state head vertices.old edges.old)
-        × Holds (state head vertices.old edges.old) g × Allowed b g (Change.DeleteVertex a)) }
-    ensures { Written (next_edit (state head vertices.old edges.old) a) (costing cost) row
-        (state head vertices.old edges.old) journal.old (state result vertices.new edges.new) journal.new }
+    requires room { 12 * row + 12 ≤ length journal.old }
+    requires holds { (b : Bounds) × (g : Graph) × Sized b (state_of head tables.old)
+        × Holds (state_of head tables.old) g × Allowed b g (Change.DeleteVertex a) }
+    ensures made { Written (next_edit (state_of head tables.old) a) (costing cost) row
+        (state_of head tables.old) journal.old (state_of result tables.new) journal.new }
+    ensures same_loan { SameLoan tables.old tables.new }
 {
-    let w = vertex_field(vertices, a, VERTEX_FIRST);
-    if w != 0 {
-        return remove_edge(head, vertices, edges, journal, row, cost, w / 2);
+    let word = tables.vertex_field(a, VERTEX_FIRST);
+    if word == 0 {
+        remove_vertex(tables, head, journal, row, cost, a)
+    } else {
+        remove_edge(tables, head, journal, row, cost, word / 2)
     }
-    remove_vertex(head, vertices, edges, journal, row, cost, a)
 }
 
 // The rows of the deletion of vertex a, one after another.
+#[inline(always)]
 fn make_rows(
+    tables: &mut Tables<'_>,
     current: Current,
-    vertices: &mut [u32],
-    edges: &mut [u32],
     journal: &mut [u32],
     a: u32,
     rows: u32,
@@ -131,55 +123,48 @@ fn make_rows(
     requires { (b : Bounds) × (l : Timeline) × Allowed b (present_in l) (Change.DeleteVertex a)
         × (rows ≡ cost (Change.DeleteVertex a) (present_in l))
         × (12 * (current.position.used + rows) ≤ length journal.old)
-        × Journal b current.position (state current.head vertices.old edges.old) journal.old l }
-    ensures { (b : Bounds) → (l : Timeline) → Allowed b (present_in l) (Change.DeleteVertex a)
-        → Journal b current.position (state current.head vertices.old edges.old) journal.old l
+        × Journal b current.position (state_of current.head tables.old) journal.old l }
+    ensures made { (b : Bounds) → (l : Timeline) → Allowed b (present_in l) (Change.DeleteVertex a)
+        → Journal b current.position (state_of current.head tables.old) journal.old l
         → Making (Change.DeleteVertex a)
-        (step_start b current.position (state current.head vertices.old edges.old) journal.old l) rows
-        (stage (state result vertices.new edges.new) journal.new (current.position.used + rows)) }
+        (step_start b current.position (state_of current.head tables.old) journal.old l) rows
+        (stage (state_of result tables.new) journal.new (current.position.used + rows)) }
+    ensures same_loan { SameLoan tables.old tables.new }
 {
-    let mut h = current.head;
-    let mut u = current.position.used;
-    let end = u + rows;
-    while u != end {
-        let v = u + 1;
-        h = next_row(h, vertices, edges, journal, u, rows, a);
-        u = v;
+    let mut head = current.head;
+    let used = current.position.used;
+    for row in used..used + rows {
+        head = next_row(tables, head, journal, row, rows, a);
     }
-    h
+    head
 }
 
-// Kind 2 as one step: a row for each edge at the vertex, then one for the vertex. Code 4 where it is not there, then 10
-// where it costs more than is free; cost 0 says so, and that nothing was written. Else the words of tables and journal
-// are left open, but for the timeline that they stand for.
-// The call's word may be any; that tables and journal stand for a timeline, the run sees to.
+/// Kind 2 as one step: a row for each edge at the vertex, then one for the vertex. Refused where it is not there, then
+/// where it costs more than is free, and then nothing is written. Else the words of tables and journal are left open,
+/// but for the timeline that they stand for.
+/// The call's word may be any; that tables and journal stand for a timeline, the run sees to.
+#[inline(always)]
 pub fn delete(
+    tables: &mut Tables<'_>,
     current: Current,
-    vertices: &mut [u32],
-    edges: &mut [u32],
     journal: &mut [u32],
     free: u32,
     vertex: u32,
-) -> Made
+) -> Result<Made, Refusal>
     requires { (b : Bounds) × (l : Timeline)
-        × Journal b current.position (state current.head vertices.old edges.old) journal.old l
+        × Journal b current.position (state_of current.head tables.old) journal.old l
         × (12 * (current.position.used + free) ≤ length journal.old) }
-    ensures { Deletes vertex free current.position (state current.head vertices.old edges.old)
-        journal.old
-        (outcome result.code result.cost (state result.head vertices.new edges.new) journal.new) }
+    ensures made { Deletes vertex free current.position (state_of current.head tables.old) journal.old
+        (outcome_of current.head result tables.new journal.new) }
+    ensures same_loan { SameLoan tables.old tables.new }
 {
-    let found = find_vertex(vertices, vertex);
-    let Lookup::Found(_) = found else {
-        return unchanged(current.head, 4);
+    let Lookup::Found(_) = tables.find_vertex(vertex) else {
+        return Err(Refusal::NoVertex);
     };
-    let cost = cost_of(current.head, vertices, edges, vertex);
+    let cost = cost_of(tables, vertex);
     if free < cost {
-        return unchanged(current.head, 10);
+        return Err(Refusal::NoRoom);
     }
-    let head = make_rows(current, vertices, edges, journal, vertex, cost);
-    Made {
-        head,
-        code: 0,
-        cost,
-    }
+    let head = make_rows(tables, current, journal, vertex, cost);
+    Ok(Made { head, cost })
 }

@@ -4,19 +4,19 @@ use lib.ListN.{length, get_or, replicate}
 use Rattle.lists.specs.Lists.{member}
 use Rattle.graph.specs.WellFormed.{words_at}
 use Rattle.image.specs.Image.{edges_from, numbers_in}
+use Rattle.std.proofs.lemmas.Result.{err_from_is_err_and}
 use Rattle.image_check.specs.Checks.{code_of}
 use Rattle.image_check.proofs.Verdicts.{code_not_zero}
 use Rattle.arrangement.specs.Scratch.{marked, settled}
-use Rattle.arrangement.proofs.Settles.{refused_is}
 use Rattle.arrangement.proofs.Items.{size_least, vertices_whole, edges_whole, words_refused, words_missing, words_settled}
 use Rattle.arrangement.proofs.arrange_words.Goals as goal
 
-pub returns-in-Err : goal.returns-in-Err
-returns-in-Err c =
+pub returns-in_err-check_saved : goal.returns-in_err-check_saved
+returns-in_err-check_saved c =
     let a = c.args in
-    refused_is c.refused.result a.list.now c.code.result c.refused.ensures
-    ∙ words_refused a.words.now a.wanted.now a.list.now c.code.result
-    (c.code.ensures ∙ ap code_of (sym c.in-Err.is ∙ c.check_saved.ensures)) (λ z. code_not_zero _ (sym c.code.ensures ∙ z)) a.vertex
+    let p = err_from_is_err_and c.from_residual.result c.from_residual.ensures.1 in
+    rw (p.1, p.2)
+    (words_refused a.words.now a.wanted.now a.list.now _ (ap code_of (sym c.in_err-check_saved.was ∙ c.check_saved.ensures)) (code_not_zero _) a.vertex)
 
 pub has_number-requires : goal.has_number-requires
 has_number-requires c = size_least c.args.words.now _ c.record_size.ensures.0
@@ -24,22 +24,21 @@ has_number-requires c = size_least c.args.words.now _ c.record_size.ensures.0
 pub returns-then-not-has_number : goal.returns-then-not-has_number
 returns-then-not-has_number c =
     let a = c.args in
-    let z = ap code_of (sym c.check_saved.ensures ∙ c.in_default.is) in
+    let z = ap code_of (sym c.check_saved.ensures ∙ c.in_ok-check_saved.was) in
     let size = c.record_size.ensures.0 in
-    let part = c.part.ensures.0 in
+    let part = c.within.ensures.0 in
     let v = get_or a.words.now 0 0 in
     let has = c.has_number.ensures v (vertices_whole a.words.now z _ v size refl _ part) in
-    refused_is c.refused-then-not-has_number.result a.list.now 4 c.refused-then-not-has_number.ensures
-    ∙ words_missing a.words.now z a.vertex a.wanted.now a.list.now
+    words_missing a.words.now z a.vertex a.wanted.now a.list.now
     (sym (has ∙ (λ i. member a.vertex (numbers_in (size i) v (part i)))) ∙ not-true _ c.if-not-has_number.true-raw)
 
 pub returns : goal.returns
 returns c =
     let a = c.args in
-    let z = ap code_of (sym c.check_saved.ensures ∙ c.in_default.is) in
+    let z = ap code_of (sym c.check_saved.ensures ∙ c.in_ok-check_saved.was) in
     let size = c.record_size.ensures.0 in
-    let part = c.part.ensures.0 in
-    let part2 = c.part-2.ensures.0 in
+    let part = c.within.ensures.0 in
+    let part2 = c.within-2.ensures.0 in
     let v = get_or a.words.now 0 0 in
     let e = get_or a.words.now 1 0 in
     let has = c.has_number.ensures v (vertices_whole a.words.now z _ v size refl _ part) in

@@ -1,19 +1,12 @@
+use Prim.Native.Nat.{◌+◌, ◌-◌}
+use mathlib.Core.List.{[], ◌∷◌}
 use native.Mathlib.Omega.{arith}
-use lib.ListN.{length-set}
-use Rattle.arrangement.proofs.Turns.{five_stores}
+use Rattle.arrangement.specs.Orders.{kind_number}
+use Rattle.arrangement.proofs.Turns.{copied}
 use Rattle.arrangement.proofs.write_call.Goals as goal
 
 pub returns : goal.returns
-returns c = five_stores c.args.list.now c.args.at c.args.kind c.args.a c.args.b
-
-pub bounds-list-at-2 : goal.bounds-list-at-2
-bounds-list-at-2 c = simp length-set (omega (arith, c.requires))
-
-pub bounds-list-at-3 : goal.bounds-list-at-3
-bounds-list-at-3 c = simp length-set (omega (arith, c.requires))
-
-pub bounds-list-at-4 : goal.bounds-list-at-4
-bounds-list-at-4 c = simp length-set (omega (arith, c.requires))
-
-pub bounds-list-at-5 : goal.bounds-list-at-5
-bounds-list-at-5 c = simp length-set (omega (arith, c.requires))
+returns c =
+    let a = c.args in
+    rw (c.copy_from_slice.ensures.after, c.number.ensures)
+    (copied a.list.now (kind_number a.kind ∷ a.a ∷ a.b ∷ 0 ∷ 0 ∷ []) a.at (a.at + 5 - a.at) c.requires (omega arith))

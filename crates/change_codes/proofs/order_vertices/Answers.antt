@@ -1,20 +1,11 @@
-use mathlib.Core.Path.{sym, ◌∙◌}
-use Rattle.change_codes.proofs.Meanings.{with_meaning, vertices_then}
+use mathlib.Core.Path.{◌∙◌}
+use Rattle.std.proofs.Common.{arith}
+use Rattle.std.proofs.lemmas.Grind.{common_steps}
+use Rattle.change_codes.proofs.Meanings.{vertices_then}
 use Rattle.change_codes.proofs.order_vertices.Goals as goal
 
-pub returns-in_default : goal.returns-in_default
-returns-in_default c = let all = with_meaning (rw (sym c.find_vertex-f.ensures ∙ c.in_default.is)) (λ g h. vertices_then _ g h _ _ _) in record { value = all.0; value_2 = all.1 }
+pub returns-in_err-check_vertices-clause-of_graph : goal.returns-in_err-check_vertices-clause-of_graph
+returns-in_err-check_vertices-clause-of_graph c = λ g h. grind (arith, common_steps) ∙ vertices_then _ g h c.args.x c.args.y _
 
-pub returns-in_default-h : goal.returns-in_default-h
-returns-in_default-h c =
-    let all = with_meaning (rw (
-      sym c.find_vertex-f.ensures ∙ c.in-Found.is,
-      sym c.find_vertex-h.ensures ∙ c.in_default-h.is,
-    )) (λ g h. vertices_then _ g h _ _ _) in record { value = all.0; value_2 = all.1 }
-
-pub returns : goal.returns
-returns c =
-    let all = with_meaning (rw (
-      sym c.find_vertex-f.ensures ∙ c.in-Found.is,
-      sym c.find_vertex-h.ensures ∙ c.in-Found-h.is,
-    ) c.twice_code.ensures) (λ g h. vertices_then _ g h _ _ _) in record { value = all.0; value_2 = all.1 }
+pub returns-clause-of_graph : goal.returns-clause-of_graph
+returns-clause-of_graph c = λ g h. grind (arith, common_steps) ∙ vertices_then _ g h c.args.x c.args.y _

@@ -1,49 +1,21 @@
-use mathlib.Core.Path.{sym, ◌∙◌}
-use borrow.Author.Tests.{eq-eqb, ne_eqb}
-use Rattle.change_codes.proofs.Meanings.{with_meaning, words_then}
-use Rattle.graph_tables.proofs.LookedUp.{word_in}
-use native.Mathlib.Omega.{arith}
+use mathlib.Core.Path.{sym, ap, ◌∙◌}
+use Rattle.std.proofs.Common.{arith}
+use Rattle.std.proofs.lemmas.Grind.{common_steps}
+use Rattle.commands.specs.Refusals.{code_if_refused}
+use Rattle.change_codes.proofs.Meanings.{words_then, words_in}
 use Rattle.change_codes.proofs.order_words.Goals as goal
 
-pub returns-in_default : goal.returns-in_default
-returns-in_default c = let all = with_meaning (rw (sym c.find_word-f.ensures ∙ c.in_default.is)) (λ g h. words_then _ g h _ _ _) in record { value = all.0; value_2 = all.1 }
+pub returns-in_err-check_edges-clause-of_graph : goal.returns-in_err-check_edges-clause-of_graph
+returns-in_err-check_edges-clause-of_graph c = λ g h. grind (arith, common_steps) ∙ words_then _ g h c.args.x c.args.y _
 
-pub returns-in_default-h : goal.returns-in_default-h
-returns-in_default-h c =
-    let all = with_meaning
-    (rw (
-      sym c.find_word-f.ensures ∙ c.in-Found.is,
-      sym c.find_word-h.ensures
-          ∙ c.in_default-h.is,
-    )) (λ g h. words_then _ g h _ _ _) in record { value = all.0; value_2 = all.1 }
+pub half_field-requires-clause-row : goal.half_field-requires-clause-row
+half_field-requires-clause-row c = (words_in _ c.args.x c.args.y (ap code_if_refused (sym c.in_ok-check_edges.was) ∙ c.check_edges.ensures)).0
 
-pub returns-then-half_field : goal.returns-then-half_field
-returns-then-half_field c =
-    let all = with_meaning
-    (rw (
-      sym c.find_word-f.ensures ∙ c.in-Found.is,
-      sym c.find_word-h.ensures ∙ c.in-Found-h.is,
-      ne_eqb _ _ (λ e. c.if-half_field.true (c.half_field.ensures ∙ e ∙ sym c.half_field-2.ensures)),
-    )) (λ g h. words_then _ g h _ _ _) in record { value = all.0; value_2 = all.1 }
+pub half_field-requires-2-clause-row : goal.half_field-requires-2-clause-row
+half_field-requires-2-clause-row c = (words_in _ c.args.x c.args.y (ap code_if_refused (sym c.in_ok-check_edges.was) ∙ c.check_edges.ensures)).1
 
-pub returns : goal.returns
-returns c =
-    let all = with_meaning
-    (rw (
-      sym c.find_word-f.ensures
-          ∙ c.in-Found.is,
-      sym c.find_word-h.ensures
-          ∙ c.in-Found-h.is,
-      eq-eqb _ _ (sym c.half_field.ensures ∙ c.if-half_field.false ∙ c.half_field-2.ensures),
-    )
-    c.twice_code.ensures) (λ g h. words_then _ g h _ _ _) in record { value = all.0; value_2 = all.1 }
+pub returns-in_err-refuse_if-clause-of_graph : goal.returns-in_err-refuse_if-clause-of_graph
+returns-in_err-refuse_if-clause-of_graph c = λ g h. grind (arith, common_steps) ∙ words_then _ g h c.args.x c.args.y _
 
-pub half_field-requires : goal.half_field-requires
-half_field-requires c = (
-  word_in _ _ c.find_word-f.result _ c.find_word-f.ensures
-      c.in-Found.is,
-  omega arith,
-)
-
-pub half_field-requires-2 : goal.half_field-requires-2
-half_field-requires-2 c = (word_in _ _ c.find_word-h.result _ c.find_word-h.ensures c.in-Found-h.is, omega arith)
+pub returns-clause-of_graph : goal.returns-clause-of_graph
+returns-clause-of_graph c = λ g h. grind (arith, common_steps) ∙ words_then _ g h c.args.x c.args.y _

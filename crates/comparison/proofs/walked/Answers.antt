@@ -8,9 +8,9 @@ use Rattle.comparison.proofs.walked.Goals as goal
 pub returns-clause-matched : goal.returns-clause-matched
 returns-clause-matched c = λ m n em en.
     let a = c.args in
-    c.counts.ensures.matched m em ∙ ap (λ (places : List ℕ). paired_from matches places a.b.now m a.a.now) (c.note.ensures n en)
+    c.counted.ensures.matched m em ∙ ap (λ (places : List ℕ). paired_from matches places a.b.now m a.a.now) (c.note.ensures n en)
 
 pub returns-clause-agreeing : goal.returns-clause-agreeing
 returns-clause-agreeing c = λ m n em en.
     let a = c.args in
-    c.counts.ensures.agreeing m em ∙ ap (λ (places : List ℕ). paired_from (alike a.tolerance) places a.b.now m a.a.now) (c.note.ensures n en)
+    c.counted.ensures.agreeing m em ∙ ap (λ (places : List ℕ). paired_from (alike a.tolerance) places a.b.now m a.a.now) (c.note.ensures n en)

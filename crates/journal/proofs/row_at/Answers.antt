@@ -1,7 +1,9 @@
-use Rattle.journal.proofs.RowLaws.{row_read}
+use native.Mathlib.Omega.{arith}
+use mathlib.Core.Path.{ap, ◌∙◌}
+use Rattle.journal.specs.Rows.{turned, row_at}
+use Rattle.journal.proofs.RowLaws.{part_edit}
 use Rattle.journal.proofs.row_at.Goals as goal
 
 pub returns : goal.returns
-returns c =
-    let s = c in
-    row_read s.args.journal.now s.args.row _ _ s.args.back c.get_edit.ensures c.wide.ensures.0
+unfolding row_at
+returns c = c.decode.ensures ∙ ap (turned c.args.back) (part_edit c.args.journal.now _ _ (omega arith))

@@ -1,21 +1,17 @@
-use mathlib.Core.Path.{◌∙◌}
-use Rattle.price_calls.proofs.PricedLaws.{grade_refused, grade_outside, grade_done}
+use Prim.Native.Nat.{ℕ}
+use mathlib.Core.Path.{refl, sym, ap, ◌∙◌}
+use mathlib.Core.List.{List}
+use Rattle.prices.specs.Grades.{grade_by}
+use Rattle.commands.specs.Answers.{accepts}
+use Rattle.commands.specs.Refusals.{answer_by}
+use Rattle.price_calls.proofs.PricedLaws.{grade_done}
 use Rattle.price_calls.proofs.grade.Goals as goal
-
-pub returns-then-p-ne0 : goal.returns-then-p-ne0
-returns-then-p-ne0 c =
-    let a = c.args in
-    λ head g o. c.refused.ensures ∙ grade_refused g a.a a.b a.c c.priced-p.result (c.priced-p.ensures head g o) c.if-p-ne0.true
-
-pub returns-then-c-gt2 : goal.returns-then-c-gt2
-returns-then-c-gt2 c =
-    let a = c.args in
-    λ head g o. c.refused-then-c-gt2.ensures ∙ grade_outside g a.a a.b a.c c.priced-p.result (c.priced-p.ensures head g o)
-    c.if-p-ne0.false c.if-c-gt2.true
 
 pub returns : goal.returns
 returns c =
     let a = c.args in
+    let n = c.in_ok-decimetres.decimetres in
+    let listed = c.in_ok-list.ensures in
     λ head g o.
-    c.accepted.ensures ∙ grade_done g a.a a.b a.c c.priced-p.result (c.priced-p.ensures head g o)
-    c.if-p-ne0.false c.if-c-gt2.false _ c.grade_of.ensures
+    grade_done g a.a a.b a.c (accepts n) (ap answer_by (sym c.in_ok-decimetres.was) ∙ c.range.ensures head g o) refl listed.0 _
+    (c.grade.ensures ∙ ap (λ (limits : List ℕ). grade_by limits n) listed.1)

@@ -1,24 +1,16 @@
 use Prim.Native.Nat.{ℕ}
 use mathlib.Core.Path.{◌≡◌, refl, sym, ap, ◌∙◌}
 use mathlib.Core.List.{List}
-use native.Mathlib.Omega.{arith}
+use Rattle.std.specs.Borrow.{Bor}
 use Rattle.linked_lists.specs.Links.{nodes}
 use Rattle.graph.specs.declared.Reading.{Reading}
 use Rattle.graph_tables.specs.Tables.{incidence_links, vertex_ends, vfirst, wnext}
-use Rattle.walks.proofs.ListWalks.{Along, along_start, along_row, along_in, along_link, along_less, along_on, first_link}
+use Rattle.walks.proofs.ListWalks.{along_start, along_row, along_in, along_link, along_less, along_on, first_link}
 use Rattle.graph.specs.declared.Reading.TheVariants.{Untested}
 use Rattle.prices.specs.Prices.{later, last_tested}
 use Rattle.price_calls.specs.Ways.{reading_to, way_at}
-use Rattle.price_calls.proofs.Passes.{ahead, ahead_end, ahead_on}
+use Rattle.price_calls.proofs.Passes.{Stands, rest, ahead_end, ahead_on}
 use Rattle.price_calls.proofs.one_way.Goals as goal
-
--- it adds no numbers up
-abbrev Stands : List ℕ → List ℕ → ℕ → ℕ → Type 0
-Stands vertices edges a w = Along (λ x. 0) vertices edges a w 0
-
--- what is ahead of word w in the list of a
-abbrev rest : List ℕ → List ℕ → ℕ → ℕ → List ℕ
-rest vertices edges a w = ahead incidence_links edges (vertex_ends vertices a) w
 
 start : (vertices edges : List ℕ) (a b w : ℕ) → w ≡ vfirst vertices a → last_tested (reading_to edges b) Untested (rest vertices edges a w) ≡ way_at vertices edges a b
 unfolding way_at nodes
@@ -32,34 +24,41 @@ on vertices edges a b w k z way way' r y p q n h =
     ∙ sym (ap (last_tested (reading_to edges b) way) (ahead_on _ _ incidence_links edges (vertex_ends vertices a) w 0 _ k.walk z y (along_link _ vertices edges a w 0 k z y n)))
     ∙ h
 
-pub vertex_field-w-requires : goal.vertex_field-w-requires
-vertex_field-w-requires c = (c.requires.row, omega arith)
+-- the cursor's next word is that of the tables
+next : {word : ℕ} {read edges : List ℕ} (w : ℕ) → word ≡ wnext read w → read ≡ edges → word ≡ wnext edges w
+next w e i = e ∙ ap (λ (l : List ℕ). wnext l w) i
 
-pub loop-w-init : goal.loop-w-init
-loop-w-init c =
-    let s = c in
-    (along_start _ _ _ _ s.requires _ c.vertex_field-w.ensures, start _ _ _ _ _ c.vertex_field-w.ensures)
+pub loop-cursor-init : goal.loop-cursor-init
+loop-cursor-init c = record {
+  edges = c.first-cursor.ensures.edges;
+  stands = along_start _ _ _ _ c.requires _ c.first-cursor.ensures.word;
+  decides = start _ _ _ _ _ c.first-cursor.ensures.word;
+}
 
-pub reading_to-reading-requires : goal.reading_to-reading-requires
-reading_to-reading-requires c = along_row _ _ _ _ _ _ c.loop-w.invariant.0 c.loop-w-test.true
+pub reading_to-requires : goal.reading_to-requires
+reading_to-requires c = along_row _ _ _ _ _ _ c.loop-cursor.invariant.stands c.loop-cursor-test.true
 
-pub following-w-requires : goal.following-w-requires
-following-w-requires c = along_in _ _ _ _ _ _ c.loop-w.invariant.0 c.loop-w-test.true
+pub step-requires : goal.step-requires
+step-requires c = rw c.loop-cursor.invariant.edges (along_in _ _ _ _ _ _ c.loop-cursor.invariant.stands c.loop-cursor-test.true)
 
-pub loop-w-smaller : goal.loop-w-smaller
-loop-w-smaller c = along_less _ _ _ _ _ _ c.loop-w.invariant.0 c.loop-w-test.true _ c.following-w.ensures
+pub loop-cursor-smaller : goal.loop-cursor-smaller
+loop-cursor-smaller c =
+    along_less _ _ _ _ _ _ c.loop-cursor.invariant.stands c.loop-cursor-test.true _
+    (next _ c.step.ensures.word c.loop-cursor.invariant.edges)
 
-pub loop-w-preserved : goal.loop-w-preserved
-loop-w-preserved c =
-    let l = c.loop-w in
-    let z = c.loop-w-test.true in (
-      along_on _ _ _ _ _ _ l.invariant.0 z _ c.following-w.ensures 0 refl,
-      on _ _ _ _ _ l.invariant.0 z l.way _ _ _ c.reading_to-reading.ensures c.with_reading-way.ensures c.following-w.ensures l.invariant.1,
-    )
+pub loop-cursor-preserved : goal.loop-cursor-preserved
+loop-cursor-preserved c =
+    let l = c.loop-cursor in
+    let z = c.loop-cursor-test.true in
+    let n = next _ c.step.ensures.word l.invariant.edges in record {
+      edges = ap (λ (b : Bor (List ℕ)). b.now) c.step.ensures.edges ∙ l.invariant.edges;
+      stands = along_on _ _ _ _ _ _ l.invariant.stands z _ n 0 refl;
+      decides = on _ _ _ _ _ l.invariant.stands z l.way _ _ _ c.reading_to.ensures c.with_reading-way.ensures n l.invariant.decides;
+    }
 
 pub returns : goal.returns
 returns c =
-    let l = c.loop-w in
-    let a = c.args in
-    sym (ap (last_tested (reading_to a.edges.now a.b) l.way) (ahead_end (λ x. 0) (λ x. ℕ) incidence_links a.edges.now (vertex_ends a.vertices.now a.a) l.w 0 0 c.loop-w-test.false))
-    ∙ l.invariant.1
+    let l = c.loop-cursor in
+    let t = c.args.tables.now in
+    sym (ap (last_tested (reading_to t.edges.now c.args.b) l.way) (ahead_end (λ x. 0) (λ x. ℕ) incidence_links t.edges.now (vertex_ends t.vertices.now c.args.a) l.cursor.word 0 0 c.loop-cursor-test.false))
+    ∙ l.invariant.decides

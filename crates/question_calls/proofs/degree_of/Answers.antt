@@ -1,52 +1,62 @@
-use mathlib.Core.Path.{ap, ◌∙◌}
+use Prim.Native.Nat.{ℕ, ◌≤◌}
+use lib.Dec.{ltb}
+use Rattle.std.specs.Prelude.{Result, Ok, Err}
+use Rattle.std.specs.Result.{is_err}
+use mathlib.Core.Path.{◌≡◌, sym, ap, ◌∙◌}
+use native.Mathlib.Omega.{arith}
 use borrow.Author.Tests.{le-leb, lt-leb, lt-ltb, le-ltb}
 use Rattle.graph.proofs.Numbers.{vertex_once}
-use Rattle.graph_tables.specs.Tables.{state}
+use Rattle.graph_tables.specs.Tables.{state_of}
 use Rattle.commands.specs.Answers.{accepts}
+use Rattle.walks.specs.Walks.{side_number, NumberOf}
+use Rattle.walks.specs.declared.Side.{Side}
+use Rattle.walks.specs.declared.Side.TheVariants.{All, Out, In}
+use Rattle.walks.specs.declared.NoSide.{NoSide}
 use Rattle.walks.proofs.Walkable.{can_walk}
 use Rattle.walks.proofs.Degrees.{degree_is}
-use Rattle.graph_tables.proofs.LookedUp.{vertex_there, vertex_lacking}
+use Rattle.question_calls.proofs.Rows.{vertex_stands, vertex_exit}
 use Rattle.question_calls.proofs.degree_of.Goals as goal
+
+few : (side : Side) → side_number side ≤ 2
+few All = omega arith
+few Out = omega arith
+few In = omega arith
+
+-- a number that no side has is above 2
+sided : (c : ℕ) (r : Result Side NoSide) → NumberOf c r → is_err r ≡ ltb 2 c
+sided c (Ok side) e = sym (le-ltb 2 c (omega (arith, few side)))
+sided c (Err _) h = sym (lt-ltb 2 c h)
+
+pub returns-in_err-vertex_row : goal.returns-in_err-vertex_row
+returns-in_err-vertex_row c =
+    λ g rows b head z h e i.
+    let q = vertex_exit _ _ _ c.vertex_row.ensures g (_, (head, h)) _ c.in_err-vertex_row.was c.from_residual.ensures.1 in
+    rw (q.0, q.1)
 
 pub returns-then-types-t : goal.returns-then-types-t
 returns-then-types-t c =
     λ g rows b head z h e i. rw (
-      vertex_there _ g _ (_, (head, h)) c.find_vertex-f.result _ c.find_vertex-f.ensures
-          c.in-Found.is,
+      vertex_stands _ _ _ c.vertex_row.ensures g (_, (head, h)) _ c.in_ok-vertex_row.was,
       le-leb _ _ c.if-types-t.true,
-    ) c.refused-then-types-t.ensures
-
-pub returns-then-c-gt2 : goal.returns-then-c-gt2
-returns-then-c-gt2 c =
-    λ g rows b head z h e i.
-    rw (
-      vertex_there _ g _ (_, (head, h)) c.find_vertex-f.result _ c.find_vertex-f.ensures
-          c.in-Found.is,
-      lt-leb _ _ c.if-types-t.false,
-      lt-ltb _ _ c.if-c-gt2.true,
     )
-    c.refused-then-c-gt2.ensures
+
+pub returns-then-is_err : goal.returns-then-is_err
+returns-then-is_err c =
+    λ g rows b head z h e i. rw (
+      vertex_stands _ _ _ c.vertex_row.ensures g (_, (head, h)) _ c.in_ok-vertex_row.was,
+      lt-leb _ _ c.if-types-t.false,
+      sym (sided c.args.c _ c.try_from.ensures) ∙ sym c.is_err.ensures.value ∙ c.if-is_err.true,
+    )
 
 pub degree-requires : goal.degree-requires
 degree-requires c =
     let p = c.requires in
-    let a = c.args in
-    can_walk p.0 (state p.1 a.vertices.now a.edges.now) p.3 p.2 p.4 _
-    (vertex_once p.2 _ p.4.sound
-    (vertex_there _ p.2 _ (_, (p.1, p.4)) c.find_vertex-f.result _ c.find_vertex-f.ensures
-    c.in-Found.is))
+    can_walk p.0 (state_of p.1 c.args.tables.now) p.3 p.2 p.4 _
+    (vertex_once p.2 _ p.4.sound (vertex_stands _ _ _ c.vertex_row.ensures p.2 (_, (p.1, p.4)) _ c.in_ok-vertex_row.was))
 
 pub returns : goal.returns
 returns c =
     λ g rows b head z h e i.
-    let a = c.args in
-    let t = vertex_there _ g _ (_, (head, h)) c.find_vertex-f.result _
-    c.find_vertex-f.ensures c.in-Found.is in
-    rw (t, lt-leb _ _ c.if-types-t.false, le-ltb _ _ c.if-c-gt2.false)
-    (c.accepted.ensures
-    ∙ ap accepts (c.degree.ensures.by_index rows e i ∙ degree_is b (state head a.vertices.now a.edges.now) z g h _ (vertex_once g _ h.sound t) _ _))
-
-pub returns-in_default : goal.returns-in_default
-returns-in_default c =
-    λ g rows b head z h e i. rw (vertex_lacking _ g _ (_, (head, h)) c.find_vertex-f.result c.find_vertex-f.ensures
-    c.in_default.is) c.refused.ensures
+    let t = vertex_stands _ _ _ c.vertex_row.ensures g (_, (head, h)) _ c.in_ok-vertex_row.was in
+    rw (t, lt-leb _ _ c.if-types-t.false, sym (sided c.args.c _ c.try_from.ensures) ∙ sym c.is_err.ensures.value ∙ c.if-is_err.false)
+    (ap accepts (c.degree.ensures.by_index rows e i ∙ degree_is b (state_of head c.args.tables.now) z g h _ (vertex_once g _ h.sound t) _ _))

@@ -1,50 +1,37 @@
+use Rattle.std.proofs.Common.{rules}
 use mathlib.Core.Path.{ap, ◌∙◌}
 use Rattle.lists.specs.Choice.{to_bit}
 use Rattle.graph.proofs.Numbers.{edge_once}
-use Rattle.graph_tables.specs.Tables.{state}
+use Rattle.graph_tables.specs.Tables.{state_of}
 use Rattle.commands.specs.Answers.{accepts}
 use Rattle.graph_tables.proofs.Answers.{edge_at, edge_before}
-use Rattle.graph_tables.proofs.LookedUp.{edge_there, edge_lacking}
+use Rattle.question_calls.proofs.Rows.{edge_stands, edge_exit}
 use Rattle.question_calls.proofs.order_of_edges.Goals as goal
 
-pub returns-in_default-h : goal.returns-in_default-h
-returns-in_default-h c =
-    λ g n rows vertices h.
-    rw (
-      edge_there _ g _ (vertices, (_, h)) c.find_edge-f.result _ c.find_edge-f.ensures
-          c.in-Found.is,
-      edge_lacking _ g _ (vertices, (_, h)) c.find_edge-h.result
-          c.find_edge-h.ensures c.in_default-h.is,
-    )
-    c.refused-in_default-h.ensures
+pub returns-in_err-edge_row : goal.returns-in_err-edge_row
+returns-in_err-edge_row c =
+    λ g n rows h.
+    let q = edge_exit _ _ _ c.edge_row.ensures g (_, (_, h)) _ c.in_err-edge_row.was c.from_residual.ensures.1 in
+    rw (q.0, q.1)
 
-pub edge_before-before-requires : goal.edge_before-before-requires
-edge_before-before-requires c =
+pub returns-in_err-edge_row-2 : goal.returns-in_err-edge_row-2
+returns-in_err-edge_row-2 c =
+    λ g n rows h.
+    let q = edge_exit _ _ _ c.edge_row-2.ensures g (_, (_, h)) _ c.in_err-edge_row-2.was c.from_residual-in_err-edge_row-2.ensures.1 in
+    rw (q.0, edge_stands _ _ _ c.edge_row.ensures g (_, (_, h)) _ c.in_ok-edge_row.was, q.1)
+
+pub edge_before-requires : goal.edge_before-requires
+edge_before-requires c =
     let p = c.requires in
-    edge_at (state c.args.head p.0 c.args.edges.now) p.1 p.2 _
-    (edge_once p.1 _ p.2.sound
-    (edge_there _ p.1 _ (p.0, (_, p.2)) c.find_edge-f.result _ c.find_edge-f.ensures
-    c.in-Found.is))
+    edge_at (state_of c.args.head c.args.tables.now) p.0 p.1 _
+    (edge_once p.0 _ p.1.sound (edge_stands _ _ _ c.edge_row.ensures p.0 (_, (_, p.1)) _ c.in_ok-edge_row.was))
 
 pub returns : goal.returns
 returns c =
-    λ g n rows vertices h.
+    λ g n rows h.
     rw (
-      edge_there _ g _ (vertices, (_, h)) c.find_edge-f.result _
-          c.find_edge-f.ensures c.in-Found.is,
-      edge_there _ g _ (vertices, (_, h)) c.find_edge-h.result _ c.find_edge-h.ensures
-          c.in-Found-h.is,
+      edge_stands _ _ _ c.edge_row.ensures g (_, (_, h)) _ c.in_ok-edge_row.was,
+      edge_stands _ _ _ c.edge_row-2.ensures g (_, (_, h)) _ c.in_ok-edge_row-2.was,
     )
-    (c.accepted.ensures
-    ∙ ap accepts
-    (c.as_number.ensures
-    ∙ ap to_bit
-    (c.edge_before-before.ensures
-    ∙ edge_before
-    (state c.args.head vertices
-    c.args.edges.now) g h _ _)))
-
-pub returns-in_default : goal.returns-in_default
-returns-in_default c =
-    λ g n rows vertices h. rw (edge_lacking _ g _ (vertices, (_, h)) c.find_edge-f.result c.find_edge-f.ensures
-    c.in_default.is) c.refused.ensures
+    (ap accepts (search rules
+    ∙ ap to_bit (c.edge_before.ensures ∙ edge_before (state_of c.args.head c.args.tables.now) g h _ _)))

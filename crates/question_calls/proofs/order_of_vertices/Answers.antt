@@ -1,50 +1,37 @@
+use Rattle.std.proofs.Common.{rules}
 use mathlib.Core.Path.{ap, ◌∙◌}
 use Rattle.lists.specs.Choice.{to_bit}
 use Rattle.graph.proofs.Numbers.{vertex_once}
-use Rattle.graph_tables.specs.Tables.{state}
+use Rattle.graph_tables.specs.Tables.{state_of}
 use Rattle.commands.specs.Answers.{accepts}
 use Rattle.graph_tables.proofs.Answers.{vertex_at, vertex_before}
-use Rattle.graph_tables.proofs.LookedUp.{vertex_there, vertex_lacking}
+use Rattle.question_calls.proofs.Rows.{vertex_stands, vertex_exit}
 use Rattle.question_calls.proofs.order_of_vertices.Goals as goal
 
-pub returns-in_default-h : goal.returns-in_default-h
-returns-in_default-h c =
-    λ g n rows edges h.
-    rw (
-      vertex_there _ g _ (edges, (_, h)) c.find_vertex-f.result _
-          c.find_vertex-f.ensures c.in-Found.is,
-      vertex_lacking _ g _ (edges, (_, h))
-          c.find_vertex-h.result c.find_vertex-h.ensures c.in_default-h.is,
-    )
-    c.refused-in_default-h.ensures
+pub returns-in_err-vertex_row : goal.returns-in_err-vertex_row
+returns-in_err-vertex_row c =
+    λ g n rows h.
+    let q = vertex_exit _ _ _ c.vertex_row.ensures g (_, (_, h)) _ c.in_err-vertex_row.was c.from_residual.ensures.1 in
+    rw (q.0, q.1)
 
-pub vertex_before-before-requires : goal.vertex_before-before-requires
-vertex_before-before-requires c =
+pub returns-in_err-vertex_row-2 : goal.returns-in_err-vertex_row-2
+returns-in_err-vertex_row-2 c =
+    λ g n rows h.
+    let q = vertex_exit _ _ _ c.vertex_row-2.ensures g (_, (_, h)) _ c.in_err-vertex_row-2.was c.from_residual-in_err-vertex_row-2.ensures.1 in
+    rw (q.0, vertex_stands _ _ _ c.vertex_row.ensures g (_, (_, h)) _ c.in_ok-vertex_row.was, q.1)
+
+pub vertex_before-requires : goal.vertex_before-requires
+vertex_before-requires c =
     let p = c.requires in
-    vertex_at (state c.args.head c.args.vertices.now p.0) p.1 p.2 _
-    (vertex_once p.1 _ p.2.sound
-    (vertex_there _ p.1 _ (p.0, (_, p.2)) c.find_vertex-f.result _ c.find_vertex-f.ensures
-    c.in-Found.is))
+    vertex_at (state_of c.args.head c.args.tables.now) p.0 p.1 _
+    (vertex_once p.0 _ p.1.sound (vertex_stands _ _ _ c.vertex_row.ensures p.0 (_, (_, p.1)) _ c.in_ok-vertex_row.was))
 
 pub returns : goal.returns
 returns c =
-    λ g n rows edges h.
+    λ g n rows h.
     rw (
-      vertex_there _ g _ (edges, (_, h)) c.find_vertex-f.result _
-          c.find_vertex-f.ensures c.in-Found.is,
-      vertex_there _ g _ (edges, (_, h)) c.find_vertex-h.result _ c.find_vertex-h.ensures
-          c.in-Found-h.is,
+      vertex_stands _ _ _ c.vertex_row.ensures g (_, (_, h)) _ c.in_ok-vertex_row.was,
+      vertex_stands _ _ _ c.vertex_row-2.ensures g (_, (_, h)) _ c.in_ok-vertex_row-2.was,
     )
-    (c.accepted.ensures
-    ∙ ap accepts
-    (c.as_number.ensures
-    ∙ ap to_bit
-    (c.vertex_before-before.ensures
-    ∙ vertex_before
-    (state c.args.head
-    c.args.vertices.now edges) g h _ _)))
-
-pub returns-in_default : goal.returns-in_default
-returns-in_default c =
-    λ g n rows edges h. rw (vertex_lacking _ g _ (edges, (_, h)) c.find_vertex-f.result c.find_vertex-f.ensures
-    c.in_default.is) c.refused.ensures
+    (ap accepts (search rules
+    ∙ ap to_bit (c.vertex_before.ensures ∙ vertex_before (state_of c.args.head c.args.tables.now) g h _ _)))

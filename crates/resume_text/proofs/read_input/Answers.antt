@@ -2,7 +2,7 @@ use mathlib.Core.Path.{◌≡◌, sym, ap, ◌∙◌}
 use Rattle.std.proofs.Common.{rules}
 use Rattle.std.specs.Prelude.{Err}
 use Rattle.text.specs.ImageLine.{line_verdict}
-use Rattle.resume_text.specs.Input.{behind_verdict}
+use Rattle.resume_text.specs.Input.{calls_verdict}
 use Rattle.resume_text.proofs.Inputs.{first_cut, later_cut, none_read, bad_read, both_read}
 use Rattle.resume_text.proofs.read_input.Goals as goal
 
@@ -21,7 +21,7 @@ returns-in_err-calls-clause-verdict c =
     let bytes = c.args.bytes.now in
     let f = c.first_length-end in
     let i = sym c.in_ok-image.ensures.ok_part ∙ c.read_image.ensures.verdict ∙ ap line_verdict (first_cut bytes _ f.ensures.value) in
-    let v = c.in_err-calls.ensures.verdict ∙ ap behind_verdict (later_cut bytes _ f.ensures.value) in
+    let v = c.in_err-calls.ensures.verdict ∙ ap calls_verdict (later_cut bytes _ f.ensures.value) in
     let e : c.from_residual-in_err-calls.result ≡ Err c.in_err-calls.field-0.0 = search rules in
     e ∙ (bad_read bytes c.in_ok-image.image c.in_err-calls.field-0.0 i v).0
 
@@ -30,5 +30,5 @@ returns-clause-verdict c =
     let bytes = c.args.bytes.now in
     let f = c.first_length-end in
     let i = sym c.in_ok-image.ensures.ok_part ∙ c.read_image.ensures.verdict ∙ ap line_verdict (first_cut bytes _ f.ensures.value) in
-    let v = c.in_ok-calls.ensures.verdict ∙ ap behind_verdict (later_cut bytes _ f.ensures.value) in
+    let v = c.in_ok-calls.ensures.verdict ∙ ap calls_verdict (later_cut bytes _ f.ensures.value) in
     (both_read bytes _ _ i v).0

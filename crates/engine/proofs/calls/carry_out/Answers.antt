@@ -7,39 +7,37 @@ use Rattle.engine.proofs.CallLaws.{used_is, last_within, next_at, command_near, 
 use Rattle.engine.proofs.calls.carry_out.Goals as goal
 
 -- there are two words for its answer, and no slice is longer than one can be
-answer_there : (c : goal.After-same-y-in-loop-k)
+answer_there : (c : goal.After-same-present-in-loop-k)
     → 2 * c.loop-k.k + 1 < length
     c.loop-k.answers
 answer_there c =
     omega (
       arith,
-      c.loop-k-test,
       c.requires.count_in_bounds.0,
-      c.loop-k.invariant.6,
+      c.loop-k.invariant.5,
     )
 
 -- the words of call k are there
 words_there : (c : goal.In-loop-k) → c.loop-k.at + 5 ≤ length c.args.calls.now
 words_there c =
     let i = c.loop-k.invariant in
-    omega (arith, i.1, c.requires.running.4.there c.loop-k.k c.loop-k-test.true)
+    omega (arith, i.0, c.requires.running.4.there c.loop-k.k (omega arith))
 
 -- and no list is longer than a slice can be
 list_short : (c : goal.In-loop-k) → length c.args.calls.now * 4 < 9223372036854775808
 list_short c = c.well_formed.1.1.1.1.1.1.1.1.0.1
 
-answers_short : (c : goal.After-same-y-in-loop-k)
+answers_short : (c : goal.After-same-present-in-loop-k)
     → length c.loop-k.answers * 4 <
     9223372036854775808
 answers_short c = omega (
   arith,
-  c.loop-k.invariant.6,
+  c.loop-k.invariant.5,
   c.well_formed.1.1.1.1.1.1.1.1.1.1.1.0.1,
 )
 
 pub loop-k-init : goal.loop-k-init
 loop-k-init c = (
-  omega arith,
   omega arith,
   refl,
   refl,
@@ -54,7 +52,7 @@ pub step-done-requires : goal.step-done-requires
 step-done-requires c =
     let p = c.requires.running in
     let i = c.loop-k.invariant in
-    let g = i.7 p.0 p.1 p.2 (rw c.same-y.ensures p.3) p.4 p.5 in
+    let g = i.6 p.0 p.1 p.2 (rw c.same-present.ensures p.3) p.4 p.5 in
     let l = last_within (allowing c.args.capacity p.0) p.1
     (take c.loop-k.k p.2)
     (omega (
@@ -65,7 +63,7 @@ step-done-requires c =
       (p.0, _, g.after),
       (
         omega (arith, used_is p.0 _ _ _ _ _ g.after, l),
-        omega (arith, i.4, c.requires.granted.1),
+        omega (arith, i.3, c.requires.granted.1),
       ),
     )
 
@@ -76,63 +74,58 @@ pub overflow_add-at-in-loop-k : goal.overflow_add-at-in-loop-k
 overflow_add-at-in-loop-k c =
     omega (
       arith,
-      c.loop-k.invariant.1,
+      c.loop-k.invariant.0,
       c.requires.running.4.there
-          c.loop-k.k c.loop-k-test.true,
+          c.loop-k.k (omega arith),
       c.requires.count_in_bounds.1,
       c.well_formed.1.1.1.1.1.1.1.1.0.1,
     )
-
-pub loop-k-smaller : goal.loop-k-smaller
-loop-k-smaller c = omega (arith, c.loop-k-test)
 
 pub loop-k-preserved : goal.loop-k-preserved
 loop-k-preserved c =
     let s = c.step-done in
     let l = c.loop-k in
     let a = c.args in (
-      omega (arith, c.loop-k-test),
-      next_at l.k a.width l.at l.invariant.1,
-      s.auto.vertices ∙ l.invariant.2,
-      s.auto.edges ∙ l.invariant.3,
-      s.auto.journal ∙ l.invariant.4,
-      s.auto.marks ∙ l.invariant.5,
-      simp length-set l.invariant.6,
+      next_at l.k a.width l.at l.invariant.0,
+      s.auto.vertices ∙ l.invariant.1,
+      s.auto.edges ∙ l.invariant.2,
+      s.auto.journal ∙ l.invariant.3,
+      s.auto.marks ∙ l.invariant.4,
+      simp length-set l.invariant.5,
       λ w m xs h reads near.
-          let g = l.invariant.7 w m xs h reads near in
-          rw c.same-y-in-loop-k.ensures
+          let g = l.invariant.6 w m xs h reads near in
+          rw c.same-present-in-loop-k.ensures
           (after_calls_more w a.capacity m _ _ _ _ _ _ reads l.k l.at _ s.result _ g
-          c.loop-k-test.true l.invariant.1
+          (omega arith) l.invariant.0
           c.decode-command.ensures
           (s.ensures.answers_near w _ g.after
           (command_near (allowing a.capacity w) m reads l.k l.at _ near
-          c.loop-k-test.true l.invariant.1
+          (omega arith) l.invariant.0
           c.decode-command.ensures)) (omega (
             arith,
-            c.loop-k-test,
             c.requires.count_in_bounds.0,
           ))),
     )
 
 pub shape_of-vertices : goal.shape_of-vertices
-shape_of-vertices c = c.loop-k.invariant.2
+shape_of-vertices c = c.loop-k.invariant.1
 
 pub shape_of-edges : goal.shape_of-edges
-shape_of-edges c = c.loop-k.invariant.3
+shape_of-edges c = c.loop-k.invariant.2
 
 pub shape_of-journal : goal.shape_of-journal
-shape_of-journal c = c.loop-k.invariant.4
+shape_of-journal c = c.loop-k.invariant.3
 
 pub shape_of-marks : goal.shape_of-marks
-shape_of-marks c = c.loop-k.invariant.5
+shape_of-marks c = c.loop-k.invariant.4
 
 pub shape_of-answers : goal.shape_of-answers
-shape_of-answers c = c.loop-k.invariant.6
+shape_of-answers c = c.loop-k.invariant.5
 
 pub returns : goal.returns
 returns c =
     let l = c.loop-k in
-    λ w m xs h reads near. after_calls_all w _ m _ _ _ _ _ _ xs l.k (omega (arith, c.loop-k-test, reads.many)) (l.invariant.7 w m xs (rw c.same-y.ensures h) reads near)
+    λ w m xs h reads near. after_calls_all w _ m _ _ _ _ _ _ xs l.k (omega (arith, reads.many)) (l.invariant.6 w m xs (rw c.same-present.ensures h) reads near)
 
 pub overflow_add-at : goal.overflow_add-at
 overflow_add-at c = omega (arith, words_there c, list_short c)
@@ -166,6 +159,3 @@ overflow_add-answers c = omega (arith, answer_there c, answers_short c)
 
 pub offset_bounds-answers-k-in-loop-k : goal.offset_bounds-answers-k-in-loop-k
 offset_bounds-answers-k-in-loop-k c = omega (arith, answer_there c, answers_short c)
-
-pub overflow_add-k : goal.overflow_add-k
-overflow_add-k c = omega (arith, answer_there c, answers_short c)

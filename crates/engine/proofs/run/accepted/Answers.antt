@@ -10,18 +10,18 @@ overflow_cast-types c =
     let a = s.args in
     omega (arith, (past a.start.now a.rows.now a.calls.now a.vertices.now a.edges.now a.journal.now a.answers.now a.image.now s.requires).limits.few_types)
 
-pub begin-x-requires : goal.begin-x-requires
-begin-x-requires c =
+pub begin-begun-requires : goal.begin-begun-requires
+begin-begun-requires c =
     let s = c in
     let a = s.args in
     let passed = past a.start.now a.rows.now a.calls.now a.vertices.now a.edges.now a.journal.now a.answers.now a.image.now s.requires in
     can_load _ a.start.now _ _ passed.limits refl refl passed.start_loads
 
-pub each-y-requires : goal.each-y-requires
-each-y-requires c =
+pub each-after-requires : goal.each-after-requires
+each-after-requires c =
     let s = c in
     let a = s.args in
-    let begin = c.begin-x in
+    let begin = c.begin-begun in
     let closure = c.closure-closed in
     let closed = closure.ensures
     ∙ closure_good a.rows.now (past a.start.now a.rows.now a.calls.now a.vertices.now a.edges.now a.journal.now a.answers.now a.image.now
@@ -40,12 +40,12 @@ pub save-words-requires : goal.save-words-requires
 save-words-requires c =
     let s = c in
     let a = s.args in
-    let begin = c.begin-x in
+    let begin = c.begin-begun in
     let closure = c.closure-closed in
     let closed = closure.ensures
     ∙ closure_good a.rows.now (past a.start.now a.rows.now a.calls.now a.vertices.now a.edges.now a.journal.now a.answers.now a.image.now
     s.requires).rows_good in
-    let each = c.each-y in
+    let each = c.each-after in
     can_save_present _ _ each.result _ closure.result _
     (each.ensures _ _ (begun a.start.now a.rows.now a.calls.now a.vertices.now a.edges.now a.journal.now a.answers.now a.image.now s.requires
     closure.result _ closed refl begin.result _ _ _ begin.auto.vertices begin.auto.edges refl begin.ensures)).after _ (past a.start.now a.rows.now a.calls.now
@@ -55,12 +55,12 @@ pub returns : goal.returns
 returns c =
     let s = c in
     let a = s.args in
-    let begin = c.begin-x in
+    let begin = c.begin-begun in
     let closure = c.closure-closed in
     let closed = closure.ensures
     ∙ closure_good a.rows.now (past a.start.now a.rows.now a.calls.now a.vertices.now a.edges.now a.journal.now a.answers.now a.image.now
     s.requires).rows_good in
-    let each = c.each-y in
+    let each = c.each-after in
     let save = c.save-words in
     ends a.start.now a.rows.now a.calls.now a.vertices.now a.edges.now a.journal.now a.answers.now a.image.now s.requires closure.result _ closed refl
     each.result _ _ _ save.result

@@ -98,12 +98,12 @@ facts_at_After_x_1 c =
       words = part_short p.0 z l.all m _ _ S h;
     }
 
-facts_at_After_smaller_granted : (c : goal.After-smaller-granted) → Facts c.args.v
+facts_at_After_min_granted : (c : goal.After-min-granted) → Facts c.args.v
     c.args.e c.args.t
     c.slot-i.result c.args.stores c.loop-k.vertices
     c.loop-k.edges c.loop-k.journal
     (store_at c.loop-k.all c.slot-i.result).current.position.used c.loop-k.room
-facts_at_After_smaller_granted c =
+facts_at_After_min_granted c =
     let a = c.args in
     let l = c.loop-k in
     let p = c.requires.serves in
@@ -410,9 +410,9 @@ after_at_After_same_y c w s e f h₀ =
     let th : there ≡ within 1 S.count number =
     c.is_store-there.ensures
     ∙ ap (λ (j : ℕ). within 1 j number) (sym q) in
-    let n = c.smaller-granted.result in
+    let n = c.min-granted.result in
     let ne : n ≡ min (A.t / 12) ((store_at l.all i).current.position.used + joint_room S) =
-    c.smaller-granted.ensures
+    c.min-granted.ensures
     ∙ ap (λ (r : ℕ). min (A.t / 12) ((store_at l.all i).current.position.used + r)) g.1 in
     let an = st.ensures.takes w (S.machine (suc i)) (h.each i inside) in
     let xs = take st.result.calls (store_calls_of (take (6 * (length A.calls.now / 6) - 6 * l.k) (drop (6 * l.k) A.calls.now))) in
@@ -591,9 +591,9 @@ after_at_After_struct_known_1 c w s e f h₀ =
     let th : there ≡ within 1 S.count number =
     c.is_store-there.ensures
     ∙ ap (λ (j : ℕ). within 1 j number) (sym q) in
-    let n = c.smaller-granted.result in
+    let n = c.min-granted.result in
     let ne : n ≡ min (A.t / 12) ((store_at l.all i).current.position.used + joint_room S) =
-    c.smaller-granted.ensures
+    c.min-granted.ensures
     ∙ ap (λ (r : ℕ). min (A.t / 12) ((store_at l.all i).current.position.used + r)) g.1 in
     let an = st.ensures.takes w (S.machine (suc i)) (h.each i inside) in
     let xs = take st.result.calls (store_calls_of (take (6 * (length A.calls.now / 6) - 6 * l.k) (drop (6 * l.k) A.calls.now))) in
@@ -639,25 +639,25 @@ pub overflow_add-used : goal.overflow_add-used
 overflow_add-used c = let f = (facts_at_After_x_1 c).short in omega (arith, f)
 
 pub overflow_mul-i : goal.overflow_mul-i
-overflow_mul-i c = let f = facts_at_After_smaller_granted c in omega (arith, f.vend, f.vshort)
+overflow_mul-i c = let f = facts_at_After_min_granted c in omega (arith, f.vend, f.vshort)
 
 pub overflow_mul-i-in-loop-k : goal.overflow_mul-i-in-loop-k
-overflow_mul-i-in-loop-k c = let f = facts_at_After_smaller_granted c in omega (arith, f.vend, f.vshort)
+overflow_mul-i-in-loop-k c = let f = facts_at_After_min_granted c in omega (arith, f.vend, f.vshort)
 
 pub overflow_add-i : goal.overflow_add-i
-overflow_add-i c = let f = facts_at_After_smaller_granted c in omega (arith, f.vend, f.vshort)
+overflow_add-i c = let f = facts_at_After_min_granted c in omega (arith, f.vend, f.vshort)
 
 pub offset_bounds-vertices-i : goal.offset_bounds-vertices-i
-offset_bounds-vertices-i c = let f = facts_at_After_smaller_granted c in omega (arith, f.vend, f.vshort)
+offset_bounds-vertices-i c = let f = facts_at_After_min_granted c in omega (arith, f.vend, f.vshort)
 
 pub slice_bounds-answer-count : goal.slice_bounds-answer-count
-slice_bounds-answer-count c = let f = facts_at_After_smaller_granted c in omega (arith, f.vend, f.vshort)
+slice_bounds-answer-count c = let f = facts_at_After_min_granted c in omega (arith, f.vend, f.vshort)
 
 pub slice_bounds-answer-start : goal.slice_bounds-answer-start
-slice_bounds-answer-start c = let f = facts_at_After_smaller_granted c in omega (arith, f.vend, f.vshort)
+slice_bounds-answer-start c = let f = facts_at_After_min_granted c in omega (arith, f.vend, f.vshort)
 
 pub slice_bounds-answer-end : goal.slice_bounds-answer-end
-slice_bounds-answer-end c = let f = facts_at_After_smaller_granted c in omega (arith, f.vend, f.vshort)
+slice_bounds-answer-end c = let f = facts_at_After_min_granted c in omega (arith, f.vend, f.vshort)
 
 pub overflow_mul-i-in-loop-k-2 : goal.overflow_mul-i-in-loop-k-2
 overflow_mul-i-in-loop-k-2 c = let f = facts_at_After_answer_arg_1 c in omega (arith, f.eend, f.eshort)
@@ -776,7 +776,7 @@ answer-done-requires c =
     let f = facts_at_After_answer_arg_in_loop_k_5_1 c in
     let g = l.invariant.5 p.0 p.1 p.2 p.3 p.4 in
     let q = limits_last p.0 p.1 (take l.k (store_calls_of a.calls.now)) in
-    let r = c.smaller-granted.ensures in
+    let r = c.min-granted.ensures in
     let long = rest_long c in record {
       runs = (
         (p.0, _, g.0.after.each i.result (omega (arith, i.ensures.upper_bound, q.0, p.2))),
