@@ -49,26 +49,3 @@ impl<'t> Tables<'t> {
         self.find_edge(w / 2)
     }
 }
-
-// ---- the same of tables that are lent apart, for the crates that do not hand `Tables` on yet
-
-/// Where v's row starts.
-pub fn find_vertex(vertices: &[u32], v: u32) -> Lookup
-    ensures { result ≡ lookup_vertex vertices.now v }
-{
-    find::<VERTEX_WORDS, VERTEX_LIVE>(vertices, v)
-}
-
-/// Where e's row starts.
-pub fn find_edge(edges: &[u32], e: u32) -> Lookup
-    ensures { result ≡ lookup_edge edges.now e }
-{
-    find::<EDGE_WORDS, EDGE_LIVE>(edges, e)
-}
-
-/// Where the row of word w's edge starts: an oriented word stands for its edge (REFERENCE 2.4).
-pub fn find_word(edges: &[u32], w: u32) -> Lookup
-    ensures { result ≡ lookup_edge edges.now (w / 2) }
-{
-    find_edge(edges, w / 2)
-}
