@@ -181,7 +181,7 @@ fn rows_on(journal: &[u32], used: u32, steps: u32) -> u32
         end: used,
         left: steps,
     };
-    while ahead.left != 0 {
+    for _ in 0..steps {
         ahead = ahead.next(journal, ahead.end, false);
     }
     ahead.end
