@@ -46,25 +46,25 @@ pub struct Parts<'p> {
 }
 
 /// Vertex records of size words: marks each number with 1. Refuses the first word that cannot follow.
-fn vertices(
-    part: &[u32],
-    size: usize,
-    deg: &mut [u32],
-    cap: u32,
-    types: u32,
-) -> Result<(), BadImage>
+fn vertices(part: &[u32], size: usize, deg: &mut [u32], limits: Limits) -> Result<(), BadImage>
     requires size { (3 ≤ size) × (size ≤ 4) }
     requires few { length part.now ≤ 4 * most_vertices }
-    requires room { cap < length deg.old }
+    requires room { limits.vertices < length deg.old }
     ensures verdict { (count : ℕ) → size * count ≡ length part.now
-        → result ≡ vertex_run size (part_limits cap types) deg.old count part.now 6 }
+        → result ≡ vertex_run size (part_limits limits.vertices limits.types) deg.old count part.now 6 }
     ensures below { NoneAbove 1 deg.old → NoneAbove 1 deg.new }
     ensures marks { (count : ℕ) → size * count ≡ length part.now → result ≡ Ok tt
         → deg.new ≡ vertex_marks size deg.old count part.now }
 {
     for (i, record) in part.chunks_exact(size).enumerate() {
         let number = record[0] as usize;
-        let good = good_vertex(cap, types, get(deg, number) == 0, record[0], record[1]);
+        let good = good_vertex(
+            limits.vertices,
+            limits.types,
+            get(deg, number) == 0,
+            record[0],
+            record[1],
+        );
         if good < 3 {
             return Err(BadImage::Record(6 + (size * i) as u32 + good));
         }
@@ -74,42 +74,42 @@ fn vertices(
 }
 
 /// How many words of an edge record are sound.
-fn edge_good(record: &[u32], deg: &[u32], own: &[u32], cap: u32, types: u32) -> u32
-    requires six { length record.now ≡ 6 }
-    requires room { 2 * cap < length own.now }
-    ensures { result ≡ edge_good (part_limits cap types) deg.now own.now record.now }
+fn edge_good(edge: &[u32], deg: &[u32], own: &[u32], limits: Limits) -> u32
+    requires six { length edge.now ≡ 6 }
+    requires room { 2 * limits.edges < length own.now }
+    ensures { result ≡ edge_good (part_limits limits.edges limits.types) deg.now own.now edge.now }
 {
-    let number = record[0];
-    if !numbered(cap, number) {
+    let number = edge[0];
+    if !numbered(limits.edges, number) {
         return 0;
     }
     if own[2 * number as usize] != 0 {
         return 0;
     }
-    if get(deg, record[1] as usize) == 0 {
+    if get(deg, edge[1] as usize) == 0 {
         return 1;
     }
-    if get(deg, record[2] as usize) == 0 {
+    if get(deg, edge[2] as usize) == 0 {
         return 2;
     }
-    good_fields(types, record[3], record[4], record[5])
+    good_fields(limits.types, edge[3], edge[4], edge[5])
 }
 
 /// Counts both ends of an edge record, and enters its two words with their vertices.
-fn enter(record: &[u32], deg: &mut [u32], own: &mut [u32])
-    requires six { length record.now ≡ 6 }
-    requires number { 2 * get_or record.now 0 0 + 1 < length own.old }
-    requires alpha { get_or record.now 1 0 < length deg.old }
-    requires omega { get_or record.now 2 0 < length deg.old }
+fn enter(edge: &[u32], deg: &mut [u32], own: &mut [u32])
+    requires six { length edge.now ≡ 6 }
+    requires number { 2 * get_or edge.now 0 0 + 1 < length own.old }
+    requires alpha { get_or edge.now 1 0 < length deg.old }
+    requires omega { get_or edge.now 2 0 < length deg.old }
     requires fits { NoneAbove (2 ^ 32 - 3) deg.old }
-    ensures ends { deg.new ≡ edge_ends record.now 0 deg.old }
-    ensures owners { own.new ≡ edge_owned record.now 0 own.old }
+    ensures ends { deg.new ≡ edge_ends edge.now 0 deg.old }
+    ensures owners { own.new ≡ edge_owned edge.now 0 own.old }
 {
-    let alpha = record[1];
-    let omega = record[2];
+    let alpha = edge[1];
+    let omega = edge[2];
     deg[alpha as usize] += 1;
     deg[omega as usize] += 1;
-    let word = 2 * record[0] as usize;
+    let word = 2 * edge[0] as usize;
     own[word] = alpha;
     own[word + 1] = omega;
 }
@@ -121,22 +121,21 @@ fn edges(
     from: u32,
     deg: &mut [u32],
     own: &mut [u32],
-    cap: u32,
-    types: u32,
+    limits: Limits,
 ) -> Result<(), BadImage>
     requires few { length part.now ≤ 6 * most_edges }
     requires near { from ≤ 6 + 4 * most_vertices }
-    requires room { 2 * cap + 1 < length own.old }
+    requires room { 2 * limits.edges + 1 < length own.old }
     requires marked { NoneAbove 1 deg.old }
     ensures verdict { (count : ℕ) → 6 * count ≡ length part.now
-        → result ≡ edge_run (part_limits cap types) deg.old own.old count part.now from }
+        → result ≡ edge_run (part_limits limits.edges limits.types) deg.old own.old count part.now from }
     ensures ends { (count : ℕ) → 6 * count ≡ length part.now → result ≡ Ok tt
         → deg.new ≡ edge_degrees deg.old count part.now }
     ensures owners { (count : ℕ) → 6 * count ≡ length part.now → result ≡ Ok tt
         → own.new ≡ edge_owners own.old count part.now }
 {
     for (i, record) in part.chunks_exact(EDGE).enumerate() {
-        let good = edge_good(record, deg, own, cap, types);
+        let good = edge_good(record, deg, own, limits);
         if good < 6 {
             return Err(BadImage::Record(from + (EDGE * i) as u32 + good));
         }
@@ -221,16 +220,9 @@ impl<'p> Parts<'p> {
             → result ≡ scratch_run deg.old own.old (bounds limits.vertices limits.edges limits.types)
             (parts self.now.size v e self.now.vertices.now self.now.edges.now self.now.incidences.now) }
     {
-        vertices(self.vertices, self.size, deg, limits.vertices, limits.types)?;
+        vertices(self.vertices, self.size, deg, limits)?;
         let behind = 6 + self.vertices.len();
-        edges(
-            self.edges,
-            behind as u32,
-            deg,
-            own,
-            limits.edges,
-            limits.types,
-        )?;
+        edges(self.edges, behind as u32, deg, own, limits)?;
         degrees(self.vertices, self.size, deg)?;
         let end = behind + self.edges.len();
         incidences(

@@ -18,7 +18,7 @@ returns-then-good-lt6-clause-verdict c =
     λ count e.
     let v = l.invariant.7 count e in
     let t = turn_of 6 count i _ _ _ (omega arith) cut long v.0 in
-    rw st.1 (edge_stop count i _ _ _ t.0 cut long a.cap a.types l.deg l.own (a.from + 6 * i) _ c.edge_good-good.ensures c.if-good-lt6.true ∙ v.1)
+    rw st.1 (edge_stop count i _ _ _ t.0 cut long a.limits.edges a.limits.types l.deg l.own (a.from + 6 * i) _ c.edge_good-good.ensures c.if-good-lt6.true ∙ v.1)
 
 pub returns-then-good-lt6-clause-ends : goal.returns-then-good-lt6-clause-ends
 returns-then-good-lt6-clause-ends c = λ count e q. absurd (record_not q)
@@ -32,7 +32,7 @@ enter-requires c =
     let l = c.loop-i in
     let st = c.in-Some.ensures.steps in
     let g = c.edge_good-good in
-    let r = edge_in a.cap a.types l.deg l.own c.in-Some.record.now 0 g.result g.ensures c.if-good-lt6.false in record {
+    let r = edge_in a.limits.edges a.limits.types l.deg l.own c.in-Some.record.now 0 g.result g.ensures c.if-good-lt6.false in record {
       six = st.0.1.1 ∙ l.invariant.2;
       number = omega (arith, r.number, c.requires.room, l.invariant.5);
       alpha = r.alpha;
@@ -63,7 +63,7 @@ loop-i-preserved c =
           let t = turn_of 6 count i _ _ _ (omega arith) cut long v.0 in
           rw (st.2, n.ensures.ends, n.ensures.owners) (
             t.1,
-            edge_go count i _ _ _ t.0 cut long a.cap a.types l.deg l.own (a.from + 6 * i) _ g.ensures c.if-good-lt6.false _ (omega arith) ∙ v.1,
+            edge_go count i _ _ _ t.0 cut long a.limits.edges a.limits.types l.deg l.own (a.from + 6 * i) _ g.ensures c.if-good-lt6.false _ (omega arith) ∙ v.1,
             degrees_go count i _ _ _ t.0 cut long l.deg ∙ v.2,
             owners_go count i _ _ _ t.0 cut long l.own ∙ v.3,
           ),
@@ -75,7 +75,7 @@ returns-clause-verdict c = λ count e.
     let l = c.loop-i in
     let v = l.invariant.7 count e in
     let z = none_left 6 (count - l.i-iterator.count) _ v.0 (omega (arith, c.in-None.ensures.steps.0.1.0, l.invariant.2)) in
-    sym (edge_end _ z _ _ a.cap a.types l.deg l.own).0 ∙ v.1
+    sym (edge_end _ z _ _ a.limits.edges a.limits.types l.deg l.own).0 ∙ v.1
 
 pub returns-clause-ends : goal.returns-clause-ends
 returns-clause-ends c = λ count e q.
@@ -83,7 +83,7 @@ returns-clause-ends c = λ count e q.
     let l = c.loop-i in
     let v = l.invariant.7 count e in
     let z = none_left 6 (count - l.i-iterator.count) _ v.0 (omega (arith, c.in-None.ensures.steps.0.1.0, l.invariant.2)) in
-    sym (edge_end _ z l.i-iterator.iter.rest.now 0 a.cap a.types l.deg l.own).1 ∙ v.2
+    sym (edge_end _ z l.i-iterator.iter.rest.now 0 a.limits.edges a.limits.types l.deg l.own).1 ∙ v.2
 
 pub returns-clause-owners : goal.returns-clause-owners
 returns-clause-owners c = λ count e q.
@@ -91,4 +91,4 @@ returns-clause-owners c = λ count e q.
     let l = c.loop-i in
     let v = l.invariant.7 count e in
     let z = none_left 6 (count - l.i-iterator.count) _ v.0 (omega (arith, c.in-None.ensures.steps.0.1.0, l.invariant.2)) in
-    sym (edge_end _ z l.i-iterator.iter.rest.now 0 a.cap a.types l.deg l.own).2 ∙ v.3
+    sym (edge_end _ z l.i-iterator.iter.rest.now 0 a.limits.edges a.limits.types l.deg l.own).2 ∙ v.3

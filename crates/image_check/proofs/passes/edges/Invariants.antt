@@ -12,6 +12,6 @@ invariant-loop-i l =
     × (length l.own ≡ length l.initial.own) × NoneAbove (1 + 6 * l.i-iterator.count) l.deg
     × ((count : ℕ) → 6 * count ≡ length l.part →
     (6 * (count - l.i-iterator.count) ≡ length l.i-iterator.iter.rest.now)
-    × (edge_run (part_limits l.cap l.types) l.deg l.own (count - l.i-iterator.count) l.i-iterator.iter.rest.now (l.from + 6 * l.i-iterator.count) ≡ edge_run (part_limits l.cap l.types) l.initial.deg l.initial.own count l.part l.from)
+    × (edge_run (part_limits l.limits.edges l.limits.types) l.deg l.own (count - l.i-iterator.count) l.i-iterator.iter.rest.now (l.from + 6 * l.i-iterator.count) ≡ edge_run (part_limits l.limits.edges l.limits.types) l.initial.deg l.initial.own count l.part l.from)
     × (edge_degrees l.deg (count - l.i-iterator.count) l.i-iterator.iter.rest.now ≡ edge_degrees l.initial.deg count l.part)
     × (edge_owners l.own (count - l.i-iterator.count) l.i-iterator.iter.rest.now ≡ edge_owners l.initial.own count l.part))

@@ -10,7 +10,7 @@ use Rattle.image_check.proofs.Verdicts.{record_not}
 use Rattle.image_check.proofs.passes.vertices.Goals as goal
 
 pub bounds-deg-number : goal.bounds-deg-number
-bounds-deg-number c = omega (arith, vertex_in c.args.cap c.args.types _ _ _ _ c.good_vertex-good.ensures c.if-good-lt3.false, c.requires.room, c.loop-i.invariant.4)
+bounds-deg-number c = omega (arith, vertex_in c.args.limits.vertices c.args.limits.types _ _ _ _ c.good_vertex-good.ensures c.if-good-lt3.false, c.requires.room, c.loop-i.invariant.4)
 
 pub returns-then-good-lt3-clause-verdict : goal.returns-then-good-lt3-clause-verdict
 returns-then-good-lt3-clause-verdict c =
@@ -21,12 +21,12 @@ returns-then-good-lt3-clause-verdict c =
     let cut = st.0.1.0 in
     let long = st.0.1.1 ∙ l.invariant.2 in
     let x = c.in-Some.record.now in
-    let good = c.good_vertex-good.ensures ∙ ap (λ (f : ℕ). good_vertex a.cap a.types (eqb f 0) (get_or x 0 0) (get_or x 1 0) 0) c.get.ensures in
+    let good = c.good_vertex-good.ensures ∙ ap (λ (f : ℕ). good_vertex a.limits.vertices a.limits.types (eqb f 0) (get_or x 0 0) (get_or x 1 0) 0) c.get.ensures in
     λ count e.
     let v = l.invariant.6 count e in
     let t = turn_of a.size count i _ _ _ c.requires.size.0 cut long v.0 in
     rw st.1
-    (vertex_stop a.size count i _ _ _ t.0 cut long c.requires.size.0 a.cap a.types l.deg (6 + a.size * i) _ good c.if-good-lt3.true
+    (vertex_stop a.size count i _ _ _ t.0 cut long c.requires.size.0 a.limits.vertices a.limits.types l.deg (6 + a.size * i) _ good c.if-good-lt3.true
     ∙ v.1)
 
 pub returns-then-good-lt3-clause-marks : goal.returns-then-good-lt3-clause-marks
@@ -41,7 +41,7 @@ loop-i-preserved c =
     let cut = st.0.1.0 in
     let long = st.0.1.1 ∙ l.invariant.2 in
     let x = c.in-Some.record.now in
-    let good = c.good_vertex-good.ensures ∙ ap (λ (f : ℕ). good_vertex a.cap a.types (eqb f 0) (get_or x 0 0) (get_or x 1 0) 0) c.get.ensures in (
+    let good = c.good_vertex-good.ensures ∙ ap (λ (f : ℕ). good_vertex a.limits.vertices a.limits.types (eqb f 0) (get_or x 0 0) (get_or x 1 0) 0) c.get.ensures in (
       search rules,
       search rules,
       st.0.0 ∙ l.invariant.2,
@@ -53,7 +53,7 @@ loop-i-preserved c =
           let t = turn_of a.size count i _ _ _ c.requires.size.0 cut long v.0 in
           rw st.2 (
             t.1,
-            vertex_go a.size count i _ _ _ t.0 cut long c.requires.size.0 a.cap a.types l.deg (6 + a.size * i) _ good
+            vertex_go a.size count i _ _ _ t.0 cut long c.requires.size.0 a.limits.vertices a.limits.types l.deg (6 + a.size * i) _ good
                 c.if-good-lt3.false _ (omega arith) ∙ v.1,
             marks_go a.size count i _ _ _ t.0 cut long c.requires.size.0 l.deg ∙ v.2,
           ),
@@ -66,7 +66,7 @@ returns-clause-verdict c = λ count e.
     let v = l.invariant.6 count e in
     let st = c.in-None.ensures.steps in
     let z = none_left a.size (count - l.i-iterator.count) _ v.0 (omega (arith, st.0.1.0, l.invariant.2)) in
-    sym (vertex_end _ z _ _ a.size a.cap a.types l.deg).0 ∙ v.1
+    sym (vertex_end _ z _ _ a.size a.limits.vertices a.limits.types l.deg).0 ∙ v.1
 
 pub returns-clause-marks : goal.returns-clause-marks
 returns-clause-marks c = λ count e q.
@@ -75,4 +75,4 @@ returns-clause-marks c = λ count e q.
     let v = l.invariant.6 count e in
     let st = c.in-None.ensures.steps in
     let z = none_left a.size (count - l.i-iterator.count) _ v.0 (omega (arith, st.0.1.0, l.invariant.2)) in
-    sym (vertex_end _ z l.i-iterator.iter.rest.now 0 a.size a.cap a.types l.deg).1 ∙ v.2
+    sym (vertex_end _ z l.i-iterator.iter.rest.now 0 a.size a.limits.vertices a.limits.types l.deg).1 ∙ v.2

@@ -11,5 +11,5 @@ invariant-loop-i l =
     × (l.size * l.i-iterator.count + length l.i-iterator.iter.rest.now ≡ length l.part) × (length l.deg ≡ length l.initial.deg) × (NoneAbove 1 l.initial.deg → NoneAbove 1 l.deg)
     × ((count : ℕ) → l.size * count ≡ length l.part →
     (l.size * (count - l.i-iterator.count) ≡ length l.i-iterator.iter.rest.now)
-    × (vertex_run l.size (part_limits l.cap l.types) l.deg (count - l.i-iterator.count) l.i-iterator.iter.rest.now (6 + l.size * l.i-iterator.count) ≡ vertex_run l.size (part_limits l.cap l.types) l.initial.deg count l.part 6)
+    × (vertex_run l.size (part_limits l.limits.vertices l.limits.types) l.deg (count - l.i-iterator.count) l.i-iterator.iter.rest.now (6 + l.size * l.i-iterator.count) ≡ vertex_run l.size (part_limits l.limits.vertices l.limits.types) l.initial.deg count l.part 6)
     × (vertex_marks l.size l.deg (count - l.i-iterator.count) l.i-iterator.iter.rest.now ≡ vertex_marks l.size l.initial.deg count l.part))
