@@ -1,5 +1,6 @@
 // Each part in turn, over scratch of their own: deg has 1 + its ends so far for a vertex, own the vertex of an
-// oriented word.
+// oriented word. The two are lent apart: a field of a struct that is lent as `&mut`, handed on as a slice that is read, keeps
+// no clause on its elements.
 ghost use Rattle.std.specs.Prelude.{◌≡◌, ◌+◌, ◌-◌, ◌*◌, ◌^◌, ◌≤◌, ◌<◌, ℕ, length, get_or, drop, Ok};
 ghost use Rattle.graph.specs.Limits.{most_vertices, most_edges};
 ghost use Rattle.image_check.specs.Checks.{bounds, part_limits};
