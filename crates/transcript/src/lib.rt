@@ -33,6 +33,7 @@ fn respond(start: &[u32], calls: &[u32], out: &mut [u8; 100000]) -> usize
         &mut answers,
         &mut image,
     );
+    // A run answers in the words that C is given: a code, and two numbers in either case.
     if ran.code != 0 {
         return text::write_refused(ran.code, ran.done as u32, out);
     }
