@@ -161,18 +161,18 @@ pub fn remove_edge(
     head: Head,
     room: &mut Room<'_>,
     n: u32,
-    w: RemovedEdge,
+    removed: RemovedEdge,
 ) -> Result<Made, Refusal>
     requires number { n < 2 ^ 31 }
-    requires can { CanRemoveEdge n w.alpha w.omega (state_of head tables.old) }
-    requires words { IsWords w.kind w.decimetres }
-    ensures tries { Tries (removal_of n w) (attempt_of head tables.old room.old)
+    requires can { CanRemoveEdge n removed.alpha removed.omega (state_of head tables.old) }
+    requires words { IsWords removed.kind removed.decimetres }
+    ensures tries { Tries (removal_of n removed) (attempt_of head tables.old room.old)
         (outcome_of head result tables.new room.new.journal.now) }
     ensures same_loan { SameLoan tables.old tables.new }
     ensures same_room { SameRoom room.old room.new }
 {
-    put_step(room, w.row_words(n))?;
-    let head = tables.remove_edge(head, n, w.alpha, w.omega);
+    put_step(room, removed.row_words(n))?;
+    let head = tables.remove_edge(head, n, removed.alpha, removed.omega);
     Ok(Made { head, cost: 1 })
 }
 
