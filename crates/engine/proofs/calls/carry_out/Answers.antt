@@ -1,7 +1,6 @@
-use Prim.Native.Nat.{◌+◌, ◌*◌, ◌≤◌, ◌<◌}
 use mathlib.Core.Path.{refl, ◌∙◌}
 use native.Mathlib.Omega.{arith}
-use lib.ListN.{length, take, length-set}
+use lib.ListN.{take, length-set}
 use Rattle.engine.specs.Running.{allowing}
 use Rattle.engine.proofs.CallLaws.{used_is, last_within, next_at, command_near, after_calls_none, after_calls_more, after_calls_all}
 use Rattle.engine.proofs.calls.carry_out.Goals as goal
