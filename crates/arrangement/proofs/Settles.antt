@@ -9,9 +9,14 @@ use lib.Seq.{sets}
 use borrow.Author.Tests.{eq-eqb, ne_eqb, lt-ltb, le-ltb}
 use Rattle.lists.specs.Lists.{overwritten}
 use Rattle.lists.proofs.Stores.{sets_over}
-use Rattle.arrangement.specs.Orders.{refusal, written, call_words}
+use Rattle.arrangement.specs.declared.Arrangement.{Arrangement}
+use Rattle.arrangement.specs.Orders.{outcome, refusal, written, call_words}
 use Rattle.arrangement.specs.Scratch.{taken, settled}
 use Rattle.arrangement.proofs.Turns.{words_length}
+
+-- what C is told of a refusal
+pub refused_is : (r : Arrangement) (list : List ℕ) (code : ℕ) → (r.code ≡ code) × (r.calls ≡ 0) → outcome r list ≡ refusal code list
+refused_is r list code e = λ i. record { code = e.0 i; calls = e.1 i; list = list }
 
 module _ (kind : ℕ) (wanted : List ℕ) (count : ℕ) (s list : List ℕ) where
   pub settle_other : (length wanted ≡ count → ⊥) → refusal 111 list ≡ settled kind wanted count s list

@@ -3,9 +3,29 @@ use Rattle.std.specs.Prelude.{ℕ, ⊤, Result, Ok, Err}
 use Rattle.commands.specs.declared.Answer.{Answer}
 use Rattle.commands.specs.Answers.{accepts, refuses}
 use Rattle.commands.specs.declared.refusal.Refusal.{Refusal}
-use Rattle.commands.specs.declared.refusal.Refusal.TheVariants.{UnknownKind, NumberOutside, NumberInUse, NoVertex, NoEdge, NoType, NoReading,
-  OtherList, SameTwice, NoRoom, NoMark, MarkStands, MarkGone, AtTheEnd, NoSide, NothingHeard, NoPriceList, NoName, NameUnknown,
-  NoBench, NoStore}
+use Rattle.commands.specs.declared.refusal.Refusal.TheVariants.{
+  UnknownKind,
+  NumberOutside,
+  NumberInUse,
+  NoVertex,
+  NoEdge,
+  NoType,
+  NoReading,
+  OtherList,
+  SameTwice,
+  NoRoom,
+  NoMark,
+  MarkStands,
+  MarkGone,
+  AtTheEnd,
+  NoSide,
+  NothingHeard,
+  NoPriceList,
+  NoName,
+  NameUnknown,
+  NoBench,
+  NoStore,
+}
 
 -- REFERENCE 7
 abbrev pub refusal_code : Refusal → ℕ

@@ -9,10 +9,9 @@ ghost use Rattle.commands.specs.Answers.{accepts, refuses};
 ghost use Rattle.commands.specs.Commands.{command_of};
 ghost use Rattle.commands.specs.Refusals.{answer_by};
 
+use crate::refusal::Refusal;
 use graph::{Change, SingleChange};
 use lists::get;
-
-use crate::refusal::Refusal;
 
 // Kinds 17 to 22, 49 to 51 and 56 to 59; a name is two words.
 #[derive(Clone, Copy, Debug, PartialEq, Eq)]
