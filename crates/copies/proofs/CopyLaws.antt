@@ -7,10 +7,10 @@ use mathlib.Core.Bool.{Bool, true, false}
 use mathlib.Core.List.{List, [], ◌∷◌, ◌++◌, append_assoc}
 use native.Mathlib.Omega.{arith}
 use native.Mathlib.Nat.{mul-suc, mul-le-mul_left}
-use borrow.Author.Tests.{eq-eqb, ne_eqb}
+use borrow.Author.Tests.{ne_eqb}
 use borrow.Rule.Slice.PartMut.{put_mid, Post-is}
-use lib.ListN.{length, get_or, take, drop, length-append, length-drop}
-use lib.Seq.{sets, length-sets, length-take-le, get_or-take, get_or-drop}
+use lib.ListN.{length, get_or, take, drop, length-append}
+use lib.Seq.{sets, length-sets, get_or-take, get_or-drop}
 use Rattle.lists.specs.Choice.{◌⇒◌else◌}
 use Rattle.lists.specs.Lists.{All, done, more, overwritten}
 use Rattle.lists.proofs.Stores.{sets_front, take_drop, sets_read, part_sets}
@@ -185,26 +185,8 @@ module _ (w : Parameters) (lent copies : List ℕ) (gs : List Graph) (n : ℕ) (
 
 -- ---- the part that is lent to `save`
 
-pub part_length : (s : State) (cs : List ℕ) (at size : ℕ) → at + size ≤ length cs → CanSave s size → CanSave s (length (take (at + size - at) (drop at cs)))
-part_length s cs at size h c =
-    let e : at + size - at ≡ size = omega arith in
-    let l : length (take (at + size - at) (drop at cs)) ≡ size = rw e (length-take-le size (drop at cs) (rw length-drop (omega arith))) in
-    subst (CanSave s) (sym l) c
-
 pub saved_small : (s : State) (g : Graph) (size : ℕ) → CanSave s size → Holds s g → length (save g) ≤ size
 saved_small s g size c h =
     let f = from_facts c.bounds c.graph c.holds.sound c.within in
     let e : g ≡ c.graph = holds_one s g c.graph h c.holds in
     rw e (omega (arith, image_length_lem c.bounds c.graph f, c.holds.core.vertices, c.holds.core.edges, c.room))
-
--- ---- the words that are loaded
-
-module _ (start copies : List ℕ) (size k : ℕ) where
-  pub start_words : k ≡ 0 → copy_words start copies size k ≡ start
-  start_words e = rw (eq-eqb k 0 e)
-
-  pub copy_words_lem : k ≢ 0 → copy_words start copies size k ≡ take (size * (k - 1) + get_or copies (size * (k - 1) + 5) 0 - size * (k - 1)) (drop (size * (k - 1)) copies)
-  copy_words_lem n =
-      let t = get_or copies (size * (k - 1) + 5) 0 in
-      let e : t ≡ size * (k - 1) + t - size * (k - 1) = omega arith in
-      rw (ne_eqb k 0 n) (ap (λ (j : ℕ). take j (drop (size * (k - 1)) copies)) e)

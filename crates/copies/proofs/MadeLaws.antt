@@ -10,7 +10,7 @@ use native.Mathlib.Numerals.{add-one}
 use borrow.Author.Tests.{le-leb, eqb-false}
 use lib.Dec.{leb}
 use lib.ListN.{length, get_or, take, drop, length-append, length-drop}
-use lib.Seq.{take-suc, length-take-le, split_at, get_or-take, get_or-drop}
+use lib.Seq.{take-suc, length-take-le, split_at}
 use Rattle.lists.specs.Choice.{◌⇒◌else◌, within, to_bit}
 use Rattle.lists.specs.Lists.{filter, All, done, more}
 use Rattle.lists.proofs.Bools.{ft, and_both}
@@ -252,18 +252,14 @@ module _ (calls : List ℕ) (k : ℕ) (fits : 5 * k + 5 ≤ length calls) where
       let more : changes_in (x ∷ rest) ≡ suc (changes_in rest) = rw t in
       omega (arith, ap changes_in all, changes_more (take k (calls_of calls)) (x ∷ rest), more)
 
-  pub changes_one : changes_in (take (k + 1) (calls_of calls)) ≡ changes_in (take k (calls_of calls)) + to_bit (within 1 16 (get_or calls (5 * k) 0))
-  changes_one =
-      let five : 5 * k + 5 - 5 * k ≡ 5 = omega arith in
-      let none : 5 * k + 0 ≡ 5 * k = omega arith in
-      let w : get_or part 0 0 ≡ get_or calls (5 * k) 0 =
-      ap (λ (j : ℕ). get_or (take j (drop (5 * k) calls)) 0 0) five ∙ get_or-take 5 (drop (5 * k) calls) 0 0 (omega arith) ∙ get_or-drop (5 * k) calls 0 0 ∙ ap (λ (j : ℕ). get_or calls j 0) none in
-      ap changes_in one_more ∙ changes_more (take k (calls_of calls)) (call_at part ∷ []) ∙ ap (λ (j : ℕ). changes_in (take k (calls_of calls)) + j)
-      (bit (get_or part 0 0) ∙ ap (λ (j : ℕ). to_bit (within 1 16 j)) w)
-    where
-      bit : (kind : ℕ) → length (within 1 16 kind ⇒ (call_at part ∷ []) else []) ≡ to_bit (within 1 16 kind)
-      bit kind = go (within 1 16 kind)
-        where
-          go : (t : Bool) → length (t ⇒ (call_at part ∷ []) else []) ≡ to_bit t
-          go true = refl
-          go false = refl
+-- the first call of some words, and the rest
+pub changes_first : (x rest ws : List ℕ) (t : Bool) → ws ≡ x ++ rest → length x ≡ 5 → within 1 16 (get_or x 0 0) ≡ t →
+    (length ws ≡ 5 + length rest) × (changes_in (calls_of ws) ≡ to_bit t + changes_in (calls_of rest))
+changes_first (k ∷ a ∷ b ∷ c ∷ d ∷ []) rest ws true e h f = rw (e, f) (omega arith, omega arith)
+changes_first (k ∷ a ∷ b ∷ c ∷ d ∷ []) rest ws false e h f = rw (e, f) (omega arith, omega arith)
+changes_first [] rest ws t e h f = absurd (omega (arith, h))
+changes_first (k ∷ []) rest ws t e h f = absurd (omega (arith, h))
+changes_first (k ∷ a ∷ []) rest ws t e h f = absurd (omega (arith, h))
+changes_first (k ∷ a ∷ b ∷ []) rest ws t e h f = absurd (omega (arith, h))
+changes_first (k ∷ a ∷ b ∷ c ∷ []) rest ws t e h f = absurd (omega (arith, h))
+changes_first (k ∷ a ∷ b ∷ c ∷ d ∷ g ∷ x) rest ws t e h f = absurd (omega (arith, h))

@@ -1,34 +1,24 @@
--- Roles of calls, where moves lead, and what the roles leave.
+-- Roles of calls.
 use Rattle.std.specs.Prelude.{◌==◌}
-use Prim.Native.Nat.{ℕ, ◌+◌, ◌-◌}
+use Prim.Native.Nat.{ℕ}
 use mathlib.Core.Path.{◌≡◌, refl, sym, ap, subst, ◌∙◌}
 use mathlib.Core.Logic.{◌≢◌}
 use mathlib.Core.Bool.{Bool, true, false}
-use mathlib.Core.List.{List}
 use native.Mathlib.Omega.{arith}
-use borrow.Author.Tests.{ne_eqb, eqb-false, le-leb, leb-true, ltb-true, ltb-false}
-use lib.Dec.{leb, ltb}
+use borrow.Author.Tests.{ne_eqb, eqb-false, le-leb, leb-true}
+use lib.Dec.{leb}
 use Rattle.lists.specs.Choice.{◌⇒◌else◌, within}
 use Rattle.lists.proofs.Bools.{ft, and_true, and_both}
 use Rattle.lists.proofs.Picks.{same, differ, same?}
-use Rattle.graph.specs.Graph.{Graph}
-use Rattle.history.specs.Machine.{distance, name}
 use Rattle.commands.specs.Calls.{Call, five}
 use Rattle.commands.specs.Commands.{command_of, history_of}
 use Rattle.commands.specs.declared.HistoryCall.{HistoryCall}
 use Rattle.commands.specs.declared.HistoryCall.TheVariants.{SetMark, DropMark, Undo, Redo, GoTo, Commit as CommitCall, Between, Standing, Free, NameMark, GoToName, SetBench, MadeBy}
 use Rattle.commands.specs.declared.Command.{Command}
 use Rattle.commands.specs.declared.Command.TheVariants.{Alter, History, Ask, Quote, Unknown}
-use Rattle.marks.specs.Marked.{place_in}
-use Rattle.marks.specs.Named.{holder_in}
-use Rattle.marks.specs.Codes.{standing_code}
-use Rattle.timeline.specs.JournalRows.{shifted}
-use Rattle.history_calls.specs.declared.Store.{Store}
 use Rattle.history_calls.specs.Outcomes.{Leads}
-use Rattle.copies.specs.declared.Role.{Role}
-use Rattle.copies.specs.declared.Role.TheVariants.{Move, Change, Commit, Other}
-use Rattle.copies.specs.declared.Target.{Target}
-use Rattle.copies.specs.Recording.{history_role, role_of, other_role, Led, count_after, numbers_after, used_after, copies_after}
+use Rattle.copies.specs.declared.Role.TheVariants.{Move, Change, Other}
+use Rattle.copies.specs.Recording.{history_role, role_of, other_role}
 
 -- ---- the role of a call, by its kind
 
@@ -99,48 +89,6 @@ module _ (k a b c d : ℕ) where
       let both = and_true (leb 1 k) (leb k 16) w in
       rw (ne_eqb k 0 (λ z. omega (arith, z, leb-true 1 k both.0)), both.1)
 
--- ---- where a move leads
-
-shifts : (p q : ℕ) → q ≡ shifted (ltb q p) (distance p q) p
-shifts p q = go (ltb q p) refl
-  where
-    go : (t : Bool) → ltb q p ≡ t → q ≡ shifted t (distance p q) p
-    go true f = omega (arith, ltb-true q p f)
-    go false f = omega (arith, ltb-false q p f)
-
-module _ (x : Store) (marks : List ℕ) (t : Target) where
-  abbrev p : ℕ
-  p = x.current.position.place
-
-  pub led_back : (t.code ≡ ((p == 0) ⇒ 14 else 0)) × (t.code ≡ 0 → t.place ≡ p - 1) → Led x marks Undo t
-  led_back h = record { coded = h.0; ended = h.1 }
-
-  pub led_on : (t.code ≡ ((p == x.current.position.steps) ⇒ 14 else 0)) × (t.code ≡ 0 → t.place ≡ p + 1) → Led x marks Redo t
-  led_on h = record { coded = h.0; ended = h.1 }
-
-  pub led_mark : (a : ℕ) → (t.code ≡ standing_code x.set a) × (t.place ≡ place_in marks a) → Led x marks (GoTo a) t
-  led_mark a h = record { coded = h.0; ended = λ z. h.1 ∙ shifts p (place_in marks a) }
-
-  pub led_name : (b c : ℕ) → (t.code ≡ ((holder_in x.set marks 0 (name b c) == 0) ⇒ 19 else 0)) × (t.place ≡ place_in marks (holder_in x.set marks 0 (name b c)))
-      → Led x marks (GoToName b c) t
-  led_name b c h = record { coded = h.0; ended = λ z. h.1 ∙ shifts p (place_in marks (holder_in x.set marks 0 (name b c))) }
-
-  pub no_leads : (h : HistoryCall) → (h ≡ Undo → ⊥) → (h ≡ Redo → ⊥) → ((a : ℕ) → h ≡ GoTo a → ⊥) → ((a b : ℕ) → h ≡ GoToName a b → ⊥)
-      → Leads h → Led x marks h t
-  no_leads (SetMark a) n1 n2 n3 n4 l = absurd l
-  no_leads (DropMark a) n1 n2 n3 n4 l = absurd l
-  no_leads Undo n1 n2 n3 n4 l = absurd (n1 refl)
-  no_leads Redo n1 n2 n3 n4 l = absurd (n2 refl)
-  no_leads (GoTo a) n1 n2 n3 n4 l = absurd (n3 a refl)
-  no_leads CommitCall n1 n2 n3 n4 l = absurd l
-  no_leads (Between a b) n1 n2 n3 n4 l = absurd l
-  no_leads Standing n1 n2 n3 n4 l = absurd l
-  no_leads Free n1 n2 n3 n4 l = absurd l
-  no_leads (NameMark a b c) n1 n2 n3 n4 l = absurd l
-  no_leads (GoToName a b) n1 n2 n3 n4 l = absurd (n4 a b refl)
-  no_leads (SetBench a) n1 n2 n3 n4 l = absurd l
-  no_leads (MadeBy a b c) n1 n2 n3 n4 l = absurd l
-
 -- ---- moves
 
 history_moves : (k h : HistoryCall) → history_role k ≡ Move h → (History k ≡ History h) × Leads h
@@ -164,15 +112,3 @@ moves (History k) h e = history_moves k h e
 moves (Ask q) h e = absurd (let z : ◌≡◌ {A = ℕ} 0 1 = cc in omega arith)
 moves (Quote p) h e = absurd (let z : ◌≡◌ {A = ℕ} 0 1 = cc in omega arith)
 moves Unknown h e = absurd (let z : ◌≡◌ {A = ℕ} 0 1 = cc in omega arith)
-
--- ---- roles that leave the copies
-
-abbrev pub Left : Role → Type 0
-Left s = (k p q n u size : ℕ) (g : Graph) (numbers used copies : List ℕ) → (n ≡ count_after s k n) × (numbers ≡ numbers_after s k p q n numbers) × (used ≡ used_after s k q u used)
-    × (copies ≡ copies_after s k size n g copies)
-
-pub left_alone : (s : Role) → (s ≡ Change → ⊥) → (s ≡ Commit → ⊥) → Left s
-left_alone (Move h) n1 n2 k p q n u size g numbers used copies = (refl, refl, refl, refl)
-left_alone Change n1 n2 k p q n u size g numbers used copies = absurd (n1 refl)
-left_alone Commit n1 n2 k p q n u size g numbers used copies = absurd (n2 refl)
-left_alone Other n1 n2 k p q n u size g numbers used copies = (refl, refl, refl, refl)

@@ -1,5 +1,5 @@
 -- What the copies, and the places of the steps among them, have to do with the plain machine.
-use Rattle.std.specs.Prelude.{ℕ, zero, suc, ◌+◌, ◌-◌, ◌*◌, ◌≤◌, ◌<◌, ◌≡◌, Bool, true, false, not, ◌≢◌, List, length, get_or, take, drop, set, ◌==◌}
+use Rattle.std.specs.Prelude.{ℕ, zero, suc, ◌+◌, ◌-◌, ◌*◌, ◌≤◌, ◌<◌, ◌≡◌, Bool, true, false, not, ◌≢◌, List, length, get_or, take, drop, set, Result, Ok, Err, ◌==◌}
 use Rattle.std.proofs.lemmas.List.Edits.{sets}
 use Rattle.lists.specs.Choice.{◌⇒◌else◌}
 use Rattle.lists.specs.Lists.{All}
@@ -27,6 +27,8 @@ use Rattle.commands.specs.declared.HistoryCall.TheVariants.{
   MadeBy,
 }
 use Rattle.commands.specs.declared.Command.{Command}
+use Rattle.commands.specs.declared.refusal.Refusal.{Refusal}
+use Rattle.commands.specs.Refusals.{refusal_code}
 use Rattle.commands.specs.declared.Command.TheVariants.{Alter, History, Ask, Quote, Unknown}
 use Rattle.timeline.specs.declared.Current.{Current}
 use Rattle.timeline.specs.Steps.{rows_to}
@@ -35,7 +37,6 @@ use Rattle.timeline.specs.JournalRows.{shifted}
 use Rattle.history_calls.specs.declared.Store.{Store}
 use Rattle.history_calls.specs.Outcomes.{way_of}
 use Rattle.copies.specs.declared.Role.{Role}
-use Rattle.copies.specs.declared.Target.{Target}
 use Rattle.copies.specs.declared.Role.TheVariants.{Move, Change, Commit, Other}
 use Rattle.copies.specs.Copies.{stretch, recorded}
 
@@ -106,11 +107,11 @@ other_role k a b =
     (k == 57) ⇒ Move (GoToName a b) else
     Other
 
--- where a move leads: the code of its way, or the place at its end
-pub record Led (x : Store) (marks : List ℕ) (h : HistoryCall) (t : Target) : Type 0 where
-  pub coded : t.code ≡ (way_of x marks h).code
-  pub ended : t.code ≡ 0
-      → t.place ≡ shifted (way_of x marks h).back (way_of x marks h).steps x.current.position.place
+-- where a move leads: the place at the end of its way, or the code of the way
+abbrev pub Led : Store → List ℕ → HistoryCall → Result ℕ Refusal → Type 0
+Led x marks h (Ok place) = ((way_of x marks h).code ≡ 0)
+    × (place ≡ shifted (way_of x marks h).back (way_of x marks h).steps x.current.position.place)
+Led x marks h (Err refusal) = (way_of x marks h).code ≡ refusal_code refusal
 
 -- a change whose number is not 0 is a step, and has a copy
 abbrev pub takes : Role → ℕ → Bool

@@ -9,11 +9,11 @@ ghost use Rattle.graph_tables.specs.Capacities.{Sized};
 ghost use Rattle.history_calls.specs.Memory.{memory, tables_of};
 ghost use Rattle.history_calls.specs.Represents.{Represents};
 
-use history_calls::{Store, start as without_steps};
+use history_calls::Store;
 use image_tables::load;
 
-// Loads a start image that `image_check::check` has found sound: its graph, no step and no mark. Which words of the
-// tables hold the graph is left open. The journal and the words of the marks are not looked at.
+/// Loads a start image that `image_check::check` has found sound: its graph, no step and no mark. Which words of the
+/// tables hold the graph is left open. The journal and the words of the marks are not looked at.
 pub fn begin(start: &[u32], vertices: &mut [u32], edges: &mut [u32]) -> Store
     requires { CanLoad start.now vertices.old edges.old }
     ensures { (b : Bounds) → (journal marks : List ℕ)
@@ -23,5 +23,5 @@ pub fn begin(start: &[u32], vertices: &mut [u32], edges: &mut [u32]) -> Store
         (fresh (load_of start.now)) }
 {
     let head = load(start, vertices, edges);
-    without_steps(head)
+    Store::start(head)
 }

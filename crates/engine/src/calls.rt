@@ -12,9 +12,9 @@ use crate::step::step;
 use commands::{Answer, decode};
 use history_calls::{Called, Store};
 
-// Answers so many calls by two words each, code and number, where so many changes may be remembered up to the place; no
-// call may lead farther than that. The five words of a call begin `width` words behind those of the one before. The
-// words of tables, journal and marks are left open, but for the machine that they stand for.
+/// Answers so many calls by two words each, code and number, where so many changes may be remembered up to the place; no
+/// call may lead farther than that. The five words of a call begin `width` words behind those of the one before. The
+/// words of tables, journal and marks are left open, but for the machine that they stand for.
 pub fn carry_out(
     store: Store,
     vertices: &mut [u32],
@@ -40,23 +40,23 @@ pub fn carry_out(
         → AfterCalls w capacity m xs result (memory vertices.new edges.new journal.new marks.new) closed.now types
         answers.old answers.new }
 {
-    let mut y = history_calls::same(store);
+    let mut present = store.same();
     // Where the next call begins: reckoned from k, it takes up to 13 in 100 more.
     let mut at = 0;
     for k in 0..count {
         let command = decode(&calls[at..at + 5]);
         at += width;
         let done = step(
-            y, vertices, edges, journal, marks, closed, types, capacity, command,
+            present, vertices, edges, journal, marks, closed, types, capacity, command,
         );
-        y = history_calls::same(done.store);
+        present = done.store.same();
         answers[2 * k] = done.answer.code;
         answers[2 * k + 1] = done.answer.number;
     }
-    y
+    present
 }
 
-// Every call of a store alone, five words each: all rows of its journal may be used, so that no call leads too far.
+/// Every call of a store alone, five words each: all rows of its journal may be used, so that no call leads too far.
 pub fn each(
     store: Store,
     vertices: &mut [u32],
@@ -92,8 +92,8 @@ pub fn each(
     )
 }
 
-// One call by the same loop, so that a step is compiled once. A caller has a call's five words. The words of tables,
-// journal and marks are left open as above, after a refused call too.
+/// One call by the same loop, so that a step is compiled once. A caller has a call's five words. The words of tables,
+/// journal and marks are left open as above, after a refused call too.
 pub fn one(
     store: Store,
     vertices: &mut [u32],
@@ -111,7 +111,7 @@ pub fn one(
         closed.now types }
 {
     let mut answer = [0u32; 2];
-    let y = each(
+    let store = each(
         store,
         vertices,
         edges,
@@ -123,7 +123,7 @@ pub fn one(
         &mut answer,
     );
     Called {
-        store: y,
+        store,
         answer: Answer {
             code: answer[0],
             number: answer[1],

@@ -28,7 +28,7 @@ use recorder::record_run;
 use reduction::{Reduction, reduce};
 use stores::run::run as run_stores;
 
-// The version of what a caller sees, as include/futtockfig.h has it.
+/// The version of what a caller sees, as include/futtockfig.h has it.
 #[unsafe(no_mangle)]
 pub extern "C" fn futtockfig_version() -> u32
     ensures { result ≡ 17 }
@@ -36,7 +36,7 @@ pub extern "C" fn futtockfig_version() -> u32
     17
 }
 
-// A slice is a pointer and a length.
+/// A slice is a pointer and a length.
 #[unsafe(no_mangle)]
 pub extern "C" fn futtockfig_run(
     start: &[u32],
@@ -64,8 +64,8 @@ pub extern "C" fn futtockfig_run(
     run(start, rows, calls, vertices, edges, journal, answers, image)
 }
 
-// Up to eight stores in one run, six words a call, and one limit on the changes that all of them remember. What their
-// parts of the tables hold afterwards is left open.
+/// Up to eight stores in one run, six words a call, and one limit on the changes that all of them remember. What their
+/// parts of the tables hold afterwards is left open.
 #[unsafe(no_mangle)]
 pub extern "C" fn futtockfig_run_stores(
     start: &[u32],
@@ -100,7 +100,7 @@ pub extern "C" fn futtockfig_run_stores(
     )
 }
 
-// Where a part of an image lies, in words. No function that C calls can return a part itself.
+/// Where a part of an image lies, in words. No function that C calls can return a part itself.
 #[repr(C)]
 #[derive(Clone, Copy, Debug, PartialEq, Eq)]
 pub struct Span {
@@ -120,23 +120,23 @@ pub extern "C" fn futtockfig_part(words: &[u32], part: u32) -> Span
     }
 }
 
-// The page of an image.
+/// The page of an image.
 #[unsafe(no_mangle)]
 pub extern "C" fn futtockfig_page(words: &[u32], page: &mut [u8]) -> Printed
     ensures { printed result page.new ≡ page_of words.now page.old }
 {
-    print(words, page)
+    Printed::from(print(words, page))
 }
 
-// Two images beside each other.
+/// Two images beside each other.
 #[unsafe(no_mangle)]
 pub extern "C" fn futtockfig_compare(first: &[u32], second: &[u32], tolerance: u32) -> Compared
     ensures { result ≡ comparison first.now second.now tolerance }
 {
-    compare(first, second, tolerance)
+    Compared::from(compare(first, second, tolerance))
 }
 
-// The calls that bring Vseq, Eseq, or the list of a vertex, into a wanted order.
+/// The calls that bring Vseq, Eseq, or the list of a vertex, into a wanted order.
 #[unsafe(no_mangle)]
 pub extern "C" fn futtockfig_arrange_vertices(
     words: &[u32],
@@ -146,7 +146,7 @@ pub extern "C" fn futtockfig_arrange_vertices(
     ensures { outcome result list.new
         ≡ vertex_order words.now wanted.now list.old }
 {
-    arrange_vertices(words, wanted, list)
+    Arrangement::from(arrange_vertices(words, wanted, list))
 }
 
 #[unsafe(no_mangle)]
@@ -158,7 +158,7 @@ pub extern "C" fn futtockfig_arrange_edges(
     ensures { outcome result list.new
         ≡ edge_order words.now wanted.now list.old }
 {
-    arrange_edges(words, wanted, list)
+    Arrangement::from(arrange_edges(words, wanted, list))
 }
 
 #[unsafe(no_mangle)]
@@ -171,10 +171,10 @@ pub extern "C" fn futtockfig_arrange_words(
     ensures { outcome result list.new
         ≡ word_order words.now vertex wanted.now list.old }
 {
-    arrange_words(words, vertex, wanted, list)
+    Arrangement::from(arrange_words(words, vertex, wanted, list))
 }
 
-// The run, and a copy of the graph after every step.
+/// The run, and a copy of the graph after every step.
 #[unsafe(no_mangle)]
 pub extern "C" fn futtockfig_record(
     start: &[u32],
@@ -205,7 +205,7 @@ pub extern "C" fn futtockfig_record(
     )
 }
 
-// The least list whose last call still gets its code. The end image's slice is only measured.
+/// The least list whose last call still gets its code. The end image's slice is only measured.
 #[unsafe(no_mangle)]
 pub extern "C" fn futtockfig_reduce(
     start: &[u32],

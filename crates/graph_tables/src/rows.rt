@@ -23,7 +23,7 @@ impl<'t> Tables<'t> {
         requires field { field < 8 }
         ensures { result ≡ vertex_field field self.now.vertices.now v }
     {
-        self.vertices[vertex_row(v) + field]
+        vertex_field(self.vertices, v, field)
     }
 
     /// Word `field` of the row of edge e.
@@ -33,7 +33,7 @@ impl<'t> Tables<'t> {
         requires field { field < 12 }
         ensures { result ≡ edge_field field self.now.edges.now e }
     {
-        self.edges[edge_row(e) + field]
+        edge_field(self.edges, e, field)
     }
 
     /// Word `field` of the half of oriented word w.
@@ -52,25 +52,16 @@ impl<'t> Tables<'t> {
         requires { VertexRowIn self.now.vertices.now v }
         ensures { result ≡ vertex_ends self.now.vertices.now v }
     {
-        Ends {
-            first: self.vertex_field(v, VERTEX_FIRST),
-            last: self.vertex_field(v, VERTEX_LAST),
-        }
+        ends_of(self.vertices, v)
     }
 
-    /// What the row of edge e says of it. Save, removal and the edits of type and reading read an edge by this.
+    /// What the row of edge e says of it. Removal and the edits of type and reading read an edge by this.
     #[inline(always)]
     pub fn edge_fields(&self, e: u32) -> EdgeFields
         requires { EdgeRowIn self.now.edges.now e }
         ensures { result ≡ edge_fields self.now.edges.now e }
     {
-        EdgeFields {
-            alpha: self.edge_field(e, EDGE_ALPHA),
-            omega: self.edge_field(e, EDGE_OMEGA),
-            sort: self.edge_field(e, EDGE_TYPE),
-            kind: self.edge_field(e, EDGE_KIND),
-            decimetres: self.edge_field(e, EDGE_DECIMETRES),
-        }
+        edge_fields(self.edges, e)
     }
 
     /// The reading of edge e.
@@ -83,6 +74,53 @@ impl<'t> Tables<'t> {
             self.edge_field(e, EDGE_KIND),
             self.edge_field(e, EDGE_DECIMETRES),
         )
+    }
+}
+
+// Saving is lent the two tables to read alone, and so has no `Tables`: these read from one table.
+
+/// Word `field` of the row of vertex v.
+#[inline(always)]
+pub fn vertex_field(vertices: &[u32], v: u32, field: usize) -> u32
+    requires { VertexRowIn vertices.now v × (field < 8) }
+    ensures { result ≡ vertex_field field vertices.now v }
+{
+    vertices[vertex_row(v) + field]
+}
+
+/// Word `field` of the row of edge e.
+#[inline(always)]
+pub fn edge_field(edges: &[u32], e: u32, field: usize) -> u32
+    requires { EdgeRowIn edges.now e × (field < 12) }
+    ensures { result ≡ edge_field field edges.now e }
+{
+    edges[edge_row(e) + field]
+}
+
+/// The ends of v's incidence list.
+#[inline(always)]
+pub fn ends_of(vertices: &[u32], v: u32) -> Ends
+    requires { VertexRowIn vertices.now v }
+    ensures { result ≡ vertex_ends vertices.now v }
+{
+    Ends {
+        first: vertex_field(vertices, v, VERTEX_FIRST),
+        last: vertex_field(vertices, v, VERTEX_LAST),
+    }
+}
+
+/// What the row of edge e says of it.
+#[inline(always)]
+pub fn edge_fields(edges: &[u32], e: u32) -> EdgeFields
+    requires { EdgeRowIn edges.now e }
+    ensures { result ≡ edge_fields edges.now e }
+{
+    EdgeFields {
+        alpha: edge_field(edges, e, EDGE_ALPHA),
+        omega: edge_field(edges, e, EDGE_OMEGA),
+        sort: edge_field(edges, e, EDGE_TYPE),
+        kind: edge_field(edges, e, EDGE_KIND),
+        decimetres: edge_field(edges, e, EDGE_DECIMETRES),
     }
 }
 
@@ -165,40 +203,12 @@ pub fn put_this(edges: &mut [u32], e: u32, a: u32, z: u32)
 
 // ---- the same of tables that are lent apart, for the crates that do not hand `Tables` on yet
 
-/// Word `field` of the row of vertex v.
-pub fn vertex_field(vertices: &[u32], v: u32, field: usize) -> u32
-    requires { VertexRowIn vertices.now v × (field < 8) }
-    ensures { result ≡ vertex_field field vertices.now v }
-{
-    vertices[8 * v as usize - 8 + field]
-}
-
-/// Word `field` of the row of edge e.
-pub fn edge_field(edges: &[u32], e: u32, field: usize) -> u32
-    requires { EdgeRowIn edges.now e × (field < 12) }
-    ensures { result ≡ edge_field field edges.now e }
-{
-    edges[12 * e as usize - 12 + field]
-}
-
 /// Word `field` of the half of oriented word w.
 pub fn half_field(edges: &[u32], w: u32, field: usize) -> u32
     requires { HalfRowIn edges.now w × (field < 6) }
     ensures { result ≡ half_field field edges.now w }
 {
     edges[6 * w as usize - 12 + field]
-}
-
-/// The ends of v's incidence list.
-pub fn ends_of(vertices: &[u32], v: u32) -> Ends
-    requires { VertexRowIn vertices.now v }
-    ensures { result ≡ vertex_ends vertices.now v }
-{
-    let at = 8 * v as usize - 8;
-    Ends {
-        first: vertices[at + VERTEX_FIRST],
-        last: vertices[at + VERTEX_LAST],
-    }
 }
 
 /// The kind of a reading, as a word.
@@ -242,18 +252,4 @@ pub fn reading_at(edges: &[u32], e: u32) -> Reading
         edge_field(edges, e, EDGE_KIND),
         edge_field(edges, e, EDGE_DECIMETRES),
     )
-}
-
-/// What the row of edge e says of it. Save, removal and the edits of type and reading read an edge by this.
-pub fn edge_fields(edges: &[u32], e: u32) -> EdgeFields
-    requires { EdgeRowIn edges.now e }
-    ensures { result ≡ edge_fields edges.now e }
-{
-    EdgeFields {
-        alpha: edge_field(edges, e, EDGE_ALPHA),
-        omega: edge_field(edges, e, EDGE_OMEGA),
-        sort: edge_field(edges, e, EDGE_TYPE),
-        kind: edge_field(edges, e, EDGE_KIND),
-        decimetres: edge_field(edges, e, EDGE_DECIMETRES),
-    }
 }

@@ -26,7 +26,7 @@ use Rattle.history_calls.specs.declared.Store.{Store}
 use Rattle.history_calls.specs.Outcomes.{Way}
 use Rattle.history_calls.specs.Memory.{Memory, memory}
 use Rattle.history_calls.specs.Represents.{Represents, Follows}
-use Rattle.history_calls.specs.Outcomes.{done, Leads, nowhere, way_of}
+use Rattle.history_calls.specs.Outcomes.{done, Leads, way_of}
 use Rattle.history_calls.proofs.Calls.{code_is, mark_place, mark_inside, moved_to_lem}
 use Rattle.history_calls.proofs.Following.{refused, accepted}
 
@@ -49,22 +49,6 @@ leads_by (NameMark a d e) n1 n2 n3 n4 n5 n6 n7 n8 n9 = n7 a d e refl
 leads_by (GoToName a d) n1 n2 n3 n4 n5 n6 n7 n8 n9 = tt
 leads_by (SetBench a) n1 n2 n3 n4 n5 n6 n7 n8 n9 = n8 a refl
 leads_by (MadeBy a d e) n1 n2 n3 n4 n5 n6 n7 n8 n9 = n9 a d e refl
-
-pub no_way : (x : Store) (places : List ℕ) (c : HistoryCall) → (c ≡ Undo → ⊥) → (c ≡ Redo → ⊥)
-    → ((a : ℕ) → c ≡ GoTo a → ⊥) → ((a d : ℕ) → c ≡ GoToName a d → ⊥) → nowhere ≡ way_of x places c
-no_way x places (SetMark a) n1 n2 n3 n4 = refl
-no_way x places (DropMark a) n1 n2 n3 n4 = refl
-no_way x places Undo n1 n2 n3 n4 = absurd (n1 refl)
-no_way x places Redo n1 n2 n3 n4 = absurd (n2 refl)
-no_way x places (GoTo a) n1 n2 n3 n4 = absurd (n3 a refl)
-no_way x places Commit n1 n2 n3 n4 = refl
-no_way x places (Between a d) n1 n2 n3 n4 = refl
-no_way x places Standing n1 n2 n3 n4 = refl
-no_way x places Free n1 n2 n3 n4 = refl
-no_way x places (NameMark a d e) n1 n2 n3 n4 = refl
-no_way x places (GoToName a d) n1 n2 n3 n4 = absurd (n4 a d refl)
-no_way x places (SetBench a) n1 n2 n3 n4 = refl
-no_way x places (MadeBy a d e) n1 n2 n3 n4 = refl
 
 -- ---- numbers
 

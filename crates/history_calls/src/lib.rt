@@ -199,21 +199,9 @@ impl Store {
         ensures same_loan { SameLoan tables.old tables.new }
     {
         if way.back {
-            timeline::back(
-                self.current,
-                tables.vertices,
-                tables.edges,
-                journal,
-                way.steps,
-            )
+            timeline::go::<true>(tables, self.current, journal, way.steps)
         } else {
-            timeline::on(
-                self.current,
-                tables.vertices,
-                tables.edges,
-                journal,
-                way.steps,
-            )
+            timeline::go::<false>(tables, self.current, journal, way.steps)
         }
     }
 

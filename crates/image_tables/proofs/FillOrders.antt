@@ -1,9 +1,9 @@
 -- A vertex put last in Vseq, and an edge put last in Eseq, from its record: what the tables then hold.
-use Prim.Native.Nat.{ℕ, ◌+◌, ◌≤◌}
+use Prim.Native.Nat.{ℕ, ◌+◌, ◌≤◌, ◌<◌}
 use mathlib.Core.Path.{◌≡◌, refl, sym, ap, ◌∙◌, subst}
 use mathlib.Core.List.{List, [], ◌∷◌, ◌++◌, map, map-append}
 use native.Mathlib.Omega.{arith}
-use lib.ListN.{length, get_or, length-append, length-map}
+use lib.ListN.{length, get_or, get_or-append, length-append, length-map}
 use Rattle.lists.specs.Choice.{indicator}
 use Rattle.lists.specs.Lists.{All}
 use Rattle.lists.specs.Keyed.{count_by_key, insert_after_by, last_by}
@@ -244,3 +244,37 @@ pub edge_did : (part : List ℕ) (at : ℕ) (h : Head) (vertices edges : List �
 unfolding state_add_edge
 edge_did part at h vertices edges p q r = edge_placed h vertices edges (get_or part at 0) (get_or part (at + 1) 0) (get_or part (at + 2) 0) (get_or part (at + 3) 0)
     (reading_of (get_or part (at + 4) 0) (get_or part (at + 5) 0)) h.elast p q r
+
+-- ---- for callers: a record that is read as a chunk of the part
+
+module _ (part x rest : List ℕ) (cut : part ≡ x ++ rest) (s : State) where
+  word : (j : ℕ) → j < length x → get_or part j 0 ≡ get_or x j 0
+  word j h = rw cut (get_or-append x rest 0 j h)
+
+  pub vertex_can_chunk : 3 ≤ length x → (p : ℕ) → CanInsertVertex (get_or part 0 0) p s → CanInsertVertex (get_or x 0 0) p s
+  vertex_can_chunk h p k = subst (λ (n : ℕ). CanInsertVertex n p s) (word 0 (omega (arith, h))) k
+
+  pub vertex_chunk : 3 ≤ length x → state_add_vertex x 0 s ≡ state_add_vertex part 0 s
+  unfolding state_add_vertex
+  vertex_chunk h = rw (word 0 (omega (arith, h)), word 1 (omega (arith, h)), word 2 (omega (arith, h)))
+
+  module _ (six : length x ≡ 6) where
+    pub edge_can_chunk : CanEdge part 0 s → CanEdge x 0 s
+    edge_can_chunk k = record {
+      row = subst (λ (n : ℕ). EdgeRowIn s.edges n) (word 0 (omega (arith, six))) k.row;
+      room = k.room;
+      back = subst (λ (n : ℕ). CanAppend edge_links s.edges (edge_list_ends s.head) n) (word 0 (omega (arith, six))) k.back;
+      written = rw (← word 4 (omega (arith, six)), ← word 5 (omega (arith, six))) k.written;
+    }
+
+    pub edge_chunk : state_add_edge x 0 s ≡ state_add_edge part 0 s
+    unfolding state_add_edge
+    edge_chunk =
+        rw (
+          word 0 (omega (arith, six)),
+          word 1 (omega (arith, six)),
+          word 2 (omega (arith, six)),
+          word 3 (omega (arith, six)),
+          word 4 (omega (arith, six)),
+          word 5 (omega (arith, six)),
+        )

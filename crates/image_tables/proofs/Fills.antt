@@ -4,7 +4,7 @@ use mathlib.Core.Path.{◌≡◌, refl, sym, ap, ◌∙◌, subst}
 use mathlib.Core.List.{List, [], ◌∷◌, ◌++◌, append-nil, append_assoc}
 use native.Mathlib.Omega.{arith}
 use lib.ListN.{length, drop, length-append, length-drop}
-use lib.Seq.{drop-drop, drop_at}
+use lib.Seq.{drop-drop, drop_at, drop-append_seam}
 use Rattle.lists.specs.Lists.{concat_map}
 use Rattle.graph_tables.specs.Tables.{State}
 
@@ -57,3 +57,24 @@ module _ {A : Type 0} (f : A → List ℕ) (C : State → List A → Type 0) (wh
         words = sym (drop-drop size at part) ∙ ap (drop size) t.words ∙ drop_at (f t.here) (concat_map f t.left) size e;
         core = c;
       }
+
+-- ---- by chunks: what is left of a part begins with the words of the next element, all of one size
+
+module _ {A : Type 0} (f : A → List ℕ) (C : State → List A → Type 0) (whole : List A) (size : ℕ) (part : List ℕ) (s : State) where
+  -- a chunk of the part is taken, and the rest is left
+  module _ (x rest : List ℕ) (cut : part ≡ x ++ rest) (e : length x ≡ size) where
+    pub chunk_turn : 1 ≤ size → Fill f C whole part s 0 → Turn f C whole part s 0
+    chunk_turn some h = fill_turn f C whole part s 0 h (omega (arith, some, e, ap length cut, length-append x rest))
+
+    pub chunk_next : (at : ℕ) → at ≡ size → Fill f C whole part s at → Fill f C whole rest s 0
+    chunk_next at q h =
+        let behind : drop at part ≡ rest = rw (cut, q, ← e) (drop-append_seam x rest) in
+        record { past = h.past; left = h.left; all = h.all; words = sym behind ∙ h.words; core = h.core }
+
+  -- too few words for an element are left
+  pub chunk_end : ((x : A) → length (f x) ≡ size) → Fill f C whole part s 0 → length part < size → C s whole
+  chunk_end long h i = go h.left h.all h.words
+    where
+      go : (l : List A) → h.past ++ l ≡ whole → drop 0 part ≡ concat_map f l → C s whole
+      go [] a w = subst (λ (k : List A). C s k) (sym (append-nil h.past) ∙ a) h.core
+      go (x ∷ l) a w = absurd (omega (arith, i, ap length w, length-drop 0 part, length-append (f x) (concat_map f l), long x))

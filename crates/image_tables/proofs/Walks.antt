@@ -12,7 +12,9 @@ use Rattle.linked_lists.specs.Lists.{Fresh, Every}
 use Rattle.linked_lists.specs.Links.{ValidLayout, backward, forward, Inside, link_of, Chain, Held, nodes_from, nodes}
 use Rattle.linked_lists.proofs.Pigeonhole.{held_length}
 use Rattle.linked_lists.proofs.Model.{nodes_chain, node_below, held_nodes}
-use Rattle.image_tables.specs.Words.{HoldsSome}
+use Rattle.graph_tables.specs.declared.Head.{Head}
+use Rattle.graph_tables.specs.Tables.{vertex_links, edge_links, vertex_list_ends, edge_list_ends}
+use Rattle.image_tables.specs.Words.{HoldsSome, vertex_words, edge_words, list_words, vertex_part_of, edge_part_of, incidence_part_of}
 use Rattle.lists.proofs.Stores.{sets_append, sets_apart}
 
 pub each_one : (l : List ℕ) → concat_map (λ x. x ∷ []) l ≡ l
@@ -190,3 +192,19 @@ module _ (f h : ℕ → List ℕ) (layout : LinkLayout) (t : List ℕ) (e : Ends
         let q = on_end layout t e x w.rest w.on z in
         let m : to + length (concat_map h []) ≡ to₀ + length (concat_map h (nodes layout t e)) = rw q at w.long in
         (rw q at w.same, omega (arith, m))
+
+-- ---- the parts, by the ends that a walk began with
+
+module _ (h : Head) (vertices edges : List ℕ) (e : Ends) where
+  pub edges_by : e ≡ edge_list_ends h → edge_part_of h edges ≡ concat_map (edge_words edges) (nodes edge_links edges e)
+  unfolding edge_part_of
+  edges_by q = ap (λ (x : Ends). concat_map (edge_words edges) (nodes edge_links edges x)) (sym q)
+
+  module _ (q : e ≡ vertex_list_ends h) where
+    pub vertices_by : vertex_part_of h vertices edges ≡ concat_map (vertex_words vertices edges) (nodes vertex_links vertices e)
+    unfolding vertex_part_of
+    vertices_by = ap (λ (x : Ends). concat_map (vertex_words vertices edges) (nodes vertex_links vertices x)) (sym q)
+
+    pub lists_by : incidence_part_of h vertices edges ≡ concat_map (list_words vertices edges) (nodes vertex_links vertices e)
+    unfolding incidence_part_of
+    lists_by = ap (λ (x : Ends). concat_map (list_words vertices edges) (nodes vertex_links vertices x)) (sym q)

@@ -1,6 +1,7 @@
-// The parts of an image, from the tables: each function writes words from a place on.
+// The parts of an image, from the tables: each function writes words from a place on. The walks go along links, so
+// `while x != 0` and not `for`: that a list ends is a fact of tables that hold one, not of every table.
 // A caller has tables that hold a graph and room for its image, as 106 saw to.
-ghost use Rattle.std.specs.Prelude.{◌≡◌, [], ◌∷◌, ℕ, ◌+◌, ◌≤◌, ◌<◌, ◌^◌, length};
+ghost use Rattle.std.specs.Prelude.{◌≡◌, ℕ, ◌+◌, ◌≤◌, ◌<◌, ◌^◌, length};
 ghost use Rattle.std.proofs.lemmas.List.Edits.{sets};
 ghost use Rattle.graph.specs.Limits.{most_vertices, most_edges};
 ghost use Rattle.image.specs.Image.{vertex_size, header_of};
@@ -14,18 +15,8 @@ use graph_tables::Head;
 use graph_tables::fields::{EDGE_LINKS, INCIDENCE_LINKS, VERTEX_LINKS, VERTEX_TYPE, VERTEX_VALUE};
 use graph_tables::rows::{edge_fields, ends_of, vertex_field};
 use image::layout::{EDGE, HEADER, VERTEX, edge_offset, incidence_offset};
-use linked_lists::Ends;
 
-fn three(out: &mut [u32], at: usize, a: u32, b: u32, c: u32)
-    requires { at + 3 ≤ length out.old }
-    ensures { out.new ≡ sets out.old at (a ∷ b ∷ c ∷ []) }
-{
-    out[at] = a;
-    out[at + 1] = b;
-    out[at + 2] = c;
-}
-
-// V, E, the three offsets, the total.
+/// V, E, the three offsets, the total.
 pub fn header(out: &mut [u32], v: u32, e: u32)
     requires { (v ≤ most_vertices) × (e ≤ most_edges) × (6 ≤ length out.old) }
     ensures { out.new ≡ sets out.old 0 (header_of vertex_size v e) }
@@ -33,8 +24,14 @@ pub fn header(out: &mut [u32], v: u32, e: u32)
     let edges = edge_offset(v);
     let lists = incidence_offset(v, e);
     let total = image::layout::length(v, e);
-    three(out, 0, v, e, HEADER as u32);
-    three(out, 3, edges as u32, lists as u32, total as u32);
+    out[..HEADER].copy_from_slice(&[
+        v,
+        e,
+        HEADER as u32,
+        edges as u32,
+        lists as u32,
+        total as u32,
+    ]);
 }
 
 // The record of edge e. The two words of its reading are saved as they stand, so that no branch asks for its kind.
@@ -43,27 +40,22 @@ fn edge(edges: &[u32], e: u32, out: &mut [u32], at: usize)
     ensures { out.new ≡ sets out.old at (edge_words edges.now e) }
 {
     let w = edge_fields(edges, e);
-    three(out, at, e, w.alpha, w.omega);
-    three(out, at + 3, w.sort, w.kind, w.decimetres);
+    out[at..at + EDGE].copy_from_slice(&[e, w.alpha, w.omega, w.sort, w.kind, w.decimetres]);
 }
 
-// The edge part.
+/// The edge part.
 pub fn edges(head: Head, edges: &[u32], out: &mut [u32], from: usize)
     requires { HoldsSome edge_links edges.now (edge_list_ends head)
         × HasRoom from (edge_part_of head edges.now) out.old }
     ensures { out.new ≡ sets out.old from (edge_part_of head edges.now) }
 {
-    let layout = EDGE_LINKS;
-    let ends = Ends {
-        first: head.efirst,
-        last: head.elast,
-    };
+    let ends = head.edge_ends();
     let mut at = from;
-    let mut e = layout.next(edges, ends, 0);
+    let mut e = EDGE_LINKS.next(edges, ends, 0);
     while e != 0 {
         edge(edges, e, out, at);
         at += EDGE;
-        e = layout.next(edges, ends, e);
+        e = EDGE_LINKS.next(edges, ends, e);
     }
 }
 
@@ -75,14 +67,13 @@ fn list(vertices: &[u32], edges: &[u32], v: u32, out: &mut [u32], from: usize) -
         (list_words vertices.now edges.now v))
         × (result ≡ from + length (list_words vertices.now edges.now v)) }
 {
-    let layout = INCIDENCE_LINKS;
     let ends = ends_of(vertices, v);
     let mut at = from;
-    let mut w = layout.next(edges, ends, 0);
+    let mut w = INCIDENCE_LINKS.next(edges, ends, 0);
     while w != 0 {
         out[at] = w;
         at += 1;
-        w = layout.next(edges, ends, w);
+        w = INCIDENCE_LINKS.next(edges, ends, w);
     }
     at
 }
@@ -99,15 +90,14 @@ fn vertex(vertices: &[u32], edges: &[u32], v: u32, out: &mut [u32], at: usize, t
         × (result ≡ to + length (list_words vertices.now edges.now v)) }
 {
     let end = list(vertices, edges, v, out, to);
-    let t = vertex_field(vertices, v, VERTEX_TYPE);
-    let x = vertex_field(vertices, v, VERTEX_VALUE);
-    three(out, at, v, t, x);
-    out[at + 3] = (end - to) as u32;
+    let sort = vertex_field(vertices, v, VERTEX_TYPE);
+    let value = vertex_field(vertices, v, VERTEX_VALUE);
+    out[at..at + VERTEX].copy_from_slice(&[v, sort, value, (end - to) as u32]);
     end
 }
 
-// The vertex part from `from` on and the incidence part from `behind` on, vertex by vertex on one walk. Tells the place
-// behind the lists.
+/// The vertex part from `from` on and the incidence part from `behind` on, vertex by vertex on one walk. Tells the place
+/// behind the lists.
 pub fn vertices(
     head: Head,
     vertices: &[u32],
@@ -126,18 +116,14 @@ pub fn vertices(
         behind (incidence_part_of head vertices.now edges.now))
         × (result ≡ behind + length (incidence_part_of head vertices.now edges.now)) }
 {
-    let layout = VERTEX_LINKS;
-    let ends = Ends {
-        first: head.vfirst,
-        last: head.vlast,
-    };
+    let ends = head.vertex_ends();
     let mut at = from;
     let mut to = behind;
-    let mut v = layout.next(vertices, ends, 0);
+    let mut v = VERTEX_LINKS.next(vertices, ends, 0);
     while v != 0 {
         to = vertex(vertices, edges, v, out, at, to);
         at += VERTEX;
-        v = layout.next(vertices, ends, v);
+        v = VERTEX_LINKS.next(vertices, ends, v);
     }
     to
 }

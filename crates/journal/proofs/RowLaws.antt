@@ -1,11 +1,10 @@
 -- A row that was written is read back, and the rows before it stand.
 use Prim.Native.Nat.{ℕ, zero, suc, ◌+◌, ◌*◌, ◌≤◌, ◌<◌}
 use mathlib.Core.Path.{◌≡◌, refl, sym, ap, ◌∙◌}
-use mathlib.Core.List.{List, [], ◌∷◌, ◌++◌, append_assoc}
+use mathlib.Core.List.{List, [], ◌∷◌}
 use native.Mathlib.Omega.{arith}
 use lib.ListN.{length, get_or, set, length-set, take, drop}
-use lib.Seq.{get_or-set_same, get_or-set_other, get_or-take, get_or-drop, sets, sets-eq, drop-drop}
-use borrow.Rule.Slice.PartMut.{put_mid}
+use lib.Seq.{get_or-set_same, get_or-set_other, get_or-take, get_or-drop}
 use Rattle.graph.specs.declared.Reading.{Reading}
 use Rattle.graph.specs.declared.Edit.{Edit}
 use Rattle.graph.specs.declared.Edit.TheVariants.{InsertVertex, RemoveVertex, InsertEdge, RemoveEdge, SetVertex, SetEdge, MoveVertex, MoveEdge, MoveWord}
@@ -31,17 +30,16 @@ store_at q (x ∷ l) t (suc i) h f =
     let e : q + suc i ≡ q + 1 + i = omega arith in
     rw e (store_at (q + 1) l (set t (q + 0) x) i (omega arith) (simp length-set (omega arith)))
 
-store_sets : (q : ℕ) (l t : List ℕ) → store_from q l t ≡ sets t q l
-store_sets q [] t = refl
-store_sets q (x ∷ l) t = let e : q + 1 ≡ suc q = omega arith in let f : q + 0 ≡ q = omega arith in rw (e, f) (store_sets (suc q) l (set t q x))
+store_next : (q : ℕ) (l t : List ℕ) (i : ℕ) → i < length l → store_from q (take (suc i) l) t ≡ set (store_from q (take i l) t) (q + i) (get_or l i 0)
+store_next q [] t i h = absurd (omega arith)
+store_next q (x ∷ l) t zero h = refl
+store_next q (x ∷ l) t (suc i) h =
+    let e : q + suc i ≡ q + 1 + i = omega arith in
+    rw e (store_next (q + 1) l (set t (q + 0) x) i (omega arith))
 
--- words copied into the part of the table that begins at word q and is k long
-pub copied : (q k : ℕ) (l t : List ℕ) → k ≡ length l → q + k ≤ length t → put_mid q k t l ≡ store_from q l t
-copied q k l t e h =
-    rw e (ap (λ (r : List ℕ). take q t ++ (l ++ r)) (drop-drop (length l) q t))
-    ∙ sym (append_assoc (take q t) l (drop (q + length l) t))
-    ∙ sym (sets-eq l t q (omega (arith, h, e)))
-    ∙ sym (store_sets q l t)
+-- one word more
+pub store_more : (q : ℕ) (l t : List ℕ) (i : ℕ) → i < length l → store_from q (take (i + 1) l) t ≡ set (store_from q (take i l) t) (q + i) (get_or l i 0)
+store_more q l t i h = let e : i + 1 ≡ suc i = omega arith in rw e (store_next q l t i h)
 
 -- ---- an edit as words, and back
 

@@ -110,11 +110,15 @@ pub fn put_bench(journal: &mut [u32], row: u32, bench: u32)
 
 /// Ten words and the cost of their step as one row: the writer of every row. Which words an edit is, `row_words` says.
 #[inline(always)]
+#[tactic(auto, using(crate::proofs::RowLaws::store_more))]
 pub fn put_row(journal: &mut [u32], row: u32, cost: u32, words: [u32; 10])
     requires { 12 * row + 12 ≤ length journal.old }
     ensures { journal.new ≡ set (store_from (12 * row) words journal.old) (12 * row + 10) cost }
 {
     let start = 12 * row as usize;
-    journal[start..start + 10].copy_from_slice(&words);
+    // Word by word: with copy_from_slice the ten words go through memory, and their places are compared first.
+    for (i, &word) in words.iter().enumerate() {
+        journal[start + i] = word;
+    }
     journal[start + 10] = cost;
 }

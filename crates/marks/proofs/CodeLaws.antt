@@ -1,12 +1,12 @@
 -- The codes 11, 12, 13 and 18 read off the set and the words of the marks.
 use Rattle.std.specs.Prelude.{◌==◌}
-use Prim.Native.Nat.{ℕ, ◌≤◌, ◌<◌}
+use Prim.Native.Nat.{ℕ, ◌≤◌}
 use mathlib.Core.Path.{◌≡◌, refl, sym, ap, ◌∙◌}
 use mathlib.Core.Logic.{◌≢◌}
 use mathlib.Core.Bool.{Bool, true, false, not, ◌||◌}
 use mathlib.Core.List.{List}
 use native.Mathlib.Omega.{arith}
-use borrow.Author.Tests.{le-leb, lt-leb}
+use borrow.Author.Tests.{le-leb}
 use Rattle.lists.specs.Choice.{◌⇒◌else◌, within}
 use Rattle.lists.proofs.Bools.{tf, within_range}
 use Rattle.history.specs.Machine.{Machine, stands, Name, is_name, holder_but}
@@ -21,32 +21,12 @@ use Rattle.marks.proofs.NameLaws.{holder_same, holder_bears}
 pub in_range : (a : ℕ) → 1 ≤ a → a ≤ 64 → no_mark a ≡ false
 in_range a l h = rw (le-leb 1 a l, le-leb a 64 h)
 
-pub below_range : (a : ℕ) → a ≡ 0 → no_mark a ≡ true
-below_range a e = rw e
-
-pub above_range : (a : ℕ) → a ≢ 0 → 64 < a → no_mark a ≡ true
-above_range a n h = rw (le-leb 1 a (omega arith), lt-leb a 64 h)
-
 range_of : (a : ℕ) → no_mark a ≡ false → (1 ≤ a) × (a ≤ 64)
 range_of a e = go (within 1 64 a) refl
   where
     go : (t : Bool) → within 1 64 a ≡ t → (1 ≤ a) × (a ≤ 64)
     go true f = within_range 1 64 a f
     go false f = tf (sym (ap not f) ∙ e)
-
--- ---- the ways out of `standing_code` and `new_code`
-
-pub standing_no_mark : (set a : ℕ) → no_mark a ≡ true → 11 ≡ standing_code set a
-standing_no_mark set a e = rw e
-
-pub standing_inside : (set a c : ℕ) (t : Bool) → 1 ≤ a → a ≤ 64 → in_set set a ≡ t → c ≡ (not t ⇒ 13 else 0) → c ≡ standing_code set a
-standing_inside set a c t l h e f = rw (in_range a l h, e) f
-
-pub new_no_mark : (set a : ℕ) → no_mark a ≡ true → 11 ≡ new_code set a
-new_no_mark set a e = rw e
-
-pub new_inside : (set a c : ℕ) (t : Bool) → 1 ≤ a → a ≤ 64 → in_set set a ≡ t → c ≡ (t ⇒ 12 else 0) → c ≡ new_code set a
-new_inside set a c t l h e f = rw (in_range a l h, e) f
 
 -- ---- what a code 0 says
 
@@ -118,9 +98,6 @@ both_none set a b e = go (no_mark a) (no_mark b) (not (in_set set a)) (not (in_s
     go false false false true f = absurd (omega (arith, f))
     go false false false false f = (refl, refl)
 
-pub both_by : (set a b c d code : ℕ) → code ≡ both_code c d → c ≡ standing_code set a → d ≡ standing_code set b → code ≡ both_code (standing_code set a) (standing_code set b)
-both_by set a b c d code e f g = e ∙ ap (λ (x : ℕ). both_code x d) f ∙ ap (both_code (standing_code set a)) g
-
 -- ---- 18
 
 pub name_codes : (m : Machine) (set : ℕ) (words : List ℕ) → Marked m.marks set words → Named m.marks m.names words → (a : ℕ) (n : Name)
@@ -136,30 +113,6 @@ name_none set words a n z = go (no_mark a) (in_set set a) (not (is_name n) || no
     go true t u f g h = absurd (omega (arith, h))
     go false false u f g h = absurd (omega (arith, h))
     go false true u f g h = let r = range_of a f in record { low = r.0; high = r.1; stands = g }
-
--- ---- the ways out of `name_code`
-
-module _ (set : ℕ) (words : List ℕ) (a : ℕ) (n : Name) where
-  pub name_stands : (code : ℕ) → code ≡ standing_code set a → code ≢ 0 → code ≡ name_code set words a n
-  name_stands code e z = e ∙ go (no_mark a) (in_set set a) (λ i. z (e ∙ i))
-    where
-      go : (s t : Bool) → ◌≢◌ {A = ℕ} (s ⇒ 11 else not t ⇒ 13 else 0) 0
-          → ◌≡◌ {A = ℕ} (s ⇒ 11 else not t ⇒ 13 else 0) (s ⇒ 11 else not t ⇒ 13 else (not (is_name n) || not (holder_in set words a n == 0)) ⇒ 18 else 0)
-      go true t h = refl
-      go false false h = refl
-      go false true h = absurd (h refl)
-
-  -- behind 11 and 13
-  pub name_rest : (u : Bool) (code : ℕ) → standing_code set a ≡ 0 → (not (is_name n) || not (holder_in set words a n == 0)) ≡ u → code ≡ (u ⇒ 18 else 0) → code ≡ name_code set words a n
-  name_rest u code e f g = g ∙ ap (λ (v : Bool). v ⇒ 18 else 0) (sym f) ∙ go (no_mark a) (in_set set a) e
-    where
-      rest : ℕ
-      rest = (not (is_name n) || not (holder_in set words a n == 0)) ⇒ 18 else 0
-
-      go : (s t : Bool) → ◌≡◌ {A = ℕ} (s ⇒ 11 else not t ⇒ 13 else 0) 0 → rest ≡ (s ⇒ 11 else not t ⇒ 13 else rest)
-      go true t h = absurd (omega (arith, h))
-      go false false h = absurd (omega (arith, h))
-      go false true h = refl
 
 -- ---- the holder of a name stands
 

@@ -107,18 +107,6 @@ holder_same m s words but n h f = seek_same 64 1 _ _ (λ k a b. ap (λ (t : Bool
         one true e = ap (λ (x : Name). is_name n && same_name x n) (f k e)
         one false e = refl
 
--- ---- the ways out of `bears`
-
-module _ (s : ℕ) (words : List ℕ) (but b c a : ℕ) (d : a ≢ but) (e : in_set s a ≡ true) where
-  pub bears_no_name : is_name (name b c) ≡ false → false ≡ (not (a == but) && bears_in s words (name b c) a)
-  bears_no_name f = rw (ne_eqb a but d, e) (sym (ap (λ (t : Bool). t && same_name (name_in words a) (name b c)) f))
-
-  pub bears_by : is_name (name b c) ≡ true → (i : ℕ) → i ≡ name_at a → ((get_or words i 0 == b) && (get_or words (i + 1) 0 == c)) ≡ (not (a == but) && bears_in s words (name b c) a)
-  bears_by f i h =
-      rw (ne_eqb a but d, e)
-      (ap (λ (j : ℕ). (get_or words j 0 == b) && (get_or words (j + 1) 0 == c)) h
-      ∙ sym (ap (λ (t : Bool). t && same_name (name_in words a) (name b c)) f))
-
 -- ---- a mark is dropped, marks are cut: their names are not read
 
 pub drop_named : (ms : ℕ → MarkPlace) (ns : ℕ → Name) (words : List ℕ) (a : ℕ) → Named ms ns words → Named (marked a gone ms) (named a no_name ns) words

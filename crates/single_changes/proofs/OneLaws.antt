@@ -1,12 +1,11 @@
 -- A change that is refused, one that is tried, and what it takes to make it.
-use Rattle.std.specs.Prelude.{◌==◌}
+use Rattle.std.specs.Prelude.{◌==◌, ⊤, Result, Ok, Err}
 use Prim.Native.Nat.{ℕ, ◌+◌, ◌*◌, ◌≤◌}
 use mathlib.Core.Path.{◌≡◌, refl, sym, ap, subst, ◌∙◌}
 use mathlib.Core.Logic.{◌≢◌}
 use mathlib.Core.Bool.{Bool, true, false}
-use mathlib.Core.List.{List}
 use native.Mathlib.Omega.{arith}
-use lib.ListN.{length}
+use mir.Val.{bool_byte}
 use borrow.Author.Tests.{eqb-true, eqb-false, ne_eqb}
 use Rattle.lists.specs.Choice.{◌⇒◌else◌}
 use Rattle.graph.specs.declared.SingleChange.{SingleChange}
@@ -22,8 +21,7 @@ use Rattle.graph.specs.Plans.{plan}
 use Rattle.graph.specs.Same.{idle}
 use Rattle.graph.proofs.Readings.{reading_words as length_calls}
 use Rattle.graph.proofs.PlanLaws.{plan_applies}
-use Rattle.graph_tables.specs.declared.Head.{Head}
-use Rattle.graph_tables.specs.Tables.{State, state}
+use Rattle.graph_tables.specs.Tables.{State, vprev, eprev, wprev, wthis, vlast}
 use Rattle.graph_tables.specs.Edits.{Can, Room}
 use Rattle.graph_tables.specs.Holds.{Holds}
 use Rattle.graph_tables.specs.Capacities.{Sized, bounds_of}
@@ -32,15 +30,16 @@ use Rattle.graph_tables.proofs.Refines.{can_edit}
 use Rattle.graph_tables.proofs.Steps.{can_by}
 use Rattle.journal.specs.Rows.{costing}
 use Rattle.journal.specs.Written.{Written}
-use Rattle.tried_edits.specs.Plans.{state_plan, CanPlan}
+use Rattle.tried_edits.specs.Plans.{state_plan, CanPlan, plan_word_last, unless}
 use Rattle.graph_tables.proofs.Answers.{reading_words}
-use Rattle.tried_edits.proofs.PlanLaws.{can_plan, plan_is}
+use Rattle.tried_edits.proofs.PlanLaws.{can_plan, plan_is, chosen}
 use Rattle.graph_tables.specs.Holds.{HoldsVE}
 use Rattle.commands.specs.Fits.{SingleFits}
 use Rattle.machine.proofs.Allows.{singly_allows}
-use Rattle.tried_edits.specs.declared.Made.{Made}
-use Rattle.tried_edits.specs.Tried.{Attempt, attempt, Outcome, outcome, kept, written, tried, Tries}
-use Rattle.single_changes.specs.One.{HoldsGraph, ReadingWords, unless_refused, code_on, attempted, One}
+use Rattle.commands.specs.declared.refusal.Refusal.{Refusal}
+use Rattle.commands.specs.Refusals.{refusal_code, code_if_refused}
+use Rattle.tried_edits.specs.Tried.{Attempt, Outcome, kept, written, tried, Tries}
+use Rattle.single_changes.specs.One.{HoldsGraph, ReadingWords, unless_refused, code_on, attempted, One, setting_end, ordering_vertex, ordering_edge, ordering_word}
 
 -- ---- what an outcome tells
 
@@ -139,38 +138,37 @@ module _ (b : Bounds) (s : State) (z : Sized b s) (g : Graph) (h : Holds s g) wh
 
 -- ---- one change
 
--- what is known of a change that has none of codes 2 to 9: the rows that it reads are there, its edit can be made, and
--- there is a row for it where there is room
+-- what is known of a change that has none of codes 2 to 9: the rows that it reads are there, and its edit can be made
 pub record Accepted (x : SingleChange) (types : ℕ) (a : Attempt) : Type 0 where
   pub fits : SingleFits x
   pub uncoded : (g : Graph) → HoldsVE a.state.vertices a.state.edges g → code_on x types a.state g ≡ 0
   pub rows : CanPlan x a.state
   pub can : Can (state_plan x a.state) a.state
   pub words : ReadingWords x a.state
-  pub room : a.free ≢ 0 → 12 * a.row + 12 ≤ length a.journal
 
--- c is its code of those
-module _ {x : SingleChange} {types i free : ℕ} {h : Head} {vertices edges t : List ℕ} (f : SingleFits x) {c : ℕ}
-    (e : (g : Graph) → HoldsVE vertices edges g → c ≡ code_on x types (state h vertices edges) g) where
-  pub one_refused : c ≢ 0 → {r : Made} → r ≡ record { head = h; code = c; cost = 0 }
-      → One x types (attempt i free (state h vertices edges) t) (outcome r.code r.cost (state r.head vertices edges) t)
+positive : (r : Refusal) → refusal_code r ≢ 0
+positive r e = grind (arith, e)
+
+-- its code of those is that of what was tried
+module _ {x : SingleChange} {types : ℕ} {a : Attempt} (f : SingleFits x) {c : Result ⊤ Refusal}
+    (e : (g : Graph) → HoldsVE a.state.vertices a.state.edges g → code_if_refused c ≡ code_on x types a.state g) where
+  pub one_refused : {r : Refusal} → c ≡ Err r → One x types a (kept (refusal_code r) a)
   unfolding attempted
-  one_refused n q = subst (λ (y : Made). One x types (attempt i free (state h vertices edges) t) (outcome y.code y.cost (state y.head vertices edges) t)) (sym q) (record {
+  one_refused {r = r} q = record {
     fits = f;
     comes = λ g y.
-        let here = attempt i free (state h vertices edges) t in
-        let r = tried (state_plan x here.state) here in
-        ap (λ (p : Bool). p ⇒ r else kept c here) (sym (ne_eqb c 0 n)) ∙ ap (λ (k : ℕ). unless_refused k here r) (e g y);
-  })
+        let t = tried (state_plan x a.state) a in
+        ap (λ (p : Bool). p ⇒ t else kept (refusal_code r) a) (sym (ne_eqb (refusal_code r) 0 (positive r)))
+        ∙ ap (λ (k : ℕ). unless_refused k a t) (ap code_if_refused (sym q) ∙ e g y);
+  }
 
-  pub accept : c ≡ 0 → HoldsGraph (state h vertices edges) × (free ≢ 0 → 12 * i + 12 ≤ length t) → Accepted x types (attempt i free (state h vertices edges) t)
-  accept z p =
-      let s = state h vertices edges in
-      let b = bounds_of vertices edges types in
-      let y = p.0 in
+  pub accept : {u : ⊤} → c ≡ Ok u → HoldsGraph a.state → Accepted x types a
+  accept q y =
+      let s = a.state in
+      let b = bounds_of s.vertices s.edges types in
       let g = y.graph in
-      let u : (g : Graph) → HoldsVE vertices edges g → code_on x types s g ≡ 0 = λ g w. sym (e g w) ∙ z in
-      let a = singly_allows b g y.holds.sound x f (u g (h, y.holds)) in
+      let u : (g : Graph) → HoldsVE s.vertices s.edges g → code_on x types s g ≡ 0 = λ g w. sym (e g w) ∙ ap code_if_refused q in
+      let a = singly_allows b g y.holds.sound x f (u g (s.head, y.holds)) in
       let q = plan_is s g y.holds b x a in
       let r = subst (λ (d : Edit). Room d s) q (has_room b s (y.sized types) g y.holds x a) in
       record {
@@ -179,13 +177,29 @@ module _ {x : SingleChange} {types i free : ℕ} {h : Head} {vertices edges t : 
         rows = can_plan b s (y.sized types) g y.holds x a;
         can = subst (λ (d : Edit). Can d s) (sym q) (can_edit s g y.holds (small b s (y.sized types)) (plan x g) (plan_applies b g y.holds.sound x a) r);
         words = reads_words b s (y.sized types) g y.holds x a;
-        room = p.1;
       }
+
+-- of two changes by a side, where both have the code of what was tried
+module _ (t : Bool) (x y : SingleChange) {types : ℕ} {a : Attempt} (f : SingleFits x × SingleFits y) {c : Result ⊤ Refusal}
+    (e : (g : Graph) → HoldsVE a.state.vertices a.state.edges g → (code_if_refused c ≡ code_on x types a.state g) × (code_if_refused c ≡ code_on y types a.state g)) where
+  pub side_refused : {r : Refusal} → c ≡ Err r → One (t ⇒ x else y) types a (kept (refusal_code r) a)
+  side_refused {r = r} q = go t
+    where
+      go : (u : Bool) → One (u ⇒ x else y) types a (kept (refusal_code r) a)
+      go true = one_refused f.0 (λ g h. (e g h).0) q
+      go false = one_refused f.1 (λ g h. (e g h).1) q
+
+  pub side_accept : {u : ⊤} → c ≡ Ok u → HoldsGraph a.state → Accepted (t ⇒ x else y) types a
+  side_accept q h = go t
+    where
+      go : (u : Bool) → Accepted (u ⇒ x else y) types a
+      go true = accept f.0 (λ g h. (e g h).0) q h
+      go false = accept f.1 (λ g h. (e g h).1) q h
 
 module _ {x : SingleChange} {types : ℕ} {a : Attempt} where
   -- an edit that is the planned one can be made
-  pub can_make : {e : Edit} → Accepted x types a → e ≡ state_plan x a.state → Can e a.state × (a.free ≢ 0 → 12 * a.row + 12 ≤ length a.journal)
-  can_make k q = (can_by a.state (sym q) k.can, k.room)
+  pub can_make : {e : Edit} → Accepted x types a → e ≡ state_plan x a.state → Can e a.state
+  can_make k q = can_by a.state (sym q) k.can
 
   module _ {o : Outcome} where
     pub one_tried : Accepted x types a → Tries (state_plan x a.state) a o → One x types a o
@@ -229,3 +243,32 @@ move_edge_by n ep eq = λ j. MoveEdge n (ep j) (eq j)
 
 pub move_word_by : (w : ℕ) {v v' p p' u u' q q' : ℕ} → v ≡ v' → p ≡ p' → u ≡ u' → q ≡ q' → MoveWord w v p u q ≡ MoveWord w v' p' u' q'
 move_word_by w ev ep eu eq = λ j. MoveWord w (ev j) (ep j) (eu j) (eq j)
+
+-- ---- the plan of a change by its side
+
+pub vertex_planned : (t : Bool) (s : State) (a b : ℕ) {p q x : ℕ} → p ≡ vprev s.vertices a → x ≡ vprev s.vertices b → q ≡ (t ⇒ b else unless a p x)
+    → MoveVertex a p q ≡ state_plan (ordering_vertex t a b) s
+vertex_planned true s a b e f i = move_vertex_by a e i
+vertex_planned false s a b e f i = move_vertex_by a e (chosen a e f i)
+
+pub edge_planned : (t : Bool) (s : State) (a b : ℕ) {p q x : ℕ} → p ≡ eprev s.edges a → x ≡ eprev s.edges b → q ≡ (t ⇒ b else unless a p x)
+    → MoveEdge a p q ≡ state_plan (ordering_edge t a b) s
+edge_planned true s a b e f i = move_edge_by a e i
+edge_planned false s a b e f i = move_edge_by a e (chosen a e f i)
+
+pub word_planned : (t : Bool) (s : State) (a b : ℕ) {v p q x : ℕ} → v ≡ wthis s.edges a → p ≡ wprev s.edges a → x ≡ wprev s.edges b → q ≡ (t ⇒ b else unless a p x)
+    → MoveWord a v p v q ≡ state_plan (ordering_word t a b) s
+word_planned true s a b d e f i = move_word_by a d e d i
+word_planned false s a b d e f i = move_word_by a d e d (chosen a e f i)
+
+pub byte_small : (t : Bool) → bool_byte t ≤ 1
+byte_small true = omega arith
+byte_small false = omega arith
+
+pub end_planned : (t : Bool) (s : State) (e u : ℕ) {k v p q x : ℕ} → k ≡ bool_byte t → v ≡ wthis s.edges (2 * e + k) → p ≡ wprev s.edges (2 * e + k) → x ≡ vlast s.vertices u
+    → q ≡ unless (2 * e + k) p x → MoveWord (2 * e + k) v p u q ≡ state_plan (setting_end t e u) s
+end_planned t s e u {k = k} {v = v} {p = p} {q = q} {x = x} b d i f j = go t b
+  where
+    go : (z : Bool) → k ≡ bool_byte z → MoveWord (2 * e + k) v p u q ≡ state_plan (setting_end z e u) s
+    go true b = move_word_by (2 * e + k) d i refl (chosen (2 * e + k) i f j) ∙ ap (λ (y : ℕ). plan_word_last s.vertices s.edges y u) (omega (arith, b))
+    go false b = move_word_by (2 * e + k) d i refl (chosen (2 * e + k) i f j) ∙ ap (λ (y : ℕ). plan_word_last s.vertices s.edges y u) (omega (arith, b))

@@ -1,5 +1,5 @@
 -- A change of one edit: what it asks of the tables, its code, its cost, and the words that it leaves.
-use Rattle.std.specs.Prelude.{ℕ, ◌≡◌, ◌==◌}
+use Rattle.std.specs.Prelude.{ℕ, Bool, ◌≡◌, ◌==◌}
 use Rattle.lists.specs.Choice.{◌⇒◌else◌}
 use Rattle.graph.specs.declared.SingleChange.{SingleChange}
 use Rattle.graph.specs.declared.SingleChange.TheVariants.{
@@ -75,3 +75,16 @@ pub record One (x : SingleChange) (types : ℕ) (a : Attempt) (o : Outcome) : Ty
 -- of a change that names no type: whatever types there are
 abbrev pub Untyped : SingleChange → Attempt → Outcome → Type 0
 Untyped x a o = (types : ℕ) → One x types a o
+
+-- kinds 9 and 10, 11 and 12, 13 and 14, 15 and 16 by their side
+abbrev pub setting_end : Bool → ℕ → ℕ → SingleChange
+setting_end omega e u = omega ⇒ SetOmega e u else SetAlpha e u
+
+abbrev pub ordering_vertex : Bool → ℕ → ℕ → SingleChange
+ordering_vertex after a b = after ⇒ VertexAfter a b else VertexBefore a b
+
+abbrev pub ordering_edge : Bool → ℕ → ℕ → SingleChange
+ordering_edge after a b = after ⇒ EdgeAfter a b else EdgeBefore a b
+
+abbrev pub ordering_word : Bool → ℕ → ℕ → SingleChange
+ordering_word after a b = after ⇒ WordAfter a b else WordBefore a b

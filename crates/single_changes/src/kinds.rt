@@ -1,239 +1,210 @@
 // Kinds 1 and 3 to 8, one function each: its codes, the words that its edit names, read off the tables, and the edit
-// tried. A caller has tables that hold a graph, and room for the row where `free` is not 0; the words of the call may
-// be any.
-ghost use Rattle.std.specs.Prelude.{◌≡◌, ◌+◌, ◌*◌, ◌≤◌, length};
-ghost use Rattle.graph_tables.specs.Tables.{state};
+// tried. A caller has tables that hold a graph; the words of the call may be any. What sets a vertex and what sets an
+// edge stay apart: they differ in the words of a row as well as in the table.
+ghost use Rattle.std.specs.Prelude.{◌≡◌};
+ghost use Rattle.graph_tables.specs.Tables.{state_of, SameLoan, VertexRowIn, EdgeRowIn, vtype, vvalue, etype, ekind, edecimetres};
+ghost use Rattle.journal.specs.Rooms.{SameRoom};
 ghost use Rattle.single_changes.specs.One.{HoldsGraph, One, Untyped};
-ghost use Rattle.tried_edits.specs.Tried.{attempt, outcome};
+ghost use Rattle.tried_edits.specs.Tried.{attempt_of, outcome_of};
 
+use commands::refusal::Refusal;
 use graph::SingleChange;
-use graph_tables::Head;
 use graph_tables::fields::{VERTEX_LAST, VERTEX_TYPE, VERTEX_VALUE};
-use graph_tables::rows::{edge_fields, vertex_field};
-use lists::numbers::choose;
+use graph_tables::{Head, Places, Tables};
+use journal::room::Room;
 use tried_edits::removal::removed_edge;
-use tried_edits::{Made, unchanged};
+use tried_edits::{EdgeWords, Made, VertexWords};
 
-// Kind 1.
+// Type and value of vertex n.
+#[inline(always)]
+fn vertex_words(tables: &Tables<'_>, n: u32) -> VertexWords
+    requires { VertexRowIn tables.now.vertices.now n }
+    ensures { result ≡ record { sort = vtype tables.now.vertices.now n; value = vvalue tables.now.vertices.now n } }
+{
+    VertexWords {
+        sort: tables.vertex_field(n, VERTEX_TYPE),
+        value: tables.vertex_field(n, VERTEX_VALUE),
+    }
+}
+
+// Type and reading of edge n.
+#[inline(always)]
+fn edge_words(tables: &Tables<'_>, n: u32) -> EdgeWords
+    requires { EdgeRowIn tables.now.edges.now n }
+    ensures { result ≡ record {
+      sort = etype tables.now.edges.now n;
+      kind = ekind tables.now.edges.now n;
+      decimetres = edecimetres tables.now.edges.now n;
+    } }
+{
+    let fields = tables.edge_fields(n);
+    EdgeWords {
+        sort: fields.sort,
+        kind: fields.kind,
+        decimetres: fields.decimetres,
+    }
+}
+
+/// Kind 1.
+#[inline(always)]
 pub fn create_vertex(
+    tables: &mut Tables<'_>,
     head: Head,
-    vertices: &mut [u32],
-    edges: &[u32],
-    journal: &mut [u32],
+    room: &mut Room<'_>,
     types: u32,
-    row: u32,
-    free: u32,
     n: u32,
     sort: u32,
     value: u32,
-) -> Made
-    requires { HoldsGraph (state head vertices.old edges.now)
-        × ((free ≡ 0 → ⊥) → 12 * row + 12 ≤ length journal.old) }
-    ensures { One (SingleChange.CreateVertex n sort value) types
-        (attempt row free (state head vertices.old edges.now) journal.old)
-        (outcome result.code result.cost (state result.head vertices.new edges.now)
-        journal.new) }
+) -> Result<Made, Refusal>
+    requires { HoldsGraph (state_of head tables.old) }
+    ensures made { One (SingleChange.CreateVertex n sort value) types (attempt_of head tables.old room.old)
+        (outcome_of head result tables.new room.new.journal.now) }
+    ensures same_loan { SameLoan tables.old tables.new }
+    ensures same_room { SameRoom room.old room.new }
 {
-    let c = change_codes::create_vertex(vertices, types, n, sort);
-    if c != 0 {
-        return unchanged(head, c);
-    }
-    let p = head.vlast;
-    tried_edits::insert_vertex(head, vertices, edges, journal, row, free, n, sort, value, p)
+    change_codes::create_vertex(tables, types, n, sort)?;
+    tried_edits::insert_vertex(
+        tables,
+        head,
+        room,
+        n,
+        VertexWords { sort, value },
+        head.vlast,
+    )
 }
 
-// Kind 3.
+/// Kind 3.
+#[inline(always)]
 pub fn create_edge(
+    tables: &mut Tables<'_>,
     head: Head,
-    vertices: &mut [u32],
-    edges: &mut [u32],
-    journal: &mut [u32],
+    room: &mut Room<'_>,
     types: u32,
-    row: u32,
-    free: u32,
     n: u32,
     a: u32,
     z: u32,
     sort: u32,
-) -> Made
-    requires { HoldsGraph (state head vertices.old edges.old)
-        × ((free ≡ 0 → ⊥) → 12 * row + 12 ≤ length journal.old) }
-    ensures { One (SingleChange.CreateEdge n a z sort) types
-        (attempt row free (state head vertices.old edges.old) journal.old)
-        (outcome result.code result.cost (state result.head vertices.new edges.new) journal.new) }
+) -> Result<Made, Refusal>
+    requires { HoldsGraph (state_of head tables.old) }
+    ensures made { One (SingleChange.CreateEdge n a z sort) types (attempt_of head tables.old room.old)
+        (outcome_of head result tables.new room.new.journal.now) }
+    ensures same_loan { SameLoan tables.old tables.new }
+    ensures same_room { SameRoom room.old room.new }
 {
-    let c = change_codes::create_edge(vertices, edges, types, n, a, z, sort);
-    if c != 0 {
-        return unchanged(head, c);
-    }
-    let p = head.elast;
-    let out = vertex_field(vertices, a, VERTEX_LAST);
-    let l = vertex_field(vertices, z, VERTEX_LAST);
-    let into = choose(a, z, 2 * n, l);
-    tried_edits::insert_edge(
-        head, vertices, edges, journal, row, free, n, a, z, sort, p, out, into,
-    )
+    change_codes::create_edge(tables, types, n, a, z, sort)?;
+    let out = tables.vertex_field(a, VERTEX_LAST);
+    let last = tables.vertex_field(z, VERTEX_LAST);
+    let into = if a == z { 2 * n } else { last };
+    let at = Places {
+        order: head.elast,
+        out,
+        into,
+    };
+    tried_edits::insert_edge(tables, head, room, n, a, z, sort, at)
 }
 
-// Kind 4.
+/// Kind 4.
+#[inline(always)]
 pub fn delete_edge(
+    tables: &mut Tables<'_>,
     head: Head,
-    vertices: &mut [u32],
-    edges: &mut [u32],
-    journal: &mut [u32],
-    row: u32,
-    free: u32,
+    room: &mut Room<'_>,
     n: u32,
-) -> Made
-    requires { HoldsGraph (state head vertices.old edges.old)
-        × ((free ≡ 0 → ⊥) → 12 * row + 12 ≤ length journal.old) }
-    ensures { Untyped (SingleChange.DeleteEdge n)
-        (attempt row free (state head vertices.old edges.old) journal.old)
-        (outcome result.code result.cost (state result.head vertices.new edges.new) journal.new) }
+) -> Result<Made, Refusal>
+    requires { HoldsGraph (state_of head tables.old) }
+    ensures made { Untyped (SingleChange.DeleteEdge n) (attempt_of head tables.old room.old)
+        (outcome_of head result tables.new room.new.journal.now) }
+    ensures same_loan { SameLoan tables.old tables.new }
+    ensures same_room { SameRoom room.old room.new }
 {
-    let c = change_codes::edge_code(edges, n);
-    if c != 0 {
-        return unchanged(head, c);
-    }
-    let w = removed_edge(edges, n);
-    tried_edits::remove_edge(head, vertices, edges, journal, row, free, n, w)
+    change_codes::check_edge(tables, n)?;
+    tried_edits::remove_edge(tables, head, room, n, removed_edge(tables, n))
 }
 
-// Kind 5.
+/// Kind 5.
+#[inline(always)]
 pub fn retype_vertex(
+    tables: &mut Tables<'_>,
     head: Head,
-    vertices: &mut [u32],
-    edges: &[u32],
-    journal: &mut [u32],
+    room: &mut Room<'_>,
     types: u32,
-    row: u32,
-    free: u32,
-    a: u32,
-    sort2: u32,
-) -> Made
-    requires { HoldsGraph (state head vertices.old edges.now)
-        × ((free ≡ 0 → ⊥) → 12 * row + 12 ≤ length journal.old) }
-    ensures { One (SingleChange.RetypeVertex a sort2) types
-        (attempt row free (state head vertices.old edges.now) journal.old)
-        (outcome result.code result.cost (state result.head vertices.new edges.now)
-        journal.new) }
+    n: u32,
+    sort: u32,
+) -> Result<Made, Refusal>
+    requires { HoldsGraph (state_of head tables.old) }
+    ensures made { One (SingleChange.RetypeVertex n sort) types (attempt_of head tables.old room.old)
+        (outcome_of head result tables.new room.new.journal.now) }
+    ensures same_loan { SameLoan tables.old tables.new }
+    ensures same_room { SameRoom room.old room.new }
 {
-    let c = change_codes::retype_vertex(vertices, types, a, sort2);
-    if c != 0 {
-        return unchanged(head, c);
-    }
-    let s = vertex_field(vertices, a, VERTEX_TYPE);
-    let x = vertex_field(vertices, a, VERTEX_VALUE);
-    tried_edits::set_vertex(head, vertices, edges, journal, row, free, a, s, x, sort2, x)
+    change_codes::retype_vertex(tables, types, n, sort)?;
+    let old = vertex_words(tables, n);
+    tried_edits::set_vertex(tables, head, room, n, old, VertexWords { sort, ..old })
 }
 
-// Kind 6.
+/// Kind 6.
+#[inline(always)]
 pub fn retype_edge(
+    tables: &mut Tables<'_>,
     head: Head,
-    vertices: &[u32],
-    edges: &mut [u32],
-    journal: &mut [u32],
+    room: &mut Room<'_>,
     types: u32,
-    row: u32,
-    free: u32,
-    a: u32,
-    sort2: u32,
-) -> Made
-    requires { HoldsGraph (state head vertices.now edges.old)
-        × ((free ≡ 0 → ⊥) → 12 * row + 12 ≤ length journal.old) }
-    ensures { One (SingleChange.RetypeEdge a sort2) types
-        (attempt row free (state head vertices.now edges.old) journal.old)
-        (outcome result.code result.cost (state result.head vertices.now edges.new)
-        journal.new) }
+    n: u32,
+    sort: u32,
+) -> Result<Made, Refusal>
+    requires { HoldsGraph (state_of head tables.old) }
+    ensures made { One (SingleChange.RetypeEdge n sort) types (attempt_of head tables.old room.old)
+        (outcome_of head result tables.new room.new.journal.now) }
+    ensures same_loan { SameLoan tables.old tables.new }
+    ensures same_room { SameRoom room.old room.new }
 {
-    let c = change_codes::retype_edge(edges, types, a, sort2);
-    if c != 0 {
-        return unchanged(head, c);
-    }
-    let w = edge_fields(edges, a);
-    tried_edits::set_edge(
-        head,
-        vertices,
-        edges,
-        journal,
-        row,
-        free,
-        a,
-        w.sort,
-        w.kind,
-        w.decimetres,
-        sort2,
-        w.kind,
-        w.decimetres,
-    )
+    change_codes::retype_edge(tables, types, n, sort)?;
+    let old = edge_words(tables, n);
+    tried_edits::set_edge(tables, head, room, n, old, EdgeWords { sort, ..old })
 }
 
-// Kind 7.
+/// Kind 7.
+#[inline(always)]
 pub fn set_value(
+    tables: &mut Tables<'_>,
     head: Head,
-    vertices: &mut [u32],
-    edges: &[u32],
-    journal: &mut [u32],
-    row: u32,
-    free: u32,
-    a: u32,
-    value2: u32,
-) -> Made
-    requires { HoldsGraph (state head vertices.old edges.now)
-        × ((free ≡ 0 → ⊥) → 12 * row + 12 ≤ length journal.old) }
-    ensures { Untyped (SingleChange.SetValue a value2)
-        (attempt row free (state head vertices.old edges.now) journal.old)
-        (outcome result.code result.cost (state result.head vertices.new edges.now)
-        journal.new) }
+    room: &mut Room<'_>,
+    n: u32,
+    value: u32,
+) -> Result<Made, Refusal>
+    requires { HoldsGraph (state_of head tables.old) }
+    ensures made { Untyped (SingleChange.SetValue n value) (attempt_of head tables.old room.old)
+        (outcome_of head result tables.new room.new.journal.now) }
+    ensures same_loan { SameLoan tables.old tables.new }
+    ensures same_room { SameRoom room.old room.new }
 {
-    let c = change_codes::vertex_code(vertices, a);
-    if c != 0 {
-        return unchanged(head, c);
-    }
-    let s = vertex_field(vertices, a, VERTEX_TYPE);
-    let x = vertex_field(vertices, a, VERTEX_VALUE);
-    tried_edits::set_vertex(
-        head, vertices, edges, journal, row, free, a, s, x, s, value2,
-    )
+    change_codes::check_vertex(tables, n)?;
+    let old = vertex_words(tables, n);
+    tried_edits::set_vertex(tables, head, room, n, old, VertexWords { value, ..old })
 }
 
-// Kind 8.
+/// Kind 8.
+#[inline(always)]
 pub fn set_reading(
+    tables: &mut Tables<'_>,
     head: Head,
-    vertices: &[u32],
-    edges: &mut [u32],
-    journal: &mut [u32],
-    row: u32,
-    free: u32,
-    a: u32,
-    kind2: u32,
-    decimetres2: u32,
-) -> Made
-    requires { HoldsGraph (state head vertices.now edges.old)
-        × ((free ≡ 0 → ⊥) → 12 * row + 12 ≤ length journal.old) }
-    ensures { Untyped (SingleChange.SetReading a kind2 decimetres2)
-        (attempt row free (state head vertices.now edges.old) journal.old)
-        (outcome result.code result.cost (state result.head vertices.now edges.new)
-        journal.new) }
+    room: &mut Room<'_>,
+    n: u32,
+    kind: u32,
+    decimetres: u32,
+) -> Result<Made, Refusal>
+    requires { HoldsGraph (state_of head tables.old) }
+    ensures made { Untyped (SingleChange.SetReading n kind decimetres) (attempt_of head tables.old room.old)
+        (outcome_of head result tables.new room.new.journal.now) }
+    ensures same_loan { SameLoan tables.old tables.new }
+    ensures same_room { SameRoom room.old room.new }
 {
-    let c = change_codes::set_reading(edges, a, kind2, decimetres2);
-    if c != 0 {
-        return unchanged(head, c);
-    }
-    let w = edge_fields(edges, a);
-    tried_edits::set_edge(
-        head,
-        vertices,
-        edges,
-        journal,
-        row,
-        free,
-        a,
-        w.sort,
-        w.kind,
-        w.decimetres,
-        w.sort,
-        kind2,
-        decimetres2,
-    )
+    change_codes::set_reading(tables, n, kind, decimetres)?;
+    let old = edge_words(tables, n);
+    let new = EdgeWords {
+        kind,
+        decimetres,
+        ..old
+    };
+    tried_edits::set_edge(tables, head, room, n, old, new)
 }

@@ -1,80 +1,64 @@
 // The changes of one edit: codes, row and tables in one go, by one choice of the kind.
 #![tactic(auto)]
 
-ghost use Rattle.std.specs.Prelude.{◌≡◌, ◌+◌, ◌*◌, ◌≤◌, length};
-ghost use Rattle.graph_tables.specs.Tables.{state};
+ghost use Rattle.std.specs.Prelude.{◌≡◌};
+ghost use Rattle.graph_tables.specs.Tables.{state_of, SameLoan};
+ghost use Rattle.journal.specs.Rooms.{SameRoom};
 ghost use Rattle.single_changes.specs.One.{HoldsGraph, One};
-ghost use Rattle.tried_edits.specs.Tried.{attempt, outcome};
+ghost use Rattle.tried_edits.specs.Tried.{attempt_of, outcome_of};
 
+use commands::refusal::Refusal;
 use graph::SingleChange;
-use graph_tables::Head;
+use graph_tables::{Head, Tables};
+use journal::room::Room;
 use tried_edits::Made;
 
-mod kinds; // kinds 1 and 3 to 8, one function each
+mod kinds; // kinds 1 and 3 to 8
 mod moves; // kinds 9 to 16
 
-// A change of one edit: `row` is its row, `free` the room in the journal.
+/// A change of one edit, made where it is not refused: its row is the next one in the room. A refused one writes
+/// nothing, and neither does one that alters nothing, whose cost is 0.
+#[inline(always)]
 pub fn make(
+    tables: &mut Tables<'_>,
     head: Head,
-    vertices: &mut [u32],
-    edges: &mut [u32],
-    journal: &mut [u32],
+    room: &mut Room<'_>,
     types: u32,
-    row: u32,
-    free: u32,
     change: SingleChange,
-) -> Made
-    requires { HoldsGraph (state head vertices.old edges.old)
-        × ((free ≡ 0 → ⊥) → 12 * row + 12 ≤ length journal.old) }
-    ensures { One change types
-        (attempt row free (state head vertices.old edges.old) journal.old)
-        (outcome result.code result.cost (state result.head vertices.new edges.new) journal.new) }
+) -> Result<Made, Refusal>
+    requires { HoldsGraph (state_of head tables.old) }
+    ensures made { One change types (attempt_of head tables.old room.old)
+        (outcome_of head result tables.new room.new.journal.now) }
+    ensures same_loan { SameLoan tables.old tables.new }
+    ensures same_room { SameRoom room.old room.new }
 {
     match change {
-        SingleChange::CreateVertex(n, sort, value) => kinds::create_vertex(
-            head, vertices, edges, journal, types, row, free, n, sort, value,
-        ),
-        SingleChange::CreateEdge(n, a, z, sort) => kinds::create_edge(
-            head, vertices, edges, journal, types, row, free, n, a, z, sort,
-        ),
-        SingleChange::DeleteEdge(n) => kinds::delete_edge(
-            head, vertices, edges, journal, row, free, n,
-        ),
-        SingleChange::RetypeVertex(a, sort) => kinds::retype_vertex(
-            head, vertices, edges, journal, types, row, free, a, sort,
-        ),
-        SingleChange::RetypeEdge(a, sort) => kinds::retype_edge(
-            head, vertices, edges, journal, types, row, free, a, sort,
-        ),
-        SingleChange::SetValue(a, value) => kinds::set_value(
-            head, vertices, edges, journal, row, free, a, value,
-        ),
-        SingleChange::SetReading(a, kind, decimetres) => kinds::set_reading(
-            head, vertices, edges, journal, row, free, a, kind, decimetres,
-        ),
-        SingleChange::SetAlpha(a, u) => moves::set_alpha(
-            head, vertices, edges, journal, row, free, a, u,
-        ),
-        SingleChange::SetOmega(a, u) => moves::set_omega(
-            head, vertices, edges, journal, row, free, a, u,
-        ),
-        SingleChange::VertexBefore(a, b) => moves::vertex_before(
-            head, vertices, edges, journal, row, free, a, b,
-        ),
-        SingleChange::VertexAfter(a, b) => moves::vertex_after(
-            head, vertices, edges, journal, row, free, a, b,
-        ),
-        SingleChange::EdgeBefore(a, b) => moves::edge_before(
-            head, vertices, edges, journal, row, free, a, b,
-        ),
-        SingleChange::EdgeAfter(a, b) => moves::edge_after(
-            head, vertices, edges, journal, row, free, a, b,
-        ),
-        SingleChange::WordBefore(a, b) => moves::word_before(
-            head, vertices, edges, journal, row, free, a, b,
-        ),
-        SingleChange::WordAfter(a, b) => moves::word_after(
-            head, vertices, edges, journal, row, free, a, b,
-        ),
+        SingleChange::CreateVertex(n, sort, value) => {
+            kinds::create_vertex(tables, head, room, types, n, sort, value)
+        }
+        SingleChange::CreateEdge(n, a, z, sort) => {
+            kinds::create_edge(tables, head, room, types, n, a, z, sort)
+        }
+        SingleChange::DeleteEdge(n) => kinds::delete_edge(tables, head, room, n),
+        SingleChange::RetypeVertex(n, sort) => {
+            kinds::retype_vertex(tables, head, room, types, n, sort)
+        }
+        SingleChange::RetypeEdge(n, sort) => {
+            kinds::retype_edge(tables, head, room, types, n, sort)
+        }
+        SingleChange::SetValue(n, value) => kinds::set_value(tables, head, room, n, value),
+        SingleChange::SetReading(n, kind, decimetres) => {
+            kinds::set_reading(tables, head, room, n, kind, decimetres)
+        }
+        SingleChange::SetAlpha(e, u) => moves::set_end::<false>(tables, head, room, e, u),
+        SingleChange::SetOmega(e, u) => moves::set_end::<true>(tables, head, room, e, u),
+        SingleChange::VertexBefore(a, b) => {
+            moves::order_vertex::<false>(tables, head, room, a, b)
+        }
+        SingleChange::VertexAfter(a, b) => { moves::order_vertex::<true>(tables, head, room, a, b) }
+        SingleChange::EdgeBefore(a, b) => moves::order_edge::<false>(tables, head, room, a, b),
+        SingleChange::EdgeAfter(a, b) => moves::order_edge::<true>(tables, head, room, a, b),
+        SingleChange::WordBefore(a, b) => moves::order_word::<false>(tables, head, room, a, b),
+        SingleChange::WordAfter(a, b) => moves::order_word::<true>(tables, head, room, a, b),
     }
 }

@@ -1,250 +1,139 @@
-// Kinds 9 to 16, one function each, as in kinds.rt: a word that goes to another vertex, and what moves in its order.
-// Pairs that differ in a side stay apart: a function of this size with two callers is not compiled into them, and the
-// head then goes through memory for every kind; `word_last` is small enough.
-ghost use Rattle.std.specs.Prelude.{◌≡◌, ◌+◌, ◌*◌, ◌≤◌, length};
-ghost use Rattle.graph_tables.specs.Tables.{state, VertexRowIn, HalfRowIn, CanMoveWord, vlast, wprev, wthis};
-ghost use Rattle.tried_edits.specs.Plans.{plan_word_last, unless};
-ghost use Rattle.single_changes.specs.One.{HoldsGraph, Untyped};
-ghost use Rattle.tried_edits.specs.Tried.{attempt, outcome, Tries};
+// Kinds 9 to 16: a word that goes to another vertex, and what moves in its order. Each pair of kinds that differ in a side
+// is one function.
+ghost use Rattle.std.specs.Prelude.{◌≡◌};
+ghost use Rattle.lists.specs.Choice.{◌⇒◌else◌};
+ghost use Rattle.graph_tables.specs.Tables.{state_of, SameLoan, HalfRowIn, wprev, wthis};
+ghost use Rattle.journal.specs.Rooms.{SameRoom};
+ghost use Rattle.single_changes.specs.One.{HoldsGraph, Untyped, setting_end, ordering_vertex, ordering_edge, ordering_word};
+ghost use Rattle.tried_edits.specs.Plans.{unless};
+ghost use Rattle.tried_edits.specs.Tried.{attempt_of, outcome_of};
 
-use graph::SingleChange;
-use graph_tables::Head;
+use commands::refusal::Refusal;
 use graph_tables::fields::{EDGE_PREV, HALF_PREV, HALF_THIS, VERTEX_LAST, VERTEX_PREV};
-use graph_tables::rows::{edge_field, half_field, vertex_field};
-use lists::numbers::choose;
-use tried_edits::{Made, unchanged};
+use graph_tables::{Head, Tables};
+use journal::room::Room;
+use tried_edits::{Made, WordPlace};
 
-// Kinds 9 and 10: word w last in the list of u.
-fn word_last(
+// After x; where x is a itself, which leaves its place first, after what stood before a.
+#[inline(always)]
+#[tactic(auto, unfolding(lists::specs::Choice::if_equal))]
+fn unless(a: u32, before_a: u32, x: u32) -> u32
+    ensures { result ≡ unless a before_a x }
+{
+    if x == a { before_a } else { x }
+}
+
+// After what a goes to stand after b, or before it.
+#[inline(always)]
+fn place<const AFTER: bool>(a: u32, before_a: u32, b: u32, before_b: u32) -> u32
+    ensures { result ≡ (AFTER ⇒ b else unless a before_a before_b) }
+{
+    if AFTER {
+        b
+    } else {
+        unless(a, before_a, before_b)
+    }
+}
+
+// Where word w stands.
+#[inline(always)]
+fn word_place(tables: &Tables<'_>, w: u32) -> WordPlace
+    requires { HalfRowIn tables.now.edges.now w }
+    ensures { result ≡ record { vertex = wthis tables.now.edges.now w; after = wprev tables.now.edges.now w } }
+{
+    WordPlace {
+        vertex: tables.half_field(w, HALF_THIS),
+        after: tables.half_field(w, HALF_PREV),
+    }
+}
+
+/// Kind 9, and kind 10 for the in word: a word of edge e goes last in the list of u.
+#[inline(always)]
+pub fn set_end<const IN: bool>(
+    tables: &mut Tables<'_>,
     head: Head,
-    vertices: &mut [u32],
-    edges: &mut [u32],
-    journal: &mut [u32],
-    row: u32,
-    free: u32,
-    w: u32,
+    room: &mut Room<'_>,
+    e: u32,
     u: u32,
-) -> Made
-    requires { HalfRowIn edges.old w × VertexRowIn vertices.old u
-        × CanMoveWord w (wthis edges.old w) u (unless w (wprev edges.old w) (vlast vertices.old u))
-        (state head vertices.old edges.old) × ((free ≡ 0 → ⊥) → 12 * row + 12 ≤ length journal.old) }
-    ensures { Tries (plan_word_last vertices.old edges.old w u)
-        (attempt row free (state head vertices.old edges.old) journal.old)
-        (outcome result.code result.cost (state result.head vertices.new edges.new) journal.new) }
+) -> Result<Made, Refusal>
+    requires { HoldsGraph (state_of head tables.old) }
+    ensures made { Untyped (setting_end IN e u) (attempt_of head tables.old room.old)
+        (outcome_of head result tables.new room.new.journal.now) }
+    ensures same_loan { SameLoan tables.old tables.new }
+    ensures same_room { SameRoom room.old room.new }
 {
-    let v = half_field(edges, w, HALF_THIS);
-    let p = half_field(edges, w, HALF_PREV);
-    let l = vertex_field(vertices, u, VERTEX_LAST);
-    let q = choose(l, w, p, l);
-    tried_edits::move_word(head, vertices, edges, journal, row, free, w, v, p, u, q)
+    change_codes::set_end(tables, e, u)?;
+    let w = 2 * e + u32::from(IN);
+    let old = word_place(tables, w);
+    let new = WordPlace {
+        vertex: u,
+        after: unless(w, old.after, tables.vertex_field(u, VERTEX_LAST)),
+    };
+    tried_edits::move_word(tables, head, room, w, old, new)
 }
 
-// Kind 9.
-pub fn set_alpha(
+/// Kind 11, and kind 12 for after.
+#[inline(always)]
+pub fn order_vertex<const AFTER: bool>(
+    tables: &mut Tables<'_>,
     head: Head,
-    vertices: &mut [u32],
-    edges: &mut [u32],
-    journal: &mut [u32],
-    row: u32,
-    free: u32,
-    a: u32,
-    u: u32,
-) -> Made
-    requires { HoldsGraph (state head vertices.old edges.old)
-        × ((free ≡ 0 → ⊥) → 12 * row + 12 ≤ length journal.old) }
-    ensures { Untyped (SingleChange.SetAlpha a u)
-        (attempt row free (state head vertices.old edges.old) journal.old)
-        (outcome result.code result.cost (state result.head vertices.new edges.new) journal.new) }
-{
-    let c = change_codes::set_end(vertices, edges, a, u);
-    if c != 0 {
-        return unchanged(head, c);
-    }
-    word_last(head, vertices, edges, journal, row, free, 2 * a, u)
-}
-
-// Kind 10.
-pub fn set_omega(
-    head: Head,
-    vertices: &mut [u32],
-    edges: &mut [u32],
-    journal: &mut [u32],
-    row: u32,
-    free: u32,
-    a: u32,
-    u: u32,
-) -> Made
-    requires { HoldsGraph (state head vertices.old edges.old)
-        × ((free ≡ 0 → ⊥) → 12 * row + 12 ≤ length journal.old) }
-    ensures { Untyped (SingleChange.SetOmega a u)
-        (attempt row free (state head vertices.old edges.old) journal.old)
-        (outcome result.code result.cost (state result.head vertices.new edges.new) journal.new) }
-{
-    let c = change_codes::set_end(vertices, edges, a, u);
-    if c != 0 {
-        return unchanged(head, c);
-    }
-    word_last(head, vertices, edges, journal, row, free, 2 * a + 1, u)
-}
-
-// Kind 11.
-pub fn vertex_before(
-    head: Head,
-    vertices: &mut [u32],
-    edges: &[u32],
-    journal: &mut [u32],
-    row: u32,
-    free: u32,
+    room: &mut Room<'_>,
     a: u32,
     b: u32,
-) -> Made
-    requires { HoldsGraph (state head vertices.old edges.now)
-        × ((free ≡ 0 → ⊥) → 12 * row + 12 ≤ length journal.old) }
-    ensures { Untyped (SingleChange.VertexBefore a b)
-        (attempt row free (state head vertices.old edges.now) journal.old)
-        (outcome result.code result.cost (state result.head vertices.new edges.now)
-        journal.new) }
+) -> Result<Made, Refusal>
+    requires { HoldsGraph (state_of head tables.old) }
+    ensures made { Untyped (ordering_vertex AFTER a b) (attempt_of head tables.old room.old)
+        (outcome_of head result tables.new room.new.journal.now) }
+    ensures same_loan { SameLoan tables.old tables.new }
+    ensures same_room { SameRoom room.old room.new }
 {
-    let c = change_codes::order_vertices(vertices, a, b);
-    if c != 0 {
-        return unchanged(head, c);
-    }
-    let p = vertex_field(vertices, a, VERTEX_PREV);
-    let x = vertex_field(vertices, b, VERTEX_PREV);
-    let q = choose(x, a, p, x);
-    tried_edits::move_vertex(head, vertices, edges, journal, row, free, a, p, q)
+    change_codes::order_vertices(tables, a, b)?;
+    let old = tables.vertex_field(a, VERTEX_PREV);
+    let new = place::<AFTER>(a, old, b, tables.vertex_field(b, VERTEX_PREV));
+    tried_edits::move_vertex(tables, head, room, a, old, new)
 }
 
-// Kind 12.
-pub fn vertex_after(
+/// Kind 13, and kind 14 for after.
+#[inline(always)]
+pub fn order_edge<const AFTER: bool>(
+    tables: &mut Tables<'_>,
     head: Head,
-    vertices: &mut [u32],
-    edges: &[u32],
-    journal: &mut [u32],
-    row: u32,
-    free: u32,
+    room: &mut Room<'_>,
     a: u32,
     b: u32,
-) -> Made
-    requires { HoldsGraph (state head vertices.old edges.now)
-        × ((free ≡ 0 → ⊥) → 12 * row + 12 ≤ length journal.old) }
-    ensures { Untyped (SingleChange.VertexAfter a b)
-        (attempt row free (state head vertices.old edges.now) journal.old)
-        (outcome result.code result.cost (state result.head vertices.new edges.now)
-        journal.new) }
+) -> Result<Made, Refusal>
+    requires { HoldsGraph (state_of head tables.old) }
+    ensures made { Untyped (ordering_edge AFTER a b) (attempt_of head tables.old room.old)
+        (outcome_of head result tables.new room.new.journal.now) }
+    ensures same_loan { SameLoan tables.old tables.new }
+    ensures same_room { SameRoom room.old room.new }
 {
-    let c = change_codes::order_vertices(vertices, a, b);
-    if c != 0 {
-        return unchanged(head, c);
-    }
-    let p = vertex_field(vertices, a, VERTEX_PREV);
-    tried_edits::move_vertex(head, vertices, edges, journal, row, free, a, p, b)
+    change_codes::order_edges(tables, a, b)?;
+    let old = tables.edge_field(a, EDGE_PREV);
+    let new = place::<AFTER>(a, old, b, tables.edge_field(b, EDGE_PREV));
+    tried_edits::move_edge(tables, head, room, a, old, new)
 }
 
-// Kind 13.
-pub fn edge_before(
+/// Kind 15, and kind 16 for after.
+#[inline(always)]
+pub fn order_word<const AFTER: bool>(
+    tables: &mut Tables<'_>,
     head: Head,
-    vertices: &[u32],
-    edges: &mut [u32],
-    journal: &mut [u32],
-    row: u32,
-    free: u32,
+    room: &mut Room<'_>,
     a: u32,
     b: u32,
-) -> Made
-    requires { HoldsGraph (state head vertices.now edges.old)
-        × ((free ≡ 0 → ⊥) → 12 * row + 12 ≤ length journal.old) }
-    ensures { Untyped (SingleChange.EdgeBefore a b)
-        (attempt row free (state head vertices.now edges.old) journal.old)
-        (outcome result.code result.cost (state result.head vertices.now edges.new)
-        journal.new) }
+) -> Result<Made, Refusal>
+    requires { HoldsGraph (state_of head tables.old) }
+    ensures made { Untyped (ordering_word AFTER a b) (attempt_of head tables.old room.old)
+        (outcome_of head result tables.new room.new.journal.now) }
+    ensures same_loan { SameLoan tables.old tables.new }
+    ensures same_room { SameRoom room.old room.new }
 {
-    let c = change_codes::order_edges(edges, a, b);
-    if c != 0 {
-        return unchanged(head, c);
-    }
-    let p = edge_field(edges, a, EDGE_PREV);
-    let x = edge_field(edges, b, EDGE_PREV);
-    let q = choose(x, a, p, x);
-    tried_edits::move_edge(head, vertices, edges, journal, row, free, a, p, q)
-}
-
-// Kind 14.
-pub fn edge_after(
-    head: Head,
-    vertices: &[u32],
-    edges: &mut [u32],
-    journal: &mut [u32],
-    row: u32,
-    free: u32,
-    a: u32,
-    b: u32,
-) -> Made
-    requires { HoldsGraph (state head vertices.now edges.old)
-        × ((free ≡ 0 → ⊥) → 12 * row + 12 ≤ length journal.old) }
-    ensures { Untyped (SingleChange.EdgeAfter a b)
-        (attempt row free (state head vertices.now edges.old) journal.old)
-        (outcome result.code result.cost (state result.head vertices.now edges.new)
-        journal.new) }
-{
-    let c = change_codes::order_edges(edges, a, b);
-    if c != 0 {
-        return unchanged(head, c);
-    }
-    let p = edge_field(edges, a, EDGE_PREV);
-    tried_edits::move_edge(head, vertices, edges, journal, row, free, a, p, b)
-}
-
-// Kind 15.
-pub fn word_before(
-    head: Head,
-    vertices: &mut [u32],
-    edges: &mut [u32],
-    journal: &mut [u32],
-    row: u32,
-    free: u32,
-    a: u32,
-    b: u32,
-) -> Made
-    requires { HoldsGraph (state head vertices.old edges.old)
-        × ((free ≡ 0 → ⊥) → 12 * row + 12 ≤ length journal.old) }
-    ensures { Untyped (SingleChange.WordBefore a b)
-        (attempt row free (state head vertices.old edges.old) journal.old)
-        (outcome result.code result.cost (state result.head vertices.new edges.new) journal.new) }
-{
-    let c = change_codes::order_words(edges, a, b);
-    if c != 0 {
-        return unchanged(head, c);
-    }
-    let v = half_field(edges, a, HALF_THIS);
-    let p = half_field(edges, a, HALF_PREV);
-    let x = half_field(edges, b, HALF_PREV);
-    let q = choose(x, a, p, x);
-    tried_edits::move_word(head, vertices, edges, journal, row, free, a, v, p, v, q)
-}
-
-// Kind 16.
-pub fn word_after(
-    head: Head,
-    vertices: &mut [u32],
-    edges: &mut [u32],
-    journal: &mut [u32],
-    row: u32,
-    free: u32,
-    a: u32,
-    b: u32,
-) -> Made
-    requires { HoldsGraph (state head vertices.old edges.old)
-        × ((free ≡ 0 → ⊥) → 12 * row + 12 ≤ length journal.old) }
-    ensures { Untyped (SingleChange.WordAfter a b)
-        (attempt row free (state head vertices.old edges.old) journal.old)
-        (outcome result.code result.cost (state result.head vertices.new edges.new) journal.new) }
-{
-    let c = change_codes::order_words(edges, a, b);
-    if c != 0 {
-        return unchanged(head, c);
-    }
-    let v = half_field(edges, a, HALF_THIS);
-    let p = half_field(edges, a, HALF_PREV);
-    tried_edits::move_word(head, vertices, edges, journal, row, free, a, v, p, v, b)
+    change_codes::order_words(tables, a, b)?;
+    let old = word_place(tables, a);
+    let new = WordPlace {
+        after: place::<AFTER>(a, old.after, b, tables.half_field(b, HALF_PREV)),
+        ..old
+    };
+    tried_edits::move_word(tables, head, room, a, old, new)
 }

@@ -62,11 +62,11 @@ module _ (b : Bounds) (x : Store) (mem : Memory) (m : Machine) (h : Represents b
   back_near : (q : ℕ) → q ≤ m.line.place → too_far capacity m q ≡ false
   back_near q l = le-ltb (free_of capacity m.line) (onward q m.line) (omega (arith, onward_back q m.line l))
 
-  none_set : (a : ℕ) → m.marks a ≡ gone → in_set x.set a ≡ false
+  none_set : (a : ℕ) → m.marks a ≡ gone → in_set x.set.bits a ≡ false
   none_set a e = go (is_mark a) refl
     where
-      go : (t : Bool) → is_mark a ≡ t → in_set x.set a ≡ false
-      go true f = let r = within_range 1 64 a f in in_set_lem m.marks x.set mem.marks h.marks a r.0 r.1 ∙ ap stands e
+      go : (t : Bool) → is_mark a ≡ t → in_set x.set.bits a ≡ false
+      go true f = let r = within_range 1 64 a f in in_set_lem m.marks x.set.bits mem.marks h.marks a r.0 r.1 ∙ ap stands e
       go false f = rw f
 
   mark_place_lem : (a : ℕ) → mark_place x mem.marks a ≡ place_of m a
@@ -76,9 +76,9 @@ module _ (b : Bounds) (x : Store) (mem : Memory) (m : Machine) (h : Represents b
       go gone e = ap (λ (t : Bool). t ⇒ place_in mem.marks a else x.current.position.place) (none_set a e) ∙ here ∙ sym (ap (place_or m.line.place) e)
       go (at q) e =
           let r = h.marks.known a q e in
-          let s = in_set_lem m.marks x.set mem.marks h.marks a r.0 r.1 ∙ ap stands e in
+          let s = in_set_lem m.marks x.set.bits mem.marks h.marks a r.0 r.1 ∙ ap stands e in
           ap (λ (t : Bool). t ⇒ place_in mem.marks a else x.current.position.place) s
-          ∙ place_is m.marks x.set mem.marks h.marks a r.0 r.1 m.line.place (ap stands e)
+          ∙ place_is m.marks x.set.bits mem.marks h.marks a r.0 r.1 m.line.place (ap stands e)
 
   place_in_steps : (a : ℕ) → place_of m a ≤ x.current.position.steps
   place_in_steps a = go (m.marks a) refl
@@ -87,8 +87,8 @@ module _ (b : Bounds) (x : Store) (mem : Memory) (m : Machine) (h : Represents b
       go gone e = omega (arith, here, inside)
       go (at q) e = omega (arith, h.inside a q e, h.journal.steps)
 
-  holder : (c : Call) → mark_place x mem.marks (holder_in x.set mem.marks 0 (name c.a c.b)) ≡ place_of m (holder_of (name c.a c.b) m)
-  holder c = ap (mark_place x mem.marks) (holder_same m x.set mem.marks 0 (name c.a c.b) h.marks h.names) ∙ mark_place_lem (holder_of (name c.a c.b) m)
+  holder : (c : Call) → mark_place x mem.marks (holder_in x.set.bits mem.marks 0 (name c.a c.b)) ≡ place_of m (holder_of (name c.a c.b) m)
+  holder c = ap (mark_place x mem.marks) (holder_same m x.set.bits mem.marks 0 (name c.a c.b) h.marks h.names) ∙ mark_place_lem (holder_of (name c.a c.b) m)
 
   next_far : too_far capacity m (next_place x.current.position.place x.current.position.steps) ≡ too_far capacity m (suc m.line.place)
   next_far = go (x.current.position.place == x.current.position.steps) refl
@@ -113,7 +113,7 @@ module _ (b : Bounds) (x : Store) (mem : Memory) (m : Machine) (h : Represents b
     where
       go : (s t u : Bool) →
           too_far capacity m (s ⇒ next_place x.current.position.place x.current.position.steps else t ⇒ mark_place x mem.marks c.a else
-          u ⇒ mark_place x mem.marks (holder_in x.set mem.marks 0 (name c.a c.b)) else x.current.position.place)
+          u ⇒ mark_place x mem.marks (holder_in x.set.bits mem.marks 0 (name c.a c.b)) else x.current.position.place)
           ≡ (s ⇒ too_far capacity m (suc m.line.place) else t ⇒ too_far capacity m (place_of m c.a) else u ⇒ too_far capacity m (place_of m (holder_of (name c.a c.b) m)) else false)
       go true t u = next_far
       go false true u = ap (too_far capacity m) (mark_place_lem c.a)
@@ -125,7 +125,7 @@ module _ (b : Bounds) (x : Store) (mem : Memory) (m : Machine) (h : Represents b
     where
       go : (s t u : Bool) →
           (s ⇒ next_place x.current.position.place x.current.position.steps else t ⇒ mark_place x mem.marks c.a else
-          u ⇒ mark_place x mem.marks (holder_in x.set mem.marks 0 (name c.a c.b)) else x.current.position.place) ≤ x.current.position.steps
+          u ⇒ mark_place x mem.marks (holder_in x.set.bits mem.marks 0 (name c.a c.b)) else x.current.position.place) ≤ x.current.position.steps
       go true t u = next_in
       go false true u = omega (arith, mark_place_lem c.a, place_in_steps c.a)
       go false false true = omega (arith, holder c, place_in_steps (holder_of (name c.a c.b) m))

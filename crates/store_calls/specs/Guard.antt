@@ -22,7 +22,7 @@ standing_place set marks a = in_set set a ⇒ Some (place_in marks a) else None
 
 -- the place of mark a where it stands, else the present one
 abbrev pub mark_place : Store → List ℕ → ℕ → ℕ
-mark_place x marks a = in_set x.set a ⇒ place_in marks a else x.current.position.place
+mark_place x marks a = in_set x.set.bits a ⇒ place_in marks a else x.current.position.place
 
 -- one step on, where there is one
 abbrev pub next_place : ℕ → ℕ → ℕ
@@ -32,7 +32,7 @@ abbrev pub place_ahead : Store → List ℕ → Call → ℕ
 place_ahead x marks c =
     (c.kind == 20) ⇒ next_place x.current.position.place x.current.position.steps else
     (c.kind == 21) ⇒ mark_place x marks c.a else
-    (c.kind == 57) ⇒ mark_place x marks (holder_in x.set marks 0 (name c.a c.b)) else
+    (c.kind == 57) ⇒ mark_place x marks (holder_in x.set.bits marks 0 (name c.a c.b)) else
     x.current.position.place
 
 -- ---- calls of six words that one loop answers

@@ -2,6 +2,7 @@
 // too far is tested here, on the call's words: the step does not test it. What a store has used and the room left to
 // all have one sum over calls of one store, so that as many as may be go to the engine's loop at once.
 ghost use Rattle.std.specs.Prelude.{◌≡◌, List, [], ◌∷◌, ℕ, ◌+◌, ◌*◌, ◌/◌, ◌≤◌, length};
+ghost use Rattle.std.specs.Option.{unwrap_or};
 ghost use Rattle.lists.specs.Lists.{overwritten};
 ghost use Rattle.graph.specs.WellFormed.{Bounds};
 ghost use Rattle.history.specs.Machine.{Machine, free_of};
@@ -17,6 +18,7 @@ ghost use Rattle.store_calls.specs.Guard.{standing_place, next_place, place_ahea
 use commands::refusal::Refusal;
 use engine::calls::carry_out;
 use history_calls::Store;
+use marks::{MarkSet, Name};
 
 // The kinds that may redo steps (commands::decode). They are read off the word: what is decoded here would be decoded
 // twice, at 19 to 77 in 100 more for a call.
@@ -27,11 +29,11 @@ const GO_TO: u32 = 21;
 const GO_TO_NAME: u32 = 57;
 
 /// The place of mark a, where it stands.
-fn place_of(set: u64, marks: &[u32], a: u32) -> Option<u32>
+fn place_of(set: MarkSet, marks: &[u32], a: u32) -> Option<u32>
     requires { length marks.now ≡ mark_words }
-    ensures { result ≡ standing_place set marks.now a }
+    ensures { result ≡ standing_place set.bits marks.now a }
 {
-    if marks::stands(set, a) {
+    if set.has(a) {
         Some(marks::place_of(marks, a))
     } else {
         None
@@ -39,35 +41,31 @@ fn place_of(set: u64, marks: &[u32], a: u32) -> Option<u32>
 }
 
 /// One step on, where there is one.
-fn after_next(place: u32, steps: u32) -> u32
+fn next_place(place: u32, steps: u32) -> Option<u32>
     requires { place ≤ steps }
-    ensures { result ≡ next_place place steps }
+    ensures { unwrap_or result place ≡ next_place place steps }
 {
-    if place == steps { place } else { place + 1 }
+    if place == steps { None } else { Some(place + 1) }
 }
 
-/// The place that a redo, or a call to a mark or a name, leads to; of any other call, and where there is none, the
-/// present one.
-fn place_ahead(store: Store, marks: &[u32], call: &[u32]) -> u32
+/// The place that a redo, or a call to a mark or a name, leads to, where there is one; none of any other call.
+fn place_ahead(store: Store, marks: &[u32], call: &[u32]) -> Option<u32>
     requires marks_len { length marks.now ≡ mark_words }
     requires place_le_steps { store.current.position.place ≤ store.current.position.steps }
-    ensures { result ≡ place_ahead store marks.now (call_at call.now) }
+    ensures { unwrap_or result store.current.position.place ≡ place_ahead store marks.now (call_at call.now) }
 {
-    let place = store.current.position.place;
+    let position = store.current.position;
     match lists::get(call, 0) {
-        REDO => after_next(place, store.current.position.steps),
-        GO_TO => place_of(store.set, marks, lists::get(call, 1)).unwrap_or(place),
+        REDO => next_place(position.place, position.steps),
+        GO_TO => place_of(store.set, marks, lists::get(call, 1)),
         GO_TO_NAME => {
-            let a = marks::holder(
-                store.set,
-                marks,
-                0,
-                lists::get(call, 1),
-                lists::get(call, 2),
-            );
-            place_of(store.set, marks, a).unwrap_or(place)
+            let name = Name {
+                first: lists::get(call, 1),
+                second: lists::get(call, 2),
+            };
+            place_of(store.set, marks, store.set.holder(marks, 0, name)?)
         }
-        _ => place,
+        _ => None,
     }
 }
 
@@ -79,7 +77,7 @@ fn beyond(store: Store, journal: &[u32], marks: &[u32], free: u32, call: &[u32])
         → free ≡ free_of capacity m.line → result ≡ out_of_reach capacity m (call_at call.now) }
 {
     let position = store.current.position;
-    let ahead = place_ahead(store, marks, call);
+    let ahead = place_ahead(store, marks, call).unwrap_or(position.place);
     position.place < ahead && timeline::too_far(position, journal, free, ahead - position.place)
 }
 

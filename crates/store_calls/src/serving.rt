@@ -78,7 +78,7 @@ pub fn serve(
             &mut answers[2 * k..2 * n],
             there,
         );
-        let y = history_calls::same(done.store);
+        let y = done.store.same();
         let after = y.current.position.used;
         all[i] = y;
         room = room + used - after;

@@ -1,25 +1,19 @@
 -- The refusals of a list of several stores, from the words of the starts, the type rows and the lengths of all that is
 -- lent.
-use Rattle.std.specs.Prelude.{ℕ, ◌+◌, ◌*◌, ◌/◌, ◌%◌, ◌≡◌, Bool, not, ◌&&◌, List, ltb, ◌==◌}
+use Rattle.std.specs.Prelude.{ℕ, ◌+◌, ◌*◌, ◌/◌, ◌%◌, ◌≡◌, Bool, not, ◌&&◌, List, ltb, ◌==◌, Ok, Err}
 use Rattle.lists.specs.Choice.{◌⇒◌else◌, within}
 use Rattle.graph.specs.Limits.{most_vertices, most_edges, most_changes}
 use Rattle.machine.specs.StoreRun.{LentStores, most_stores}
 use Rattle.engine.specs.Refusals.{Lends}
-use Rattle.std.specs.Prelude.{Ok, Err}
 use Rattle.image_check.specs.Checks.{Verdict}
-use Rattle.image_check.specs.declared.BadImage.{BadImage}
 use Rattle.image_check.specs.declared.BadImage.TheVariants.{Header, Record, Incidence}
 
--- the number beside the code of what is bad in the image that stands at a place
-abbrev pub bad_number_at : ℕ → BadImage → ℕ
-bad_number_at at Header = 0
-bad_number_at at (Record offset) = at + offset
-bad_number_at at (Incidence offset) = at + offset
-
--- the same of a verdict, 0 where it is sound
+-- the number beside the code of a verdict on the image that stands at a place; 0 where it is sound
 abbrev pub number_at : ℕ → Verdict → ℕ
 number_at at (Ok tt) = 0
-number_at at (Err bad) = bad_number_at at bad
+number_at at (Err Header) = 0
+number_at at (Err (Record offset)) = at + offset
+number_at at (Err (Incidence offset)) = at + offset
 
 -- the stores and the capacities of a part
 abbrev pub in_limits_in : ℕ → ℕ → ℕ → ℕ → Bool

@@ -3,7 +3,7 @@
 #![tactic(auto)]
 
 mod starts; // starts.rt: the start images, one after another
-mod refusals; // refusals.rt: the codes of a list
+mod refusals; // refusals.rt: whether a list is refused
 mod opening; // opening.rt: every store before the first call
 mod saving; // saving.rt: every end image
 pub mod run; // run.rt: the whole list

@@ -6,13 +6,8 @@ use engine::begin::begin;
 use graph_tables::Head;
 use history_calls::Store;
 
-// A store that is not there.
-fn none() -> Store {
-    history_calls::start(Head::default())
-}
-
-// Loads the start images in turn, each into its parts of v and e words. What the parts hold besides, and the stores
-// that are not there, are left open; the words behind the parts stay.
+/// Loads the start images in turn, each into its parts of v and e words. What the parts hold besides, and the stores
+//// that are not there, are left open; the words behind the parts stay.
 pub fn open_all(
     start: &[u32],
     vertices: &mut [u32],
@@ -25,20 +20,17 @@ pub fn open_all(
     ensures { Opened start.now result vertices.old vertices.new edges.old
         edges.new stores v e }
 {
-    let empty = none();
+    let empty = Store::start(Head::default());
     let mut all = [empty; 8];
     let mut at = 0;
-    let mut i = 0;
-    while i < stores {
+    for i in 0..stores {
         let n = first_length(&start[at..]);
-        let x = begin(
+        all[i] = begin(
             &start[at..at + n],
             &mut vertices[i * v..i * v + v],
             &mut edges[i * e..i * e + e],
         );
-        all[i] = x;
         at += n;
-        i += 1;
     }
     all
 }

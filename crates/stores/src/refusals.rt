@@ -1,13 +1,14 @@
-// The refusals of a list of several stores: the first code in turn that applies, 0 where none does.
-// Nothing is written.
-ghost use Rattle.std.specs.Prelude.{◌≡◌, ◌≤◌, ◌<◌, ◌^◌};
+// The refusals of a list of several stores: the first test in turn that it does not pass. Nothing is written.
+ghost use Rattle.std.specs.Prelude.{◌≡◌, ◌≤◌, ◌<◌, ◌^◌, Err};
 ghost use Rattle.graph.specs.Limits.{most_vertices, most_edges};
-ghost use Rattle.image_check.specs.Checks.{bounds};
+ghost use Rattle.image_check.specs.Checks.{bounds, bad_code};
 ghost use Rattle.machine.specs.Run.{number_beside};
 ghost use Rattle.machine.specs.StoreRun.{LentStores, starts_code, starts_offset, stores_refusal, stores_number};
-ghost use Rattle.stores.specs.Refusals.{bad_number_at, lengths_in, LendsIn};
+ghost use Rattle.engine.specs.Refusals.{list_code, list_offset, code_if_refused, number_if_refused};
+ghost use Rattle.stores.specs.Refusals.{number_at, lengths_in, LendsIn};
 
 use crate::starts::first_length;
+use engine::list_refusal::ListRefusal;
 use engine::refusals::{at_most, in_limits};
 use image::layout::length;
 use image_check::{BadImage, check};
@@ -15,85 +16,79 @@ use type_rows::are_good;
 
 pub const MOST_STORES: u32 = 8;
 
-// The code of a list and the number beside it: with 108 and 109 the offset of the first bad word, counted from the
-// first word of all start images, else 0.
-#[derive(Clone, Copy, Debug, PartialEq, Eq)]
-pub struct Refused {
-    pub code: u32,
-    pub number: usize,
-}
-
-/// The number beside the code of what is bad in the image that stands at a place.
-fn number_at(at: usize, bad: BadImage) -> usize
+/// The refusal for what is bad in the start image that stands at a place: the offset is counted from the first word of
+/// all start images.
+fn of_image_at(at: usize, bad: BadImage) -> ListRefusal
     requires { at < 2 ^ 63 }
-    ensures { result ≡ bad_number_at at bad }
+    ensures code { list_code result ≡ bad_code bad }
+    ensures number { list_offset result ≡ number_at at (Err bad) }
 {
     match bad {
-        BadImage::Header => 0,
-        BadImage::Record(offset) | BadImage::Incidence(offset) => at + offset as usize,
+        BadImage::Header => ListRefusal::BadStart,
+        BadImage::Record(offset) => ListRefusal::BadRecord(at + offset as usize),
+        BadImage::Incidence(offset) => ListRefusal::BadIncidence(at + offset as usize),
     }
 }
 
-// 101, 102, 103 or 0.
-fn lengths_code(
+/// What goes by lengths alone.
+fn check_lengths(
     calls: usize,
     answers: usize,
     vertices: usize,
     edges: usize,
     journal: usize,
     stores: usize,
-) -> u32
-    ensures { result ≡ lengths_in calls answers vertices edges journal stores }
+) -> Result<(), ListRefusal>
+    ensures { (code_if_refused result ≡ lengths_in calls answers vertices edges journal stores)
+        × (number_if_refused result ≡ 0) }
 {
     if calls % 6 != 0 {
-        return 101;
+        return Err(ListRefusal::BadCalls);
     }
     if answers < 2 * (calls / 6) {
-        return 102;
+        return Err(ListRefusal::ShortAnswers);
     }
-    if !at_most(MOST_STORES, stores) {
-        return 103;
+    if !at_most(MOST_STORES, stores)
+        || !in_limits(
+            vertices / stores / 8,
+            edges / stores / 12,
+            journal / stores / 12,
+        )
+    {
+        return Err(ListRefusal::BadCapacity);
     }
-    if in_limits(
-        vertices / stores / 8,
-        edges / stores / 12,
-        journal / stores / 12,
-    ) {
-        return 0;
-    }
-    103
+    Ok(())
 }
 
-// 105, 108, 109 or 0: the first image that does not load; where all do, words left over.
-fn starts(start: &[u32], vertices: u32, edges: u32, types: u32, stores: usize) -> Refused
+/// The first image that does not load; where all do, words left over.
+fn check_starts(
+    start: &[u32],
+    vertices: u32,
+    edges: u32,
+    types: u32,
+    stores: usize,
+) -> Result<(), ListRefusal>
     requires { (vertices ≤ most_vertices) × (edges ≤ most_edges) }
-    ensures code_value { result.code ≡ starts_code (bounds vertices edges types) stores start.now }
-    ensures number_value { result.number ≡ number_beside (starts_code (bounds vertices edges types) stores start.now)
+    ensures code_value { code_if_refused result ≡ starts_code (bounds vertices edges types) stores start.now }
+    ensures number_value { number_if_refused result ≡ number_beside (starts_code (bounds vertices edges types) stores start.now)
         (starts_offset (bounds vertices edges types) 0 stores start.now) }
 {
     let mut at = 0;
-    let mut k = 0;
-    while k < stores {
+    for _ in 0..stores {
         let n = first_length(&start[at..]);
         if let Err(bad) = check(&start[at..at + n], vertices, edges, types) {
-            return Refused {
-                code: bad.code(),
-                number: number_at(at, bad),
-            };
+            return Err(of_image_at(at, bad));
         }
         at += n;
-        k += 1;
     }
     if at < start.len() {
-        return Refused {
-            code: 105,
-            number: 0,
-        };
+        return Err(ListRefusal::BadStart);
     }
-    Refused { code: 0, number: 0 }
+    Ok(())
 }
 
-// The start is looked at only where its capacities are within the limits.
+/// Whether a run of what is lent for so many stores is refused. The start is looked at only where its capacities are
+/// within the limits.
 pub fn refusal(
     start: &[u32],
     rows: &[u64],
@@ -104,35 +99,20 @@ pub fn refusal(
     answers: usize,
     image: usize,
     stores: usize,
-) -> Refused
+) -> Result<(), ListRefusal>
     ensures { (l : LentStores)
         → LendsIn l start.now rows.now calls vertices edges journal answers image stores
-        → (result.code ≡ stores_refusal l) × (result.number ≡ stores_number l) }
+        → (code_if_refused result ≡ stores_refusal l) × (number_if_refused result ≡ stores_number l) }
 {
-    let code = lengths_code(calls, answers, vertices, edges, journal, stores);
-    if code != 0 {
-        return Refused { code, number: 0 };
-    }
+    check_lengths(calls, answers, vertices, edges, journal, stores)?;
     if !are_good(rows) {
-        return Refused {
-            code: 104,
-            number: 0,
-        };
+        return Err(ListRefusal::BadRows);
     }
     let v = (vertices / stores / 8) as u32;
     let e = (edges / stores / 12) as u32;
-    let found = starts(start, v, e, rows.len() as u32, stores);
-    if found.code != 0 {
-        return Refused {
-            code: found.code,
-            number: found.number,
-        };
-    }
+    check_starts(start, v, e, rows.len() as u32, stores)?;
     if image / stores < length(v, e) {
-        return Refused {
-            code: 106,
-            number: 0,
-        };
+        return Err(ListRefusal::ShortImage);
     }
-    Refused { code: 0, number: 0 }
+    Ok(())
 }

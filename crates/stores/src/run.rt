@@ -13,7 +13,7 @@ use engine::run::RunResult;
 use store_calls::serving::serve;
 use type_rows::closure;
 
-// A list that is not refused. What the parts of the tables and of the journal hold afterwards is left open.
+/// A list that is not refused. What the parts of the tables and of the journal hold afterwards is left open.
 fn accepted(
     start: &[u32],
     rows: &[u64],
@@ -52,9 +52,9 @@ fn accepted(
     }
 }
 
-// The result, the answers and the end images are those of the specification's run of the lent words, whatever they
-// are. A refused list writes nowhere. After an accepted one, what the parts of the tables and of the journal hold is
-// left open; the words behind the last part of each stay. The three demands hold of all stores.
+/// The result, the answers and the end images are those of the specification's run of the lent words, whatever they
+/// are. A refused list writes nowhere. After an accepted one, what the parts of the tables and of the journal hold is
+/// left open; the words behind the last part of each stay. The three demands hold of all stores.
 pub fn run(
     start: &[u32],
     rows: &[u64],
@@ -83,8 +83,8 @@ pub fn run(
         (several (lent start.now rows.now calls.now vertices.old edges.old journal.old answers.old image.old) stores limit)
         (run_result result answers.new image.new) }
 {
-    let k = stores as usize;
-    let refused = refusal(
+    let count = stores as usize;
+    if let Err(refused) = refusal(
         start,
         rows,
         calls.len(),
@@ -93,16 +93,11 @@ pub fn run(
         journal.len(),
         answers.len(),
         image.len(),
-        k,
-    );
-    if refused.code != 0 {
-        return RunResult {
-            code: refused.code,
-            done: refused.number,
-            words: 0,
-        };
+        count,
+    ) {
+        return RunResult::from(refused);
     }
     accepted(
-        start, rows, calls, vertices, edges, journal, answers, image, k, limit,
+        start, rows, calls, vertices, edges, journal, answers, image, count, limit,
     )
 }

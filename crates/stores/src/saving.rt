@@ -5,7 +5,7 @@ ghost use Rattle.stores.specs.Saving.{CanSaveAll, SavedAll};
 use history_calls::Store;
 use image_tables::save;
 
-// Writes each store's image to the front of its part of n words. Tells how many words they have together.
+/// Writes each store's image to the front of its part of n words. Tells how many words they have together.
 pub fn save_all(
     all: [Store; 8],
     vertices: &[u32],
@@ -21,18 +21,14 @@ pub fn save_all(
         stores v e n result }
 {
     let mut words = 0;
-    let mut i = 0;
-    while i < stores {
-        let x = all[i];
-        let head = x.current.head;
-        let long = save(
+    for i in 0..stores {
+        let head = all[i].current.head;
+        words += save(
             head,
             &vertices[i * v..i * v + v],
             &edges[i * e..i * e + e],
             &mut image[i * n..i * n + n],
         );
-        words += long;
-        i += 1;
     }
     words
 }

@@ -18,7 +18,7 @@ use Rattle.graph_tables.specs.Tables.{State, state_of, state_remove_edge}
 use Rattle.graph_tables.specs.Edits.{state_apply}
 use Rattle.journal.specs.declared.room.Room.{Room}
 use Rattle.journal.specs.Rows.{row_words, costing, rowed, store_from}
-use Rattle.journal.proofs.RowLaws.{rowed_by}
+use Rattle.journal.proofs.RowLaws.{rowed_by, edge_words}
 use Rattle.commands.specs.declared.refusal.Refusal.{Refusal}
 use Rattle.commands.specs.declared.refusal.Refusal.TheVariants.{NoRoom}
 use Rattle.journal.specs.Written.{Written}
@@ -65,3 +65,6 @@ removal_written s n c i t w e s' t' p q = record {
   state = p ∙ ap (λ (x : RemovedEdge). state_remove_edge n x.alpha x.omega s) e;
   row = q ∙ ap (λ (x : RemovedEdge). rowed i (removal_of n x) (costing c) t) e;
 }
+
+-- what each edit's function is proved by
+pub ruleset tries = (tries_kept, tries_full, tries_made, edge_idle, removed_words, edge_words)

@@ -2,7 +2,7 @@
 // else it is written down as one row, a step of cost 1, and carried out.
 // Each edit has its own function and hands its row on as words: an edit by value would be matched once for its row and
 // once for the tables, and a reading built from its two words and taken apart again.
-#![tactic(auto)]
+#![tactic(auto, using(crate::proofs::Tries::tries))]
 
 ghost use Rattle.std.specs.Prelude.{◌≡◌, ◌≢◌, ◌+◌, ◌*◌, ◌^◌, ◌<◌, set, OnOk, OnErr, Err};
 ghost use Rattle.linked_lists.specs.Links.{CanMove};

@@ -1,59 +1,35 @@
 use Rattle.single_changes.proofs.OneLaws.{one_by}
 use Rattle.single_changes.proofs.make.Goals as goal
 
-pub returns-in-CreateVertex : goal.returns-in-CreateVertex
-returns-in-CreateVertex c = one_by c.in-CreateVertex.is c.create_vertex.ensures
+pub returns-in-DeleteEdge-clause-made : goal.returns-in-DeleteEdge-clause-made
+returns-in-DeleteEdge-clause-made c = one_by c.in-DeleteEdge.is (c.delete_edge.ensures.made _)
 
-pub returns-in-CreateEdge : goal.returns-in-CreateEdge
-returns-in-CreateEdge c =
-    one_by c.in-CreateEdge.is
-    c.create_edge.ensures
+pub returns-in-SetValue-clause-made : goal.returns-in-SetValue-clause-made
+returns-in-SetValue-clause-made c = one_by c.in-SetValue.is (c.set_value.ensures.made _)
 
-pub returns-in-DeleteEdge : goal.returns-in-DeleteEdge
-returns-in-DeleteEdge c =
-    one_by c.in-DeleteEdge.is
-    (c.delete_edge.ensures _)
+pub returns-in-SetReading-clause-made : goal.returns-in-SetReading-clause-made
+returns-in-SetReading-clause-made c = one_by c.in-SetReading.is (c.set_reading.ensures.made _)
 
-pub returns-in-RetypeVertex : goal.returns-in-RetypeVertex
-returns-in-RetypeVertex c = one_by c.in-RetypeVertex.is c.retype_vertex.ensures
+pub returns-in-SetAlpha-clause-made : goal.returns-in-SetAlpha-clause-made
+returns-in-SetAlpha-clause-made c = one_by c.in-SetAlpha.is (c.set_end.ensures.made _)
 
-pub returns-in-RetypeEdge : goal.returns-in-RetypeEdge
-returns-in-RetypeEdge c = one_by c.in-RetypeEdge.is c.retype_edge.ensures
+pub returns-in-SetOmega-clause-made : goal.returns-in-SetOmega-clause-made
+returns-in-SetOmega-clause-made c = one_by c.in-SetOmega.is (c.set_end-in-SetOmega.ensures.made _)
 
-pub returns-in-SetValue : goal.returns-in-SetValue
-returns-in-SetValue c = one_by c.in-SetValue.is (c.set_value.ensures _)
+pub returns-in-VertexBefore-clause-made : goal.returns-in-VertexBefore-clause-made
+returns-in-VertexBefore-clause-made c = one_by c.in-VertexBefore.is (c.order_vertex.ensures.made _)
 
-pub returns-in-SetReading : goal.returns-in-SetReading
-returns-in-SetReading c = one_by c.in-SetReading.is (c.set_reading.ensures _)
+pub returns-in-VertexAfter-clause-made : goal.returns-in-VertexAfter-clause-made
+returns-in-VertexAfter-clause-made c = one_by c.in-VertexAfter.is (c.order_vertex-in-VertexAfter.ensures.made _)
 
-pub returns-in-SetAlpha : goal.returns-in-SetAlpha
-returns-in-SetAlpha c =
-    one_by c.in-SetAlpha.is
-    (c.set_alpha.ensures _)
+pub returns-in-EdgeBefore-clause-made : goal.returns-in-EdgeBefore-clause-made
+returns-in-EdgeBefore-clause-made c = one_by c.in-EdgeBefore.is (c.order_edge.ensures.made _)
 
-pub returns-in-SetOmega : goal.returns-in-SetOmega
-returns-in-SetOmega c =
-    one_by c.in-SetOmega.is
-    (c.set_omega.ensures _)
+pub returns-in-EdgeAfter-clause-made : goal.returns-in-EdgeAfter-clause-made
+returns-in-EdgeAfter-clause-made c = one_by c.in-EdgeAfter.is (c.order_edge-in-EdgeAfter.ensures.made _)
 
-pub returns-in-VertexBefore : goal.returns-in-VertexBefore
-returns-in-VertexBefore c = one_by c.in-VertexBefore.is (c.vertex_before.ensures _)
+pub returns-in-WordBefore-clause-made : goal.returns-in-WordBefore-clause-made
+returns-in-WordBefore-clause-made c = one_by c.in-WordBefore.is (c.order_word.ensures.made _)
 
-pub returns-in-VertexAfter : goal.returns-in-VertexAfter
-returns-in-VertexAfter c = one_by c.in-VertexAfter.is (c.vertex_after.ensures _)
-
-pub returns-in-EdgeBefore : goal.returns-in-EdgeBefore
-returns-in-EdgeBefore c = one_by c.in-EdgeBefore.is (c.edge_before.ensures _)
-
-pub returns-in-EdgeAfter : goal.returns-in-EdgeAfter
-returns-in-EdgeAfter c = one_by c.in-EdgeAfter.is (c.edge_after.ensures _)
-
-pub returns-in-WordBefore : goal.returns-in-WordBefore
-returns-in-WordBefore c =
-    one_by c.in-WordBefore.is
-    (c.word_before.ensures _)
-
-pub returns-in-WordAfter : goal.returns-in-WordAfter
-returns-in-WordAfter c =
-    one_by c.in-WordAfter.is
-    (c.word_after.ensures _)
+pub returns-in-WordAfter-clause-made : goal.returns-in-WordAfter-clause-made
+returns-in-WordAfter-clause-made c = one_by c.in-WordAfter.is (c.order_word-in-WordAfter.ensures.made _)

@@ -3,286 +3,189 @@ ghost use Rattle.std.specs.Prelude.{◌≡◌};
 ghost use Rattle.lists.specs.Lists.{count};
 
 use crate::running::{
-    Lengths, run_lent, show_comparison, show_order, show_page, write_line, write_part,
+    Lengths, run_lent, show_comparison, show_order, show_page, write_bytes, write_part,
 };
-use crate::{
-    between, copy, first, fives, front, front_wide, leads, narrow, numbers, rest, wide, word,
-};
+use crate::{first, first_word, fives, front, narrow, numbers, rest};
 use image::part;
-use std::num::wrapping_add_usize;
 
-// What the lines so far say: the lengths that are lent, the words of the start image, the type rows, the words of the
-// calls, the words of the last end image, the bound of the junk words, the place of the next line.
-#[derive(Clone, Copy, Debug, PartialEq, Eq)]
-pub struct Setting {
-    pub lent: Lengths,
-    pub start: usize,
-    pub rows: usize,
-    pub calls: usize,
-    pub last: usize,
-    pub junk: u32,
-    pub from: usize,
+// A line has no more numbers than this.
+const MOST_NUMBERS: usize = 400;
+
+/// Writes the numbers of a line as words, and answers how many there are.
+fn words_of(line: &[u8], words: &mut [u32]) -> usize {
+    let mut list = [0u64; MOST_NUMBERS];
+    let count = numbers(line, &mut list);
+    narrow(&list, count, words, 0);
+    count
 }
 
-// tables: the lengths in words of vertices, edges and journal.
-fn tables(s: Setting, line: &[u8]) -> Setting {
-    let mut n = [0u64; 8];
-    numbers(line, &mut n);
-    let mut lent = s.lent;
-    lent.vertices = wide(&n, 0) as usize;
-    lent.edges = wide(&n, 1) as usize;
-    lent.journal = wide(&n, 2) as usize;
-    let mut t = s;
-    t.lent = lent;
-    t
+/// What the lines so far say. Of start, rows and calls so many words are in use, and of the last end image.
+#[derive(Drop)]
+struct Setting<'a> {
+    lengths: Lengths,
+    junk: u32,
+    start: &'a mut [u32],
+    start_count: usize,
+    rows: &'a mut [u64],
+    row_count: usize,
+    calls: &'a mut [u32],
+    call_count: usize,
+    image_count: usize,
 }
 
-// lent: the lengths in words of answers and image.
-fn lengths(s: Setting, line: &[u8]) -> Setting {
-    let mut n = [0u64; 8];
-    numbers(line, &mut n);
-    let mut lent = s.lent;
-    lent.answers = wide(&n, 0) as usize;
-    lent.image = wide(&n, 1) as usize;
-    let mut t = s;
-    t.lent = lent;
-    t
-}
-
-fn junk(s: Setting, line: &[u8]) -> Setting {
-    let mut t = s;
-    t.junk = first(line);
-    t
-}
-
-fn type_rows(s: Setting, line: &[u8], rows: &mut [u64]) -> Setting {
-    let mut t = s;
-    t.rows = numbers(line, rows);
-    t
-}
-
-fn start_words(s: Setting, line: &[u8], start: &mut [u32]) -> Setting {
-    let mut n = [0u64; 400];
-    let count = numbers(line, &mut n);
-    narrow(&n, count, start, 0);
-    let mut t = s;
-    t.start = count;
-    t
-}
-
-// The start image becomes the last end image.
-fn again(s: Setting, start: &mut [u32], image: &[u32]) -> Setting {
-    let count = s.last;
-    copy(image, count, start);
-    let mut t = s;
-    t.start = count;
-    t
-}
-
-// The first numbers behind the calls.
-fn added(s: Setting, n: &[u64], count: usize, calls: &mut [u32]) -> Setting {
-    let at = s.calls;
-    narrow(n, count, calls, at);
-    let mut t = s;
-    t.calls = wrapping_add_usize(at, count);
-    t
-}
-
-// The numbers of the line behind the calls, as they are.
-fn raw(s: Setting, line: &[u8], calls: &mut [u32]) -> Setting {
-    let mut n = [0u64; 400];
-    let count = numbers(line, &mut n);
-    added(s, &n, count, calls)
-}
-
-// The calls of the line behind the calls.
-fn append(s: Setting, line: &[u8], calls: &mut [u32]) -> Setting {
-    let mut n = [0u64; 400];
-    let count = numbers(line, &mut n);
-    added(s, &n, fives(count), calls)
-}
-
-// A part of the start words.
-fn show_part(rt: &impl Print, s: Setting, which: u32, start: &[u32]) -> Setting {
-    write_part(rt, which, part(front(start, s.start), which));
-    s
-}
-
-// The page of the start words.
-fn page_of(rt: &impl Print, s: Setting, room: u32, start: &[u32]) -> Setting {
-    show_page(rt, front(start, s.start), room as usize);
-    s
-}
-
-// The start words beside those of the line, whose first number is the tolerance.
-fn compare_with(rt: &impl Print, s: Setting, line: &[u8], start: &[u32]) -> Setting {
-    let mut n = [0u64; 400];
-    let count = numbers(line, &mut n);
-    let mut words = [0u32; 400];
-    narrow(&n, count, &mut words, 0);
-    show_comparison(
-        rt,
-        front(start, s.start),
-        rest(front(&words, count), 1),
-        word(&words, 0),
-    );
-    s
-}
-
-// arrange: an order of the start words; kind, vertex, words lent for the calls, wanted words.
-fn order_of(rt: &impl Print, s: Setting, line: &[u8], start: &[u32]) -> Setting {
-    let mut n = [0u64; 400];
-    let count = numbers(line, &mut n);
-    let mut given = [0u32; 400];
-    narrow(&n, count, &mut given, 0);
-    show_order(
-        rt,
-        front(start, s.start),
-        word(&given, 0),
-        word(&given, 1),
-        rest(front(&given, count), 3),
-        word(&given, 2) as usize,
-        s.junk,
-    );
-    s
-}
-
-// A line that is none of these is written as it is.
-fn set_line(
-    rt: &impl Print,
-    s: Setting,
-    line: &[u8],
-    start: &mut [u32],
-    rows: &mut [u64],
-    calls: &mut [u32],
-    image: &[u32],
-) -> Setting {
-    if leads(line, b"call") {
-        return append(s, line, calls);
+impl<'a> Setting<'a> {
+    fn start(&self) -> &[u32] {
+        front(self.start, self.start_count)
     }
-    if leads(line, b"words") {
-        return raw(s, line, calls);
-    }
-    if leads(line, b"start") {
-        return start_words(s, line, start);
-    }
-    if leads(line, b"last") {
-        return again(s, start, image);
-    }
-    if leads(line, b"rows") {
-        return type_rows(s, line, rows);
-    }
-    if leads(line, b"part") {
-        return show_part(rt, s, first(line), start);
-    }
-    if leads(line, b"page") {
-        return page_of(rt, s, first(line), start);
-    }
-    if leads(line, b"compare") {
-        return compare_with(rt, s, line, start);
-    }
-    if leads(line, b"arrange") {
-        return order_of(rt, s, line, start);
-    }
-    if leads(line, b"tables") {
-        return tables(s, line);
-    }
-    if leads(line, b"lent") {
-        return lengths(s, line);
-    }
-    if leads(line, b"junk") {
-        return junk(s, line);
-    }
-    write_line(rt, line);
-    s
-}
 
-// run: the calls so far and those of the line.
-fn run_line(
-    rt: &impl Print,
-    s: Setting,
-    line: &[u8],
-    start: &[u32],
-    rows: &[u64],
-    calls: &mut [u32],
-    image: &mut [u32],
-) -> Setting {
-    let t = append(s, line, calls);
-    let lent = t.lent;
-    let words = run_lent(
-        rt,
-        front(start, t.start),
-        front_wide(rows, t.rows),
-        front(calls, t.calls),
-        image,
-        lent,
-        t.junk,
-    );
-    let mut u = t;
-    u.calls = 0;
-    u.last = words;
-    u
-}
-
-fn one_line(
-    rt: &impl Print,
-    s: Setting,
-    line: &[u8],
-    start: &mut [u32],
-    rows: &mut [u64],
-    calls: &mut [u32],
-    image: &mut [u32],
-) -> Setting {
-    if leads(line, b"run") {
-        return run_line(rt, s, line, start, rows, calls, image);
+    fn rows(&self) -> &[u64] {
+        front(self.rows, self.row_count)
     }
-    set_line(rt, s, line, start, rows, calls, image)
-}
 
-// The line that ends at i.
-fn line_to(
-    rt: &impl Print,
-    s: Setting,
-    bytes: &[u8],
-    i: usize,
-    start: &mut [u32],
-    rows: &mut [u64],
-    calls: &mut [u32],
-    image: &mut [u32],
-) -> Setting {
-    let line = between(bytes, s.from, i);
-    let mut t = s;
-    t.from = wrapping_add_usize(i, 1);
-    one_line(rt, t, line, start, rows, calls, image)
-}
+    fn calls(&self) -> &[u32] {
+        front(self.calls, self.call_count)
+    }
 
-// A newline ends a line. How many lines there were.
-fn lines(
-    rt: &impl Print,
-    s: Setting,
-    bytes: &[u8],
-    start: &mut [u32],
-    rows: &mut [u64],
-    calls: &mut [u32],
-    image: &mut [u32],
-) -> usize
-    ensures { result ≡ count 10 bytes.now }
-{
-    let mut t = s;
-    let mut n = 0;
-    let mut i = 0;
-    while i < bytes.len() {
-        let k = i;
-        i += 1;
-        if bytes[k] == 10 {
-            n += 1;
-            t = line_to(rt, t, bytes, k, start, rows, calls, image);
+    /// The lengths in words of vertices, edges and journal.
+    fn set_tables(&mut self, line: &[u8]) {
+        let mut list = [0u64; 8];
+        numbers(line, &mut list);
+        self.lengths = Lengths {
+            vertices: list[0] as usize,
+            edges: list[1] as usize,
+            journal: list[2] as usize,
+            ..self.lengths
+        };
+    }
+
+    /// The lengths in words of answers and image.
+    fn set_lent(&mut self, line: &[u8]) {
+        let mut list = [0u64; 8];
+        numbers(line, &mut list);
+        self.lengths = Lengths {
+            answers: list[0] as usize,
+            image: list[1] as usize,
+            ..self.lengths
+        };
+    }
+
+    fn set_start(&mut self, line: &[u8]) {
+        self.start_count = words_of(line, self.start);
+    }
+
+    /// The start image becomes the last end image.
+    fn start_from(&mut self, image: &[u32]) {
+        let copied = self.image_count.min(image.len()).min(self.start.len());
+        self.start[..copied].copy_from_slice(&image[..copied]);
+        self.start_count = self.image_count;
+    }
+
+    /// The first numbers of a list behind the calls.
+    fn append(&mut self, list: &[u64], count: usize) {
+        narrow(list, count, self.calls, self.call_count);
+        self.call_count = self.call_count.saturating_add(count);
+    }
+
+    /// The numbers of the line behind the calls, as they are.
+    fn append_words(&mut self, line: &[u8]) {
+        let mut list = [0u64; MOST_NUMBERS];
+        let count = numbers(line, &mut list);
+        self.append(&list, count);
+    }
+
+    /// The calls of the line behind the calls.
+    fn append_calls(&mut self, line: &[u8]) {
+        let mut list = [0u64; MOST_NUMBERS];
+        let count = numbers(line, &mut list);
+        self.append(&list, fives(count));
+    }
+
+    /// The start words beside those of the line, whose first number is the tolerance.
+    fn compare(&self, rt: &impl Print, line: &[u8]) {
+        let mut words = [0u32; MOST_NUMBERS];
+        let count = words_of(line, &mut words);
+        show_comparison(rt, self.start(), rest(front(&words, count), 1), words[0]);
+    }
+
+    /// An order of the start words; kind, vertex, words lent for the calls, wanted words.
+    fn arrange(&self, rt: &impl Print, line: &[u8]) {
+        let mut words = [0u32; MOST_NUMBERS];
+        let count = words_of(line, &mut words);
+        show_order(
+            rt,
+            self.start(),
+            words[0],
+            words[1],
+            rest(front(&words, count), 3),
+            words[2] as usize,
+            self.junk,
+        );
+    }
+
+    /// A run of the calls so far: the words of its end image.
+    fn run(&self, rt: &impl Print, image: &mut [u32]) -> usize {
+        run_lent(
+            rt,
+            self.start(),
+            self.rows(),
+            self.calls(),
+            image,
+            self.lengths,
+            self.junk,
+        )
+    }
+
+    /// The calls so far and those of the line.
+    fn run_with(&mut self, rt: &impl Print, line: &[u8], image: &mut [u32]) {
+        self.append_calls(line);
+        self.image_count = self.run(rt, image);
+        self.call_count = 0;
+    }
+
+    /// A line that is none of these is written as it is.
+    fn line(&mut self, rt: &impl Print, line: &[u8], image: &mut [u32]) {
+        match first_word(line) {
+            b"call" => self.append_calls(line),
+            b"words" => self.append_words(line),
+            b"start" => self.set_start(line),
+            b"last" => self.start_from(image),
+            b"rows" => self.row_count = numbers(line, self.rows),
+            b"part" => {
+                let which = first(line);
+                write_part(rt, which, part(self.start(), which));
+            }
+            b"page" => show_page(rt, self.start(), first(line) as usize),
+            b"compare" => self.compare(rt, line),
+            b"arrange" => self.arrange(rt, line),
+            b"tables" => self.set_tables(line),
+            b"lent" => self.set_lent(line),
+            b"junk" => self.junk = first(line),
+            b"run" => self.run_with(rt, line, image),
+            _ => {
+                write_bytes(rt, line);
+                write_bytes(rt, b"\n");
+            }
         }
     }
-    n
 }
 
-// Each line in turn: how many there were.
+/// Each line in turn, which a newline ends: how many there were.
+fn lines(rt: &impl Print, setting: &mut Setting<'_>, bytes: &[u8], image: &mut [u32]) -> usize
+    ensures { result ≡ count 10 bytes.now }
+{
+    let mut count = 0;
+    let mut from = 0;
+    for (i, &byte) in bytes.iter().enumerate() {
+        if byte == b'\n' {
+            setting.line(rt, &bytes[from..i], image);
+            from = i + 1;
+            count += 1;
+        }
+    }
+    count
+}
+
+/// Each line in turn: how many there were.
 pub fn cases(rt: &impl Print, bytes: &[u8]) -> usize
     ensures { result ≡ count 10 bytes.now }
 {
@@ -290,20 +193,22 @@ pub fn cases(rt: &impl Print, bytes: &[u8]) -> usize
     let mut rows = [0u64; 80];
     let mut calls = [0u32; 2000];
     let mut image = [0u32; 36018];
-    let s = Setting {
-        lent: Lengths {
+    let mut setting = Setting {
+        lengths: Lengths {
             vertices: 0,
             edges: 0,
             journal: 0,
             answers: 0,
             image: 0,
         },
-        start: 0,
-        rows: 0,
-        calls: 0,
-        last: 0,
-        junk: 4294967295,
-        from: 0,
+        junk: u32::MAX,
+        start: &mut start,
+        start_count: 0,
+        rows: &mut rows,
+        row_count: 0,
+        calls: &mut calls,
+        call_count: 0,
+        image_count: 0,
     };
-    lines(rt, s, bytes, &mut start, &mut rows, &mut calls, &mut image)
+    lines(rt, &mut setting, bytes, &mut image)
 }

@@ -7,7 +7,7 @@ use Rattle.engine.proofs.CallLaws.{used_is, last_within, next_at, command_near, 
 use Rattle.engine.proofs.calls.carry_out.Goals as goal
 
 -- there are two words for its answer, and no slice is longer than one can be
-answer_there : (c : goal.After-same-y-in-loop-k)
+answer_there : (c : goal.After-same-present-in-loop-k)
     → 2 * c.loop-k.k + 1 < length
     c.loop-k.answers
 answer_there c =
@@ -27,7 +27,7 @@ words_there c =
 list_short : (c : goal.In-loop-k) → length c.args.calls.now * 4 < 9223372036854775808
 list_short c = c.well_formed.1.1.1.1.1.1.1.1.0.1
 
-answers_short : (c : goal.After-same-y-in-loop-k)
+answers_short : (c : goal.After-same-present-in-loop-k)
     → length c.loop-k.answers * 4 <
     9223372036854775808
 answers_short c = omega (
@@ -52,7 +52,7 @@ pub step-done-requires : goal.step-done-requires
 step-done-requires c =
     let p = c.requires.running in
     let i = c.loop-k.invariant in
-    let g = i.6 p.0 p.1 p.2 (rw c.same-y.ensures p.3) p.4 p.5 in
+    let g = i.6 p.0 p.1 p.2 (rw c.same-present.ensures p.3) p.4 p.5 in
     let l = last_within (allowing c.args.capacity p.0) p.1
     (take c.loop-k.k p.2)
     (omega (
@@ -94,7 +94,7 @@ loop-k-preserved c =
       simp length-set l.invariant.5,
       λ w m xs h reads near.
           let g = l.invariant.6 w m xs h reads near in
-          rw c.same-y-in-loop-k.ensures
+          rw c.same-present-in-loop-k.ensures
           (after_calls_more w a.capacity m _ _ _ _ _ _ reads l.k l.at _ s.result _ g
           (omega arith) l.invariant.0
           c.decode-command.ensures
@@ -125,7 +125,7 @@ shape_of-answers c = c.loop-k.invariant.5
 pub returns : goal.returns
 returns c =
     let l = c.loop-k in
-    λ w m xs h reads near. after_calls_all w _ m _ _ _ _ _ _ xs l.k (omega (arith, reads.many)) (l.invariant.6 w m xs (rw c.same-y.ensures h) reads near)
+    λ w m xs h reads near. after_calls_all w _ m _ _ _ _ _ _ xs l.k (omega (arith, reads.many)) (l.invariant.6 w m xs (rw c.same-present.ensures h) reads near)
 
 pub overflow_add-at : goal.overflow_add-at
 overflow_add-at c = omega (arith, words_there c, list_short c)

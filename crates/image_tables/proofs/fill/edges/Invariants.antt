@@ -1,17 +1,14 @@
-use Prim.Native.Nat.{◌-◌}
 use mathlib.Core.Path.{◌≡◌}
 use mathlib.Core.List.{map}
-use lib.ListN.{length}
 use Rattle.image.specs.Image.{edge_record, load}
-use Rattle.graph_tables.specs.Tables.{state}
+use Rattle.graph_tables.specs.Tables.{state_of, SameLoan}
 use Rattle.image_tables.specs.Filling.{without_list}
 use Rattle.image_tables.proofs.Fills.{Fill}
 use Rattle.image_tables.proofs.FillOrders.{ECore}
 use Rattle.image_tables.proofs.fill.edges.Given as goal
 
-abbrev pub invariant-loop-at : goal.invariant-loop-at
-invariant-loop-at l =
-    (length l.edges ≡ length l.initial.edges) × Fill edge_record (ECore (map without_list (load l.words).vseq)) (load l.words).eseq l.part (state l.h l.vertices l.edges) l.at
-
-abbrev pub decreases-loop-at : goal.decreases-loop-at
-decreases-loop-at l = length l.part - l.at
+abbrev pub invariant-loop-record : goal.invariant-loop-record
+invariant-loop-record l =
+    goal.iterator-loop-record.can_next l.record-iterator × goal.iterator-loop-record.is_finite l.record-iterator × (l.record-iterator.size ≡ 6)
+    × SameLoan l.initial.tables l.tables
+    × Fill edge_record (ECore (map without_list (load l.words).vseq)) (load l.words).eseq l.record-iterator.rest.now (state_of l.head l.tables) 0

@@ -1,71 +1,49 @@
-use mathlib.Core.Path.{refl, sym, ◌∙◌, subst}
+use mathlib.Core.Path.{sym, ◌∙◌, subst}
 use mathlib.Core.List.{List, [], ◌∷◌}
 use native.Mathlib.Omega.{arith}
+use Rattle.std.proofs.Common.{rules}
 use Rattle.lists.specs.Lists.{concat_map}
 use Rattle.graph.specs.Graph.{Vertex}
 use Rattle.image.specs.Image.{incidences_of, load}
-use Rattle.graph_tables.specs.Tables.{state}
+use Rattle.graph_tables.specs.Tables.{state_of}
 use Rattle.graph_tables.specs.Holds.{Core}
 use Rattle.image_tables.proofs.Walks.{each_one}
 use Rattle.image_tables.proofs.Parts.{given}
-use Rattle.image_tables.proofs.Fills.{Turn, fill_start, fill_turn, fill_end}
+use Rattle.image_tables.proofs.Fills.{fill_start, fill_turn, fill_end}
 use Rattle.image_tables.proofs.FillLists.{WCore, filled_all, turn_can, turn_next}
 use Rattle.image_tables.proofs.fill.lists.Goals as goal
 
--- what is known in a turn
-turn : (c : goal.After-shared_slice_known-in-loop-at-1) → let s = c in let l = c.loop-at in
-    Turn (λ x. x ∷ []) (WCore (load s.args.words.now)) (concat_map incidences_of (load s.args.words.now).vseq) c.part-part.result.now
-    (state s.args.head l.vertices l.edges) l.at
-turn c =
-    let s = c in
-    let l = c.loop-at in
-    fill_turn (λ x. x ∷ []) (WCore (load s.args.words.now)) (concat_map incidences_of (load s.args.words.now).vseq) c.part-part.result.now
-    (state s.args.head l.vertices l.edges) l.at l.invariant.2 c.loop-at-test.true
-
-turn_at_After_slice_known_in_loop_at_2_1 : (c : goal.After-slice_known-in-loop-at-2-1) → let s = c in let l = c.loop-at in
-    Turn (λ x. x ∷ []) (WCore (load s.args.words.now)) (concat_map incidences_of (load s.args.words.now).vseq) c.part-part.result.now
-    (state s.args.head l.vertices l.edges) l.at
-turn_at_After_slice_known_in_loop_at_2_1 c =
-    let s = c in
-    let l = c.loop-at in
-    fill_turn (λ x. x ∷ []) (WCore (load s.args.words.now)) (concat_map incidences_of (load s.args.words.now).vseq) c.part-part.result.now
-    (state s.args.head l.vertices l.edges) l.at l.invariant.2 c.loop-at-test.true
-
-pub loop-at-init : goal.loop-at-init
-loop-at-init c =
-    let s = c in
-    let k = given s.args.words.now s.args.vertices.now s.args.edges.now s.requires.0 in (
-      refl,
-      refl,
-      fill_start (λ x. x ∷ []) (WCore (load s.args.words.now)) (concat_map incidences_of (load s.args.words.now).vseq) c.part-part.result.now
-          (state s.args.head s.args.vertices.now s.args.edges.now) (c.part-part.ensures.0 ∙ k.lists ∙ sym (each_one _)) s.requires.1,
+pub loop-w-init : goal.loop-w-init
+loop-w-init c =
+    let a = c.args in (
+      search rules,
+      fill_start (λ x. x ∷ []) (WCore (load a.words.now)) (concat_map incidences_of (load a.words.now).vseq) _ _
+          (c.part-w-items.ensures.0 ∙ (given a.words.now _ _ c.requires.can).lists ∙ sym (each_one _)) c.requires.core,
     )
 
 pub word-requires : goal.word-requires
 word-requires c =
-    let d = c in
-    let s = d in
-    let l = d.loop-at in
-    turn_can s.args.words.now s.args.vertices.now s.args.edges.now s.requires.0 d.part-part.result.now (state s.args.head l.vertices l.edges) l.at (turn d)
-
-pub loop-at-preserved : goal.loop-at-preserved
-loop-at-preserved c =
-    let e = c in
-    let d = e in
-    let s = d in
-    let l = d.loop-at in (
-      omega (arith, e.word.auto, l.invariant.0),
-      omega (arith, e.word.auto, l.invariant.1),
-      turn_next s.args.words.now s.args.vertices.now s.args.edges.now s.requires.0 d.part-part.result.now (state s.args.head l.vertices l.edges)
-          l.at (turn_at_After_slice_known_in_loop_at_2_1 d) _ e.word.ensures,
+    let a = c.args in
+    let l = c.loop-w in (
+      a.head,
+      turn_can a.words.now _ _ c.requires.can _ _ _
+          (fill_turn (λ x. x ∷ []) (WCore (load a.words.now)) (concat_map incidences_of (load a.words.now).vseq) _ _ _ l.invariant.1 c.loop-w-test.true),
     )
 
-pub returns : goal.returns
-returns c =
-    let s = c in
-    let l = c.loop-at in
-    let g = load s.args.words.now in
-    subst (λ (vs : List Vertex). Core (state s.args.head l.vertices l.edges) vs g.eseq)
-    (filled_all g (given s.args.words.now s.args.vertices.now s.args.edges.now s.requires.0).formed)
-    (fill_end (λ x. x ∷ []) (WCore (load s.args.words.now)) (concat_map incidences_of (load s.args.words.now).vseq) c.part-part.result.now
-    (state s.args.head l.vertices l.edges) l.at (λ x. omega arith) l.invariant.2 c.loop-at-test.false)
+pub loop-w-preserved : goal.loop-w-preserved
+loop-w-preserved c =
+    let a = c.args in
+    let l = c.loop-w in (
+      search rules,
+      turn_next a.words.now _ _ c.requires.can _ _ _
+          (fill_turn (λ x. x ∷ []) (WCore (load a.words.now)) (concat_map incidences_of (load a.words.now).vseq) _ _ _ l.invariant.1 c.loop-w-test.true) _ (c.word.ensures.added a.head),
+    )
+
+pub returns-clause-core : goal.returns-clause-core
+returns-clause-core c =
+    let a = c.args in
+    let l = c.loop-w in
+    let g = load a.words.now in
+    subst (λ (vs : List Vertex). Core (state_of a.head l.tables) vs g.eseq)
+    (filled_all g (given a.words.now _ _ c.requires.can).formed)
+    (fill_end (λ x. x ∷ []) (WCore g) (concat_map incidences_of g.vseq) _ _ _ (λ x. omega arith) l.invariant.1 c.loop-w-test.false)

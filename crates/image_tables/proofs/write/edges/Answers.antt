@@ -1,56 +1,56 @@
 use Prim.Native.Nat.{◌+◌}
-use mathlib.Core.Path.{refl}
+use mathlib.Core.Path.{refl, ap}
+use mathlib.Core.List.{[]}
+use lib.ListN.{length}
 use native.Mathlib.Omega.{arith}
-use Rattle.graph_tables.specs.Tables.{edge_links, edge_list_ends}
+use Rattle.graph_tables.specs.Tables.{edge_links}
 use Rattle.graph_tables.proofs.Frames.{valid_e}
-use Rattle.image_tables.specs.Words.{edge_words, edge_part_of}
-use Rattle.image_tables.proofs.Walks.{Turn, writing_start, writing_turn, writing_end}
+use Rattle.image_tables.specs.Words.{edge_words}
+use Rattle.image_tables.proofs.Walks.{Turn, writing_start, writing_turn, writing_end, edges_by}
 use Rattle.image_tables.proofs.write.edges.Goals as goal
 
 -- what is known in a turn
 turn : (c : goal.After-edge-arg-1) → let s = c in let l = c.loop-e in
-    Turn (edge_words s.args.edges.now) edge_links s.args.edges.now (edge_list_ends s.args.head) s.args.out.now s.args.from l.out l.at l.e
+    Turn (edge_words s.args.edges.now) edge_links s.args.edges.now c.edge_ends-ends.result s.args.out.now s.args.from l.out l.at l.e
 turn c =
     let s = c in
     let l = c.loop-e in
-    writing_turn (edge_words s.args.edges.now) edge_links s.args.edges.now (edge_list_ends s.args.head) s.args.out.now s.args.from l.out l.at l.e l.invariant.1
+    writing_turn (edge_words s.args.edges.now) edge_links s.args.edges.now c.edge_ends-ends.result s.args.out.now s.args.from l.out l.at l.e l.invariant.1
     c.loop-e-test.true
 
 turn_at_After_slice_known_in_loop_e_1 : (c : goal.After-slice_known-in-loop-e-1) → let s = c in let l = c.loop-e in
-    Turn (edge_words s.args.edges.now) edge_links s.args.edges.now (edge_list_ends s.args.head) s.args.out.now s.args.from l.out l.at l.e
+    Turn (edge_words s.args.edges.now) edge_links s.args.edges.now c.edge_ends-ends.result s.args.out.now s.args.from l.out l.at l.e
 turn_at_After_slice_known_in_loop_e_1 c =
     let s = c in
     let l = c.loop-e in
-    writing_turn (edge_words s.args.edges.now) edge_links s.args.edges.now (edge_list_ends s.args.head) s.args.out.now s.args.from l.out l.at l.e l.invariant.1
+    writing_turn (edge_words s.args.edges.now) edge_links s.args.edges.now c.edge_ends-ends.result s.args.out.now s.args.from l.out l.at l.e l.invariant.1
     c.loop-e-test.true
 
 turn_at_After_next_e_in_loop_e : (c : goal.After-next-e-in-loop-e) → let s = c in let l = c.loop-e in
-    Turn (edge_words s.args.edges.now) edge_links s.args.edges.now (edge_list_ends s.args.head) s.args.out.now s.args.from l.out l.at l.e
+    Turn (edge_words s.args.edges.now) edge_links s.args.edges.now c.edge_ends-ends.result s.args.out.now s.args.from l.out l.at l.e
 turn_at_After_next_e_in_loop_e c =
     let s = c in
     let l = c.loop-e in
-    writing_turn (edge_words s.args.edges.now) edge_links s.args.edges.now (edge_list_ends s.args.head) s.args.out.now s.args.from l.out l.at l.e l.invariant.1
+    writing_turn (edge_words s.args.edges.now) edge_links s.args.edges.now c.edge_ends-ends.result s.args.out.now s.args.from l.out l.at l.e l.invariant.1
     c.loop-e-test.true
 
 pub loop-e-init : goal.loop-e-init
 loop-e-init c =
     let s = c in (
       refl,
-      writing_start (edge_words s.args.edges.now) edge_links s.args.edges.now (edge_list_ends s.args.head) s.args.out.now s.args.from valid_e s.requires.0
+      writing_start (edge_words s.args.edges.now) edge_links s.args.edges.now c.edge_ends-ends.result s.args.out.now s.args.from valid_e (rw c.edge_ends-ends.ensures s.requires.0)
           c.next-e.result c.next-e.ensures,
     )
 
 pub edge-requires : goal.edge-requires
-unfolding edge_part_of
 edge-requires c =
     let t = turn c in
     let s = c in
     let i = t.inside c.loop-e-test.true in
-    ((omega arith, omega arith), omega (arith, t.room, s.requires.1))
+    ((omega arith, omega arith), omega (arith, t.room, s.requires.1, ap length (edges_by c.args.head [] c.args.edges.now _ c.edge_ends-ends.ensures)))
 
 pub overflow_add-at : goal.overflow_add-at
-unfolding edge_part_of
-overflow_add-at c = omega (arith, (turn_at_After_slice_known_in_loop_e_1 c).room)
+overflow_add-at c = omega (arith, (turn_at_After_slice_known_in_loop_e_1 c).room, ap length (edges_by c.args.head [] c.args.edges.now _ c.edge_ends-ends.ensures))
 
 pub next-e-requires-in-loop-e : goal.next-e-requires-in-loop-e
 next-e-requires-in-loop-e c = record { valid_layout = valid_e; inside = (turn_at_After_slice_known_in_loop_e_1 c).inside }
@@ -66,9 +66,9 @@ loop-e-preserved c =
     )
 
 pub returns : goal.returns
-unfolding edge_part_of
 returns c =
     let s = c in
     let l = c.loop-e in
-    (writing_end (edge_words s.args.edges.now) edge_links s.args.edges.now (edge_list_ends s.args.head) s.args.out.now s.args.from l.out l.at l.e l.invariant.1
+    rw (edges_by c.args.head [] c.args.edges.now _ c.edge_ends-ends.ensures)
+    (writing_end (edge_words s.args.edges.now) edge_links s.args.edges.now c.edge_ends-ends.result s.args.out.now s.args.from l.out l.at l.e l.invariant.1
     c.loop-e-test.false).0

@@ -1,68 +1,52 @@
-use Prim.Native.Nat.{◌*◌}
 use Rattle.graph.specs.declared.SingleChange.TheVariants.{CreateEdge}
-use Rattle.lists.specs.Choice.{if_equal}
-use Rattle.single_changes.proofs.OneLaws.{Accepted, one_refused, accept, can_make, one_tried, tries_by, insert_edge_by}
-use Rattle.graph_tables.specs.Tables.{state}
-use mathlib.Core.Path.{◌≡◌, ◌∙◌}
+use Rattle.std.proofs.lemmas.Result.{err_from_is_err_and}
+use Rattle.tried_edits.specs.Tried.{attempt_of}
+use Rattle.single_changes.proofs.OneLaws.{Accepted, one_refused, accept, one_tried, can_make, tries_by, insert_edge_by}
+use Prim.Native.Nat.{ℕ, ◌*◌}
+use mathlib.Core.Path.{◌≡◌, sym, ap, ◌∙◌}
+use Rattle.graph_tables.specs.Tables.{vlast}
 use native.Mathlib.Omega.{arith}
-use Rattle.graph.specs.declared.Edit.TheVariants.{InsertEdge}
-use Rattle.tried_edits.specs.Plans.{state_plan}
-use Rattle.graph.specs.declared.Reading.TheVariants.{Untested}
-use Rattle.tried_edits.specs.Tried.{attempt}
+use Rattle.lists.specs.Choice.{if_equal}
+use Rattle.lists.proofs.Picks.{pick_yes, pick_no}
+use Rattle.single_changes.proofs.kinds.create_edge.Goals.{After-vertex_field-last, then-a-z, else-a-z}
+use Rattle.single_changes.proofs.kinds.create_edge.Goals.{In_ok-create_edge}
 use Rattle.single_changes.proofs.kinds.create_edge.Goals as goal
 
-accepted : (c : goal.Else-c-ne0) → let a = c.args in
-    Accepted (CreateEdge a.n a.a a.z a.sort) a.types (attempt a.row a.free (state a.head a.vertices.now a.edges.now) a.journal.now)
-accepted c = accept tt (λ g y. c.create_edge-c.ensures.value_2 g y) c.if-c-ne0.false c.requires
+accepted : (c : In_ok-create_edge) → let a = c.args in Accepted (CreateEdge a.n a.a a.z a.sort) a.types (attempt_of a.head a.tables.now a.room.now)
+accepted c = accept tt (λ g y. c.create_edge.ensures.of_graph g y) c.in_ok-create_edge.was c.requires
 
-accepted_at_After_vertex_field_out : (c : goal.After-vertex_field-out) → let a = c.args in
-    Accepted (CreateEdge a.n a.a a.z a.sort) a.types (attempt a.row a.free (state a.head a.vertices.now a.edges.now) a.journal.now)
-accepted_at_After_vertex_field_out c = accept tt (λ g y. c.create_edge-c.ensures.value_2 g y) c.if-c-ne0.false c.requires
+pub returns-in_err-create_edge-clause-made : goal.returns-in_err-create_edge-clause-made
+returns-in_err-create_edge-clause-made c =
+    let p = err_from_is_err_and c.from_residual.result c.from_residual.ensures.1 in
+    rw (p.1, p.2) (one_refused tt (λ g y. c.create_edge.ensures.of_graph g y) c.in_err-create_edge.was)
 
-accepted_at_After_vertex_field_l : (c : goal.After-vertex_field-l) → let a = c.args in
-    Accepted (CreateEdge a.n a.a a.z a.sort) a.types (attempt a.row a.free (state a.head a.vertices.now a.edges.now) a.journal.now)
-accepted_at_After_vertex_field_l c = accept tt (λ g y. c.create_edge-c.ensures.value_2 g y) c.if-c-ne0.false c.requires
+pub vertex_field-out-requires-clause-row : goal.vertex_field-out-requires-clause-row
+vertex_field-out-requires-clause-row c = (accepted (goal.at.vertex_field-out-requires-clause-row c).In_ok-create_edge).rows.1
 
-accepted_at_After_insert_edge_arg_3_1 : (c : goal.After-insert_edge-arg-3-1) → let a = c.args in
-    Accepted (CreateEdge a.n a.a a.z a.sort) a.types (attempt a.row a.free (state a.head a.vertices.now a.edges.now) a.journal.now)
-accepted_at_After_insert_edge_arg_3_1 c = accept tt (λ g y. c.create_edge-c.ensures.value_2 g y) c.if-c-ne0.false c.requires
+pub vertex_field-last-requires-clause-row : goal.vertex_field-last-requires-clause-row
+vertex_field-last-requires-clause-row c = (accepted (goal.at.vertex_field-last-requires-clause-row c).In_ok-create_edge).rows.2
 
-planned : (c : goal.After-insert_edge-arg-3-1) → let a = c.args in
-    InsertEdge a.n a.a a.z a.sort Untested a.head.elast c.vertex_field-out.result c.choose-into.result ≡ state_plan (CreateEdge a.n a.a a.z a.sort)
-    (state a.head a.vertices.now a.edges.now)
-planned c =
+pub overflow_mul-into : goal.overflow_mul-into
+overflow_mul-into c = omega (arith, (accepted (goal.at.overflow_mul-into c).In_ok-create_edge).rows.0)
+
+pub insert_edge-requires-clause-number : goal.insert_edge-requires-clause-number
+insert_edge-requires-clause-number c = (accepted (goal.at.insert_edge-requires-clause-number c).In_ok-create_edge).rows.0
+
+-- where the in word goes
+placed : (c : After-vertex_field-last) {q : ℕ} → q ≡ if_equal c.args.a c.args.z (2 * c.args.n) c.vertex_field-last.result
+    → q ≡ if_equal c.args.a c.args.z (2 * c.args.n) (vlast c.args.tables.now.vertices.now c.args.z)
+placed c e = e ∙ ap (if_equal c.args.a c.args.z (2 * c.args.n)) c.vertex_field-last.ensures
+
+pub insert_edge-requires-clause-can : goal.insert_edge-requires-clause-can
+insert_edge-requires-clause-can c =
     let a = c.args in
-    insert_edge_by a.n a.a a.z a.sort a.head.elast c.vertex_field-out.ensures
-    (c.choose-into.ensures ∙ (λ j. if_equal a.a a.z (2 * a.n) (c.vertex_field-l.ensures j)))
+    let q : c.if-a-z.into ≡ if_equal a.a a.z (2 * a.n) c.vertex_field-last.result = elim c.if-a-z.branch [ then-a-z w ↦ w.into-is ∙ sym (pick_yes _ _ _ _ w.if-a-z.true) | else-a-z w ↦ w.into-is ∙ sym (pick_no _ _ _ _ w.if-a-z.false) ] in
+    (can_make (accepted (goal.at.insert_edge-requires-clause-can c).In_ok-create_edge) (insert_edge_by a.n a.a a.z a.sort a.head.elast c.vertex_field-out.ensures
+    (placed (goal.at.insert_edge-requires-clause-can c).After-vertex_field-last q))).1
 
-accepted_at_After_slice_known_6_1 : (c : goal.After-slice_known-6-1) → let a = c.args in
-    Accepted (CreateEdge a.n a.a a.z a.sort) a.types (attempt a.row a.free (state a.head a.vertices.now a.edges.now) a.journal.now)
-accepted_at_After_slice_known_6_1 c = accept tt (λ g y. c.create_edge-c.ensures.value_2 g y) c.if-c-ne0.false c.requires
-
-planned_at_After_slice_known_6_1 : (c : goal.After-slice_known-6-1) → let a = c.args in
-    InsertEdge a.n a.a a.z a.sort Untested a.head.elast c.vertex_field-out.result c.choose-into.result ≡ state_plan (CreateEdge a.n a.a a.z a.sort)
-    (state a.head a.vertices.now a.edges.now)
-planned_at_After_slice_known_6_1 c =
+pub returns-clause-made : goal.returns-clause-made
+returns-clause-made c =
     let a = c.args in
-    insert_edge_by a.n a.a a.z a.sort a.head.elast c.vertex_field-out.ensures
-    (c.choose-into.ensures ∙ (λ j. if_equal a.a a.z (2 * a.n) (c.vertex_field-l.ensures j)))
-
-pub returns-then-c-ne0 : goal.returns-then-c-ne0
-returns-then-c-ne0 c = one_refused tt (λ g y. c.create_edge-c.ensures.value_2 g y) c.if-c-ne0.true c.unchanged.ensures
-
-pub vertex_field-out-requires : goal.vertex_field-out-requires
-vertex_field-out-requires c = ((accepted c).rows.1, omega arith)
-
-pub vertex_field-l-requires : goal.vertex_field-l-requires
-vertex_field-l-requires c = ((accepted_at_After_vertex_field_out c).rows.2, omega arith)
-
-pub overflow_mul-n : goal.overflow_mul-n
-overflow_mul-n c = omega (arith, (accepted_at_After_vertex_field_l c).rows.0)
-
-pub insert_edge-requires : goal.insert_edge-requires
-insert_edge-requires c = let r = can_make (accepted_at_After_insert_edge_arg_3_1 c) (planned c) in (r.0.0, r.0.1, r.1)
-
-pub returns : goal.returns
-returns c =
-    one_tried (accepted_at_After_slice_known_6_1 c)
-    (tries_by (planned_at_After_slice_known_6_1 c) c.insert_edge.ensures)
+    let q : c.if-a-z.into ≡ if_equal a.a a.z (2 * a.n) c.vertex_field-last.result = elim c.if-a-z.branch [ then-a-z w ↦ w.into-is ∙ sym (pick_yes _ _ _ _ w.if-a-z.true) | else-a-z w ↦ w.into-is ∙ sym (pick_no _ _ _ _ w.if-a-z.false) ] in
+    one_tried (accepted (goal.at.returns-clause-made c).In_ok-create_edge) (tries_by (insert_edge_by a.n a.a a.z a.sort a.head.elast c.vertex_field-out.ensures
+    (placed (goal.at.returns-clause-made c).After-vertex_field-last q)) c.insert_edge.ensures.tries)

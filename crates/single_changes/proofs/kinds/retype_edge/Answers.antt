@@ -1,41 +1,29 @@
 use Rattle.graph.specs.declared.SingleChange.TheVariants.{RetypeEdge}
-use Rattle.single_changes.proofs.OneLaws.{Accepted, one_refused, accept, one_tried, tries_by, set_edge_by, words_by}
+use Rattle.std.proofs.lemmas.Result.{err_from_is_err_and}
+use Rattle.tried_edits.specs.Tried.{attempt_of}
+use Rattle.single_changes.proofs.OneLaws.{Accepted, one_refused, accept, one_tried, tries_by, set_edge_by}
 use mathlib.Core.Path.{refl, ap}
-use Rattle.graph_tables.specs.declared.EdgeFields.{EdgeFields}
-use Rattle.graph_tables.specs.Tables.{state}
-use Rattle.tried_edits.specs.Tried.{attempt}
+use Rattle.tried_edits.specs.declared.EdgeWords.{EdgeWords}
+use Rattle.single_changes.proofs.kinds.retype_edge.Goals.{In_ok-retype_edge}
 use Rattle.single_changes.proofs.kinds.retype_edge.Goals as goal
 
-accepted : (c : goal.After-set_edge-arg-2-1) → let a = c.args in
-    Accepted (RetypeEdge a.a a.sort2) a.types (attempt a.row a.free (state a.head a.vertices.now a.edges.now) a.journal.now)
-accepted c = accept tt (λ g y. c.retype_edge-c.ensures.value_2 g (_, y)) c.if-c-ne0.false c.requires
+accepted : (c : In_ok-retype_edge) → let a = c.args in Accepted (RetypeEdge a.n a.sort) a.types (attempt_of a.head a.tables.now a.room.now)
+accepted c = accept tt (λ g y. c.retype_edge.ensures.of_graph g (_, y)) c.in_ok-retype_edge.was c.requires
 
-accepted_at_After_slice_known_4_1 : (c : goal.After-slice_known-4-1) → let a = c.args in
-    Accepted (RetypeEdge a.a a.sort2) a.types (attempt a.row a.free (state a.head a.vertices.now a.edges.now) a.journal.now)
-accepted_at_After_slice_known_4_1 c = accept tt (λ g y. c.retype_edge-c.ensures.value_2 g (_, y)) c.if-c-ne0.false c.requires
+pub returns-in_err-retype_edge-clause-made : goal.returns-in_err-retype_edge-clause-made
+returns-in_err-retype_edge-clause-made c =
+    let p = err_from_is_err_and c.from_residual.result c.from_residual.ensures.1 in
+    rw (p.1, p.2) (one_refused tt (λ g y. c.retype_edge.ensures.of_graph g (_, y)) c.in_err-retype_edge.was)
 
-accepted_at_Else_c_ne0 : (c : goal.Else-c-ne0) → let a = c.args in
-    Accepted (RetypeEdge a.a a.sort2) a.types (attempt a.row a.free (state a.head a.vertices.now a.edges.now) a.journal.now)
-accepted_at_Else_c_ne0 c = accept tt (λ g y. c.retype_edge-c.ensures.value_2 g (_, y)) c.if-c-ne0.false c.requires
+pub edge_words-old-requires : goal.edge_words-old-requires
+edge_words-old-requires c = (accepted (goal.at.edge_words-old-requires c).In_ok-retype_edge).rows
 
-pub set_edge-requires : goal.set_edge-requires
-set_edge-requires c =
-    let k = accepted c in
-    let e = c.edge_fields-w.ensures in
-    let w = words_by (ap (λ (x : EdgeFields). x.kind) e) (ap (λ (x : EdgeFields). x.decimetres) e) k.words in
-    (k.can, w, w, k.room)
+pub set_edge-requires-clause-row : goal.set_edge-requires-clause-row
+set_edge-requires-clause-row c = (accepted (goal.at.set_edge-requires-clause-row c).In_ok-retype_edge).rows
 
-pub returns : goal.returns
-returns c =
-    let a = c.args in
-    let e = c.edge_fields-w.ensures in
-    let k = ap (λ (x : EdgeFields). x.kind) e in
-    let d = ap (λ (x : EdgeFields). x.decimetres) e in
-    one_tried (accepted_at_After_slice_known_4_1 c)
-    (tries_by (set_edge_by a.a (ap (λ (x : EdgeFields). x.sort) e) k d refl k d) c.set_edge.ensures)
-
-pub returns-then-c-ne0 : goal.returns-then-c-ne0
-returns-then-c-ne0 c = one_refused tt (λ g y. c.retype_edge-c.ensures.value_2 g (_, y)) c.if-c-ne0.true c.unchanged.ensures
-
-pub edge_fields-w-requires : goal.edge_fields-w-requires
-edge_fields-w-requires c = (accepted_at_Else_c_ne0 c).rows
+pub returns-clause-made : goal.returns-clause-made
+returns-clause-made c =
+    let e = c.edge_words-old.ensures in
+    let k = ap (λ (w : EdgeWords). w.kind) e in
+    let d = ap (λ (w : EdgeWords). w.decimetres) e in
+    one_tried (accepted (goal.at.returns-clause-made c).In_ok-retype_edge) (tries_by (set_edge_by c.args.n (ap (λ (w : EdgeWords). w.sort) e) k d refl k d) c.set_edge.ensures.tries)

@@ -1,46 +1,28 @@
 use Rattle.graph.specs.declared.SingleChange.TheVariants.{RetypeVertex}
+use Rattle.std.proofs.lemmas.Result.{err_from_is_err_and}
+use Rattle.tried_edits.specs.Tried.{attempt_of}
 use Rattle.single_changes.proofs.OneLaws.{Accepted, one_refused, accept, one_tried, tries_by, set_vertex_by}
-use mathlib.Core.Path.{refl}
-use Rattle.graph_tables.specs.Tables.{state}
-use Rattle.tried_edits.specs.Tried.{attempt}
-use native.Mathlib.Omega.{arith}
+use mathlib.Core.Path.{refl, ap}
+use Rattle.tried_edits.specs.declared.VertexWords.{VertexWords}
+use Rattle.single_changes.proofs.kinds.retype_vertex.Goals.{In_ok-retype_vertex}
 use Rattle.single_changes.proofs.kinds.retype_vertex.Goals as goal
 
-accepted : (c : goal.After-set_vertex-arg-2-1) → let a = c.args in
-    Accepted (RetypeVertex a.a a.sort2) a.types (attempt a.row a.free (state a.head a.vertices.now a.edges.now) a.journal.now)
-accepted c = accept tt (λ g y. c.retype_vertex-c.ensures.value_2 g (_, y)) c.if-c-ne0.false c.requires
+accepted : (c : In_ok-retype_vertex) → let a = c.args in Accepted (RetypeVertex a.n a.sort) a.types (attempt_of a.head a.tables.now a.room.now)
+accepted c = accept tt (λ g y. c.retype_vertex.ensures.of_graph g (_, y)) c.in_ok-retype_vertex.was c.requires
 
-accepted_at_After_slice_known_4_1 : (c : goal.After-slice_known-4-1) → let a = c.args in
-    Accepted (RetypeVertex a.a a.sort2) a.types (attempt a.row a.free (state a.head a.vertices.now a.edges.now) a.journal.now)
-accepted_at_After_slice_known_4_1 c = accept tt (λ g y. c.retype_vertex-c.ensures.value_2 g (_, y)) c.if-c-ne0.false c.requires
+pub returns-in_err-retype_vertex-clause-made : goal.returns-in_err-retype_vertex-clause-made
+returns-in_err-retype_vertex-clause-made c =
+    let p = err_from_is_err_and c.from_residual.result c.from_residual.ensures.1 in
+    rw (p.1, p.2) (one_refused tt (λ g y. c.retype_vertex.ensures.of_graph g (_, y)) c.in_err-retype_vertex.was)
 
-accepted_at_Else_c_ne0 : (c : goal.Else-c-ne0) → let a = c.args in
-    Accepted (RetypeVertex a.a a.sort2) a.types (attempt a.row a.free (state a.head a.vertices.now a.edges.now) a.journal.now)
-accepted_at_Else_c_ne0 c = accept tt (λ g y. c.retype_vertex-c.ensures.value_2 g (_, y)) c.if-c-ne0.false c.requires
-
-accepted_at_After_vertex_field_s : (c : goal.After-vertex_field-s) → let a = c.args in
-    Accepted (RetypeVertex a.a a.sort2) a.types (attempt a.row a.free (state a.head a.vertices.now a.edges.now) a.journal.now)
-accepted_at_After_vertex_field_s c = accept tt (λ g y. c.retype_vertex-c.ensures.value_2 g (_, y)) c.if-c-ne0.false c.requires
+pub vertex_words-old-requires : goal.vertex_words-old-requires
+vertex_words-old-requires c = (accepted (goal.at.vertex_words-old-requires c).In_ok-retype_vertex).rows
 
 pub set_vertex-requires : goal.set_vertex-requires
-set_vertex-requires c =
-    let k = accepted c in
-    (k.can, k.room)
+set_vertex-requires c = (accepted (goal.at.set_vertex-requires c).In_ok-retype_vertex).rows
 
-pub returns : goal.returns
-returns c =
-    let a = c.args in
-    one_tried (accepted_at_After_slice_known_4_1 c)
-    (tries_by
-    (set_vertex_by a.a c.vertex_field-s.ensures
-    c.vertex_field-x.ensures refl c.vertex_field-x.ensures)
-    c.set_vertex.ensures)
-
-pub returns-then-c-ne0 : goal.returns-then-c-ne0
-returns-then-c-ne0 c = one_refused tt (λ g y. c.retype_vertex-c.ensures.value_2 g (_, y)) c.if-c-ne0.true c.unchanged.ensures
-
-pub vertex_field-s-requires : goal.vertex_field-s-requires
-vertex_field-s-requires c = ((accepted_at_Else_c_ne0 c).rows, omega arith)
-
-pub vertex_field-x-requires : goal.vertex_field-x-requires
-vertex_field-x-requires c = ((accepted_at_After_vertex_field_s c).rows, omega arith)
+pub returns-clause-made : goal.returns-clause-made
+returns-clause-made c =
+    let e = c.vertex_words-old.ensures in
+    let x = ap (λ (w : VertexWords). w.value) e in
+    one_tried (accepted (goal.at.returns-clause-made c).In_ok-retype_vertex) (tries_by (set_vertex_by c.args.n (ap (λ (w : VertexWords). w.sort) e) x refl x) c.set_vertex.ensures.tries)

@@ -1,41 +1,35 @@
 use Prim.Native.Nat.{ℕ}
 use Rattle.graph.specs.declared.SingleChange.TheVariants.{SetReading}
+use Rattle.std.proofs.lemmas.Result.{err_from_is_err_and}
+use Rattle.tried_edits.specs.Tried.{attempt_of}
 use Rattle.single_changes.proofs.OneLaws.{Accepted, one_refused, accept, one_tried, tries_by, set_edge_by, words_by}
 use mathlib.Core.Path.{refl, ap}
-use Rattle.graph_tables.specs.declared.EdgeFields.{EdgeFields}
-use Rattle.graph_tables.specs.Tables.{state}
-use Rattle.tried_edits.specs.Tried.{attempt}
+use Rattle.tried_edits.specs.declared.EdgeWords.{EdgeWords}
+use Rattle.single_changes.proofs.kinds.set_reading.Goals.{In_ok-set_reading}
 use Rattle.single_changes.proofs.kinds.set_reading.Goals as goal
 
-accepted : (types : ℕ) (c : goal.After-set_edge-arg-2-1) → let a = c.args in
-    Accepted (SetReading a.a a.kind2 a.decimetres2) types (attempt a.row a.free (state a.head a.vertices.now a.edges.now) a.journal.now)
-accepted types c = accept tt (λ g y. c.set_reading-c.ensures.value_2 g (_, y)) c.if-c-ne0.false c.requires
+accepted : (types : ℕ) (c : In_ok-set_reading) → let a = c.args in Accepted (SetReading a.n a.kind a.decimetres) types (attempt_of a.head a.tables.now a.room.now)
+accepted types c = accept tt (λ g y. c.set_reading.ensures.of_graph g (_, y)) c.in_ok-set_reading.was c.requires
 
-accepted_at_After_slice_known_4_1 : (types : ℕ) (c : goal.After-slice_known-4-1) → let a = c.args in
-    Accepted (SetReading a.a a.kind2 a.decimetres2) types (attempt a.row a.free (state a.head a.vertices.now a.edges.now) a.journal.now)
-accepted_at_After_slice_known_4_1 types c = accept tt (λ g y. c.set_reading-c.ensures.value_2 g (_, y)) c.if-c-ne0.false c.requires
+pub returns-in_err-set_reading-clause-made : goal.returns-in_err-set_reading-clause-made
+returns-in_err-set_reading-clause-made c =
+    let p = err_from_is_err_and c.from_residual.result c.from_residual.ensures.1 in
+    λ types. rw (p.1, p.2) (one_refused tt (λ g y. c.set_reading.ensures.of_graph g (_, y)) c.in_err-set_reading.was)
 
-accepted_at_Else_c_ne0 : (types : ℕ) (c : goal.Else-c-ne0) → let a = c.args in
-    Accepted (SetReading a.a a.kind2 a.decimetres2) types (attempt a.row a.free (state a.head a.vertices.now a.edges.now) a.journal.now)
-accepted_at_Else_c_ne0 types c = accept tt (λ g y. c.set_reading-c.ensures.value_2 g (_, y)) c.if-c-ne0.false c.requires
+pub edge_words-old-requires : goal.edge_words-old-requires
+edge_words-old-requires c = (accepted 0 (goal.at.edge_words-old-requires c).In_ok-set_reading).rows
 
-pub set_edge-requires : goal.set_edge-requires
-set_edge-requires c =
-    let k = accepted 0 c in
-    let e = c.edge_fields-w.ensures in
-    (k.can, words_by (ap (λ (x : EdgeFields). x.kind) e) (ap (λ (x : EdgeFields). x.decimetres) e) k.words.0, k.words.1, k.room)
+pub set_edge-requires-clause-row : goal.set_edge-requires-clause-row
+set_edge-requires-clause-row c = (accepted 0 (goal.at.set_edge-requires-clause-row c).In_ok-set_reading).rows
 
-pub returns : goal.returns
-returns c =
-    let a = c.args in
-    let e = c.edge_fields-w.ensures in
-    let s = ap (λ (x : EdgeFields). x.sort) e in
-    λ types. one_tried (accepted_at_After_slice_known_4_1 types c)
-    (tries_by (set_edge_by a.a {l = a.kind2} {f = a.decimetres2} s (ap (λ (x : EdgeFields). x.kind) e) (ap (λ (x : EdgeFields). x.decimetres) e) s refl refl)
-    c.set_edge.ensures)
+pub set_edge-requires-clause-old : goal.set_edge-requires-clause-old
+set_edge-requires-clause-old c =
+    let e = c.edge_words-old.ensures in
+    words_by (ap (λ (w : EdgeWords). w.kind) e) (ap (λ (w : EdgeWords). w.decimetres) e) (accepted 0 (goal.at.set_edge-requires-clause-old c).In_ok-set_reading).words.0
 
-pub returns-then-c-ne0 : goal.returns-then-c-ne0
-returns-then-c-ne0 c = λ types. one_refused tt (λ g y. c.set_reading-c.ensures.value_2 g (_, y)) c.if-c-ne0.true c.unchanged.ensures
-
-pub edge_fields-w-requires : goal.edge_fields-w-requires
-edge_fields-w-requires c = (accepted_at_Else_c_ne0 0 c).rows
+pub returns-clause-made : goal.returns-clause-made
+returns-clause-made c =
+    let e = c.edge_words-old.ensures in
+    let s = ap (λ (w : EdgeWords). w.sort) e in
+    λ types. one_tried (accepted types (goal.at.returns-clause-made c).In_ok-set_reading)
+    (tries_by (set_edge_by c.args.n {l = c.args.kind} {f = c.args.decimetres} s (ap (λ (w : EdgeWords). w.kind) e) (ap (λ (w : EdgeWords). w.decimetres) e) s refl refl) c.set_edge.ensures.tries)

@@ -1,53 +1,30 @@
 use Prim.Native.Nat.{ℕ}
-use Rattle.graph.specs.declared.SingleChange.TheVariants.{SetValue}
-use Rattle.single_changes.proofs.OneLaws.{Accepted, one_refused, accept, one_tried, tries_by, set_vertex_by}
-use mathlib.Core.Path.{refl}
 use native.Mathlib.Omega.{arith}
-use Rattle.graph_tables.specs.Tables.{state}
-use Rattle.tried_edits.specs.Tried.{attempt}
+use Rattle.graph.specs.declared.SingleChange.TheVariants.{SetValue}
+use Rattle.std.proofs.lemmas.Result.{err_from_is_err_and}
+use Rattle.tried_edits.specs.Tried.{attempt_of}
+use Rattle.single_changes.proofs.OneLaws.{Accepted, one_refused, accept, one_tried, tries_by, set_vertex_by}
+use mathlib.Core.Path.{refl, ap}
+use Rattle.tried_edits.specs.declared.VertexWords.{VertexWords}
+use Rattle.single_changes.proofs.kinds.set_value.Goals.{In_ok-check_vertex}
 use Rattle.single_changes.proofs.kinds.set_value.Goals as goal
 
-accepted : (types : ℕ) (c : goal.After-set_vertex-arg-2-1) → let a = c.args in
-    Accepted (SetValue a.a a.value2) types (attempt a.row a.free (state a.head a.vertices.now a.edges.now) a.journal.now)
-accepted types c = accept (omega (arith, c.ranges.value2)) (λ g y. c.vertex_code-c.ensures.value_2 g (_, y)) c.if-c-ne0.false
-    c.requires
+accepted : (types : ℕ) (c : In_ok-check_vertex) → let a = c.args in Accepted (SetValue a.n a.value) types (attempt_of a.head a.tables.now a.room.now)
+accepted types c = accept (omega (arith, c.ranges.value)) (λ g y. c.check_vertex.ensures.of_graph g (_, y)) c.in_ok-check_vertex.was c.requires
 
-accepted_at_After_slice_known_4_1 : (types : ℕ) (c : goal.After-slice_known-4-1) → let a = c.args in
-    Accepted (SetValue a.a a.value2) types (attempt a.row a.free (state a.head a.vertices.now a.edges.now) a.journal.now)
-accepted_at_After_slice_known_4_1 types c = accept (omega (arith, c.ranges.value2)) (λ g y. c.vertex_code-c.ensures.value_2 g (_, y)) c.if-c-ne0.false
-    c.requires
+pub returns-in_err-check_vertex-clause-made : goal.returns-in_err-check_vertex-clause-made
+returns-in_err-check_vertex-clause-made c =
+    let p = err_from_is_err_and c.from_residual.result c.from_residual.ensures.1 in
+    λ types. rw (p.1, p.2) (one_refused (omega (arith, c.ranges.value)) (λ g y. c.check_vertex.ensures.of_graph g (_, y)) c.in_err-check_vertex.was)
 
-accepted_at_Else_c_ne0 : (types : ℕ) (c : goal.Else-c-ne0) → let a = c.args in
-    Accepted (SetValue a.a a.value2) types (attempt a.row a.free (state a.head a.vertices.now a.edges.now) a.journal.now)
-accepted_at_Else_c_ne0 types c = accept (omega (arith, c.ranges.value2)) (λ g y. c.vertex_code-c.ensures.value_2 g (_, y)) c.if-c-ne0.false
-    c.requires
-
-accepted_at_After_vertex_field_s : (types : ℕ) (c : goal.After-vertex_field-s) → let a = c.args in
-    Accepted (SetValue a.a a.value2) types (attempt a.row a.free (state a.head a.vertices.now a.edges.now) a.journal.now)
-accepted_at_After_vertex_field_s types c = accept (omega (arith, c.ranges.value2)) (λ g y. c.vertex_code-c.ensures.value_2 g (_, y)) c.if-c-ne0.false
-    c.requires
+pub vertex_words-old-requires : goal.vertex_words-old-requires
+vertex_words-old-requires c = (accepted 0 (goal.at.vertex_words-old-requires c).In_ok-check_vertex).rows
 
 pub set_vertex-requires : goal.set_vertex-requires
-set_vertex-requires c =
-    let k = accepted 0 c in
-    (k.can, k.room)
+set_vertex-requires c = (accepted 0 (goal.at.set_vertex-requires c).In_ok-check_vertex).rows
 
-pub returns : goal.returns
-returns c =
-    let a = c.args in
-    λ types. one_tried (accepted_at_After_slice_known_4_1 types c)
-    (tries_by
-    (set_vertex_by a.a c.vertex_field-s.ensures
-    c.vertex_field-x.ensures c.vertex_field-s.ensures
-    refl) c.set_vertex.ensures)
-
-pub returns-then-c-ne0 : goal.returns-then-c-ne0
-returns-then-c-ne0 c =
-    λ types. one_refused (omega (arith, c.ranges.value2)) (λ g y. c.vertex_code-c.ensures.value_2 g (_, y))
-    c.if-c-ne0.true c.unchanged.ensures
-
-pub vertex_field-s-requires : goal.vertex_field-s-requires
-vertex_field-s-requires c = ((accepted_at_Else_c_ne0 0 c).rows, omega arith)
-
-pub vertex_field-x-requires : goal.vertex_field-x-requires
-vertex_field-x-requires c = ((accepted_at_After_vertex_field_s 0 c).rows, omega arith)
+pub returns-clause-made : goal.returns-clause-made
+returns-clause-made c =
+    let e = c.vertex_words-old.ensures in
+    let s = ap (λ (w : VertexWords). w.sort) e in
+    λ types. one_tried (accepted types (goal.at.returns-clause-made c).In_ok-check_vertex) (tries_by (set_vertex_by c.args.n s (ap (λ (w : VertexWords). w.value) e) s refl) c.set_vertex.ensures.tries)

@@ -1,4 +1,4 @@
-use Prim.Native.Nat.{ℕ, ◌+◌, ◌*◌, ◌/◌, ◌≤◌}
+use Prim.Native.Nat.{ℕ, ◌+◌, ◌*◌, ◌/◌, ◌≤◌, ◌<◌}
 use mathlib.Core.Path.{refl, sym, ap, ◌∙◌}
 use native.Mathlib.Omega.{arith}
 use lib.ListN.{length, length-set, length-drop}
@@ -14,7 +14,7 @@ vertices_end c =
     omega (
       arith,
       part_end c.args.v c.loop-i.i c.args.stores
-          (length c.args.vertices.now) c.loop-i-test.true c.requires.vertices_fit,
+          (length c.args.vertices.now) (omega arith) c.requires.vertices_fit,
     )
 
 edges_end : (c : goal.After-begin-arg-in-loop-i-2-1)
@@ -23,7 +23,7 @@ edges_end c =
     omega (
       arith,
       part_end c.args.e c.loop-i.i c.args.stores
-          (length c.args.edges.now) c.loop-i-test.true c.requires.edges_fit,
+          (length c.args.edges.now) (omega arith) c.requires.edges_fit,
     )
 
 image_end : (c : goal.After-slice_known-in-loop-i-2-1)
@@ -36,7 +36,7 @@ vertices_end_at_After_slice_known_in_loop_i_2_1 c =
     omega (
       arith,
       part_end c.args.v c.loop-i.i c.args.stores
-          (length c.args.vertices.now) c.loop-i-test.true c.requires.vertices_fit,
+          (length c.args.vertices.now) (omega arith) c.requires.vertices_fit,
     )
 
 edges_end_at_After_slice_known_in_loop_i_2_1 : (c : goal.After-slice_known-in-loop-i-2-1)
@@ -45,7 +45,7 @@ edges_end_at_After_slice_known_in_loop_i_2_1 c =
     omega (
       arith,
       part_end c.args.e c.loop-i.i c.args.stores
-          (length c.args.edges.now) c.loop-i-test.true c.requires.edges_fit,
+          (length c.args.edges.now) (omega arith) c.requires.edges_fit,
     )
 
 image_end_at_After_first_length_n : (c : goal.After-first_length-n)
@@ -58,7 +58,7 @@ vertices_end_at_After_begin_arg_1 c =
     omega (
       arith,
       part_end c.args.v c.loop-i.i c.args.stores
-          (length c.args.vertices.now) c.loop-i-test.true c.requires.vertices_fit,
+          (length c.args.vertices.now) (omega arith) c.requires.vertices_fit,
     )
 
 edges_end_at_After_begin_arg_in_loop_i_1 : (c : goal.After-begin-arg-in-loop-i-1)
@@ -67,14 +67,14 @@ edges_end_at_After_begin_arg_in_loop_i_1 c =
     omega (
       arith,
       part_end c.args.e c.loop-i.i c.args.stores
-          (length c.args.edges.now) c.loop-i-test.true c.requires.edges_fit,
+          (length c.args.edges.now) (omega arith) c.requires.edges_fit,
     )
 
 pub loop-i-init : goal.loop-i-init
-loop-i-init c = (omega arith, omega arith, refl, refl, refl, refl, (λ j h. absurd (omega (arith, h))), refl, refl)
+loop-i-init c = (omega arith, refl, refl, refl, refl, (λ j h. absurd (omega (arith, h))), refl, refl)
 
-pub begin-x-requires : goal.begin-x-requires
-begin-x-requires c =
+pub begin-requires : goal.begin-requires
+begin-requires c =
     let l = c.loop-i in
     let a = c.args in
     let p = c.requires in
@@ -87,26 +87,24 @@ begin-x-requires c =
         few_vertices = p.few_vertices;
         few_edges = p.few_edges;
       };
-      sound = ap (loadable p.bounds) (image_at_lem a.start.now l.at n.result (first_is a.start.now l.at n.result l.invariant.1 n.ensures.0) l.i l.invariant.5)
-          ∙ p.sound l.i c.loop-i-test.true;
+      sound = ap (loadable p.bounds) (image_at_lem a.start.now l.at n.result (first_is a.start.now l.at n.result l.invariant.0 n.ensures.0) l.i l.invariant.4)
+          ∙ p.sound l.i (omega arith);
     }
 
 pub offset_bounds-all-i : goal.offset_bounds-all-i
 offset_bounds-all-i c =
     omega (
       arith,
-      c.loop-i-test,
       c.requires.few,
-      c.loop-i.invariant.4,
+      c.loop-i.invariant.3,
     )
 
 pub bounds-all-i : goal.bounds-all-i
 bounds-all-i c =
     omega (
       arith,
-      c.loop-i-test,
       c.requires.few,
-      c.loop-i.invariant.4,
+      c.loop-i.invariant.3,
     )
 
 pub overflow_add-at-in-loop-i : goal.overflow_add-at-in-loop-i
@@ -117,57 +115,45 @@ overflow_add-at-in-loop-i c =
       c.well_formed,
     )
 
-pub overflow_add-i-in-loop-i-2 : goal.overflow_add-i-in-loop-i-2
-overflow_add-i-in-loop-i-2 c =
-    omega (
-      arith,
-      c.loop-i-test,
-      c.requires.few,
-    )
-
-pub loop-i-smaller : goal.loop-i-smaller
-loop-i-smaller c = omega (arith, c.loop-i-test)
-
 pub loop-i-preserved : goal.loop-i-preserved
 loop-i-preserved c =
     let l = c.loop-i in
     let a = c.args in
-    let t = c.loop-i-test.true in
+    let t : c.loop-i.i < a.stores = omega arith in
     let vend = vertices_end_at_After_slice_known_in_loop_i_2_1 c in
     let eend = edges_end_at_After_slice_known_in_loop_i_2_1 c in
     let n = c.first_length-n in
-    let b = c.begin-x in
-    let is = first_is a.start.now l.at n.result l.invariant.1 n.ensures.0 in
+    let b = c.begin in
+    let is = first_is a.start.now l.at n.result l.invariant.0 n.ensures.0 in
     let vl = b.auto.vertices ∙ part_length a.v l.i l.vertices vend in
     let el = b.auto.edges ∙ part_length a.e l.i l.edges eend in (
-      omega (arith, t),
       image_end c,
-      length_with a.v l.i b.new.vertices l.vertices vl vend ∙ l.invariant.2,
-      length_with a.e l.i b.new.edges l.edges el eend ∙ l.invariant.3,
-      length-set l.all l.i b.result ∙ l.invariant.4,
-      images_on a.start.now l.at n.result is l.i l.invariant.5,
+      length_with a.v l.i b.new.vertices l.vertices vl vend ∙ l.invariant.1,
+      length_with a.e l.i b.new.edges l.edges el eend ∙ l.invariant.2,
+      length-set l.all l.i b.result ∙ l.invariant.3,
+      images_on a.start.now l.at n.result is l.i l.invariant.4,
       begun_more a.start.now l.all l.vertices l.edges a.v a.e l.i
-          (omega (arith, t, c.requires.few, l.invariant.4)) vend eend
+          (omega (arith, t, c.requires.few, l.invariant.3)) vend eend
           b.result b.new.vertices b.new.edges _ vl el
-          (image_at_lem a.start.now l.at n.result is l.i l.invariant.5) b.ensures l.invariant.6,
-      behind_with a.v l.i b.new.vertices l.vertices vl vend a.stores t ∙ l.invariant.7,
-      behind_with a.e l.i b.new.edges l.edges el eend a.stores t ∙ l.invariant.8,
+          (image_at_lem a.start.now l.at n.result is l.i l.invariant.4) b.ensures l.invariant.5,
+      behind_with a.v l.i b.new.vertices l.vertices vl vend a.stores t ∙ l.invariant.6,
+      behind_with a.e l.i b.new.edges l.edges el eend a.stores t ∙ l.invariant.7,
     )
 
 pub shape_of-vertices : goal.shape_of-vertices
-shape_of-vertices c = c.loop-i.invariant.2
+shape_of-vertices c = c.loop-i.invariant.1
 
 pub shape_of-edges : goal.shape_of-edges
-shape_of-edges c = c.loop-i.invariant.3
+shape_of-edges c = c.loop-i.invariant.2
 
 pub returns : goal.returns
 returns c =
     let k = c.loop-i.invariant in
     record {
-      many = k.4;
-      begun = λ j h. k.6 j (omega (arith, h, c.loop-i-test));
-      behind_vertices = k.7;
-      behind_edges = k.8;
+      many = k.3;
+      begun = λ j h. k.5 j (omega (arith, h));
+      behind_vertices = k.6;
+      behind_edges = k.7;
     }
 
 pub offset_bounds-start-at : goal.offset_bounds-start-at

@@ -1,4 +1,4 @@
-use Prim.Native.Nat.{ℕ, ◌+◌, ◌*◌, ◌≤◌}
+use Prim.Native.Nat.{ℕ, ◌+◌, ◌*◌, ◌≤◌, ◌<◌}
 use mathlib.Core.Path.{◌≡◌, refl, sym, ap, subst, ◌∙◌}
 use mathlib.Core.List.{List}
 use native.Mathlib.Omega.{arith}
@@ -15,22 +15,13 @@ use Rattle.store_calls.proofs.Parts.{part_end, part_length, length_with}
 use Rattle.stores.proofs.OverParts.{over_short, over_more, short_more, sum_more}
 use Rattle.stores.proofs.saving.save_all.Goals as goal
 
-image_end : (c : goal.After-save-arg-in-loop-i-2-1) → c.loop-i.i * c.args.n + c.args.n ≤ length
-    c.loop-i.image
-image_end c =
-    omega (
-      arith,
-      part_end c.args.n c.loop-i.i c.args.stores
-          (length c.args.image.now) c.loop-i-test.true c.requires.image_fits,
-    )
-
 image_end_at_After_slice_known_in_loop_i_1 : (c : goal.After-slice_known-in-loop-i-1) → c.loop-i.i * c.args.n + c.args.n ≤ length
     c.loop-i.image
 image_end_at_After_slice_known_in_loop_i_1 c =
     omega (
       arith,
       part_end c.args.n c.loop-i.i c.args.stores
-          (length c.args.image.now) c.loop-i-test.true c.requires.image_fits,
+          (length c.args.image.now) (omega arith) c.requires.image_fits,
     )
 
 -- the image of any graph that the tables hold fits into the part
@@ -41,22 +32,22 @@ short c g h =
     let l = c.loop-i in
     let a = c.args in
     over_short (save g) (part a.n l.i l.image) a.n
-    (ap length (sym (c.save-long.ensures g h).0) ∙ c.save-long.auto.out ∙ part_length a.n l.i l.image (image_end_at_After_slice_known_in_loop_i_1 c))
+    (ap length (sym (c.save-words.ensures g h).0) ∙ c.save-words.auto.out ∙ part_length a.n l.i l.image (image_end_at_After_slice_known_in_loop_i_1 c))
 
 -- and so many words it has
-few : (c : goal.After-slice_known-in-loop-i-1) → c.save-long.result ≤ c.args.n
+few : (c : goal.After-slice_known-in-loop-i-1) → c.save-words.result ≤ c.args.n
 few c = let w = c.requires.each c.loop-i.i
-    c.loop-i-test.true in omega (arith, short c w.graph w.holds, (c.save-long.ensures w.graph w.holds).1)
+    (omega arith) in omega (arith, short c w.graph w.holds, (c.save-words.ensures w.graph w.holds).1)
 
 vertices_end : (c : goal.After-head-1) → c.loop-i.i * c.args.v + c.args.v ≤ length
     c.args.vertices.now
 vertices_end c = part_end c.args.v c.loop-i.i c.args.stores
-    (length c.args.vertices.now) c.loop-i-test.true c.requires.vertices_fit
+    (length c.args.vertices.now) (omega arith) c.requires.vertices_fit
 
 edges_end : (c : goal.After-save-arg-1) → c.loop-i.i * c.args.e + c.args.e ≤ length
     c.args.edges.now
 edges_end c = part_end c.args.e c.loop-i.i c.args.stores
-    (length c.args.edges.now) c.loop-i-test.true c.requires.edges_fit
+    (length c.args.edges.now) (omega arith) c.requires.edges_fit
 
 image_end_at_After_save_arg_in_loop_i_1 : (c : goal.After-save-arg-in-loop-i-1) → c.loop-i.i * c.args.n + c.args.n ≤ length
     c.loop-i.image
@@ -64,25 +55,26 @@ image_end_at_After_save_arg_in_loop_i_1 c =
     omega (
       arith,
       part_end c.args.n c.loop-i.i c.args.stores
-          (length c.args.image.now) c.loop-i-test.true c.requires.image_fits,
+          (length c.args.image.now) (omega arith) c.requires.image_fits,
     )
 
 pub loop-i-init : goal.loop-i-init
-loop-i-init c = (omega arith, refl, omega arith, λ g h. (refl, refl, done))
+loop-i-init c = (refl, omega arith, λ g h. (refl, refl, done))
 
 pub offset_bounds-all-i : goal.offset_bounds-all-i
-offset_bounds-all-i c = omega (arith, c.loop-i-test, c.requires.few, c.requires.many)
+offset_bounds-all-i c = omega (arith, c.requires.few, c.requires.many)
 
 pub bounds-all-i : goal.bounds-all-i
-bounds-all-i c = omega (arith, c.loop-i-test, c.requires.few, c.requires.many)
+bounds-all-i c = omega (arith, c.requires.few, c.requires.many)
 
-pub save-long-requires : goal.save-long-requires
-save-long-requires c =
+pub save-words-requires : goal.save-words-requires
+save-words-requires c =
     let l = c.loop-i in
     let a = c.args in
+    let e : l.i * a.n + a.n ≤ length l.image = omega (arith, part_end a.n l.i a.stores (length a.image.now) (omega arith) c.requires.image_fits) in
     subst (λ (k : ℕ). CanSave (tables_at a.all a.vertices.now a.edges.now a.v a.e l.i) k)
-    (sym (part_length a.n l.i l.image (image_end c)))
-    (c.requires.each l.i c.loop-i-test.true)
+    (sym (part_length a.n l.i l.image e))
+    (c.requires.each l.i (omega arith))
 
 pub overflow_add-words : goal.overflow_add-words
 overflow_add-words c =
@@ -90,53 +82,41 @@ overflow_add-words c =
       arith,
       image_end_at_After_slice_known_in_loop_i_1 c,
       few c,
+      c.loop-i.invariant.0,
       c.loop-i.invariant.1,
-      c.loop-i.invariant.2,
       c.well_formed,
     )
-
-pub overflow_add-i-in-loop-i-3 : goal.overflow_add-i-in-loop-i-3
-overflow_add-i-in-loop-i-3 c =
-    omega (
-      arith,
-      c.loop-i-test,
-      c.requires.few,
-    )
-
-pub loop-i-smaller : goal.loop-i-smaller
-loop-i-smaller c = omega (arith, c.loop-i-test)
 
 pub loop-i-preserved : goal.loop-i-preserved
 loop-i-preserved c =
     let l = c.loop-i in
     let a = c.args in
-    let t = c.loop-i-test.true in
+    let t : c.loop-i.i < a.stores = omega arith in
     let e = image_end_at_After_slice_known_in_loop_i_1 c in
-    let s = c.save-long in (
-      omega (arith, t),
-      length_with a.n l.i s.new.out l.image (s.auto.out ∙ part_length a.n l.i l.image e) e ∙ l.invariant.1,
-      omega (arith, few c, l.invariant.2),
+    let s = c.save-words in (
+      length_with a.n l.i s.new.out l.image (s.auto.out ∙ part_length a.n l.i l.image e) e ∙ l.invariant.0,
+      omega (arith, few c, l.invariant.1),
       λ g h.
-          let r = l.invariant.3 g h in
+          let r = l.invariant.2 g h in
           let q = s.ensures (g l.i) (h l.i t) in (
             ap (λ (ws : List ℕ). with_part a.n l.i ws l.image) q.0
                 ∙ (λ j. with_part a.n l.i (overwritten (save (g l.i)) (part a.n l.i (r.0 j))) (r.0 j))
-                ∙ over_more g l.i a.n r.2 a.image.now (omega (arith, e, l.invariant.1)),
+                ∙ over_more g l.i a.n r.2 a.image.now (omega (arith, e, l.invariant.0)),
             omega (arith, r.1, q.1, sum_more g l.i),
             short_more g l.i a.n r.2 (short c (g l.i) (h l.i t)),
           ),
     )
 
 pub shape_of-image : goal.shape_of-image
-shape_of-image c = c.loop-i.invariant.1
+shape_of-image c = c.loop-i.invariant.0
 
 pub returns : goal.returns
 returns c =
     let l = c.loop-i in
     let a = c.args in
-    let e : l.i ≡ a.stores = omega (arith, c.loop-i-test.false, l.invariant.0) in
+    let e : l.i ≡ a.stores = omega arith in
     λ g h.
-    let r = l.invariant.3 g h in
+    let r = l.invariant.2 g h in
     (r.0 ∙ ap (λ (k : ℕ). over_parts a.n (images_to g k) a.image.now) e, r.1 ∙ ap (λ (k : ℕ). sum_of length (images_to g k)) e)
 
 pub overflow_mul-i : goal.overflow_mul-i

@@ -1,4 +1,4 @@
-use Prim.Native.Nat.{ℕ, ◌-◌, ◌*◌, ◌≤◌, ◌<◌}
+use Prim.Native.Nat.{ℕ, ◌*◌, ◌≤◌, ◌<◌}
 use mathlib.Core.Path.{◌≡◌}
 use mathlib.Core.List.{List}
 use lib.ListN.{length}
@@ -11,9 +11,6 @@ use Rattle.stores.proofs.saving.save_all.Given as goal
 
 abbrev pub invariant-loop-i : goal.invariant-loop-i
 invariant-loop-i l =
-    (l.i ≤ l.stores) × (length l.image ≡ length l.initial.image) × (l.words ≤ l.i * l.n)
+    (length l.image ≡ length l.initial.image) × (l.words ≤ l.i * l.n)
     × ((g : ℕ → Graph) → ((j : ℕ) → j < l.stores → Holds (tables_at l.all l.vertices l.edges l.v l.e j) (g j))
     → (l.image ≡ over_parts l.n (images_to g l.i) l.initial.image) × (l.words ≡ sum_of length (images_to g l.i)) × All (λ (x : List ℕ). length x ≤ l.n) (images_to g l.i))
-
-abbrev pub decreases-loop-i : goal.decreases-loop-i
-decreases-loop-i l = l.stores - l.i
