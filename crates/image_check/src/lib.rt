@@ -10,9 +10,9 @@ ghost use Rattle.std.specs.Prelude.{◌≡◌};
 ghost use Rattle.image_check.specs.Checks.{checked, saved_bounds, verdict, bad_code, bad_offset};
 
 use graph::{MOST_EDGES, MOST_TYPES, MOST_VERTICES};
+use image::by_name::Part;
 use image::header::sound;
 use image::layout::record_size;
-use image::part;
 use passes::{Limits, Parts};
 
 /// What is bad about words that no graph saves as.
@@ -72,9 +72,9 @@ pub fn check(words: &[u32], vertices: u32, edges: u32, types: u32) -> Result<(),
         return Ok(());
     }
     let parts = Parts {
-        vertices: part(words, 1),
-        edges: part(words, 2),
-        incidences: part(words, 3),
+        vertices: Part::Vertices.within(words),
+        edges: Part::Edges.within(words),
+        incidences: Part::Incidences.within(words),
         size: record_size(words),
     };
     parts.check(limits)

@@ -1,34 +1,42 @@
 -- What a reduction answers: the lists that it refuses, and what it leaves of any other.
 use Rattle.std.specs.Prelude.{◌==◌}
-use Prim.Native.Nat.{ℕ, ◌*◌, ◌/◌, ◌≤◌}
+use Prim.Native.Nat.{ℕ, ◌*◌, ◌/◌, ◌≤◌, ◌<◌}
 use mathlib.Core.Path.{◌≡◌, refl, sym, ap, ◌∙◌, subst}
 use mathlib.Core.Logic.{◌≢◌, ◌⊎◌, inl, inr}
 use mathlib.Core.Bool.{Bool, true, false, ◌||◌}
 use mathlib.Core.List.{List, [], ◌∷◌}
 use native.Mathlib.Omega.{arith}
-use borrow.Author.Tests.{eq-eqb, ne_eqb, eqb-false, ltb-false}
+use borrow.Author.Tests.{eq-eqb, ne_eqb, eqb-false, ltb-false, lt-ltb, le-ltb}
 use lib.Dec.{ltb}
-use lib.ListN.{length, take, drop, length-append, length-drop, get_or-append}
-use lib.Seq.{take_all, take_at}
+use lib.ListN.{length, take, drop}
+use lib.Seq.{take_all, take_at, length-take-le}
 use Rattle.lists.specs.Choice.{◌⇒◌else◌}
 use Rattle.lists.specs.Lists.{range, overwritten, concat_map}
-use Rattle.type_rows.specs.Closure.{closure_words}
+use Rattle.type_rows.specs.Closure.{closure_of}
+use Rattle.type_rows.proofs.Closing.{closure_good}
 use Rattle.commands.specs.Calls.{Call, call_at, calls_of}
 use Rattle.machine.specs.Run.{Lent, parameters_of, list_refusal, list_number}
 use Rattle.machine.proofs.ListRows.{Passed, passed}
 use Rattle.machine.proofs.Whole.{calls_length}
 use Rattle.engine.specs.Outcomes.{lent}
 use Rattle.reduction.specs.declared.Reduction.{Reduction}
-use Rattle.reduction.specs.Reduction.{Subsequence, final_of, Least}
-use Rattle.reduction.specs.Trials.{calls_at, Numbered, Ready}
+use Rattle.reduction.specs.Reduction.{Subsequence, final_of, Least, reduced}
+use Rattle.machine.specs.Calls.{Parameters}
+use Rattle.image.specs.Image.{load}
+use Rattle.reduction.specs.Trials.{last_code, calls_at, Numbered, Ready}
 use Rattle.reduction.specs.Outcomes.{AfterReduction, words_of, code_of, least, too_long, reduction_refusal, after_reduction, reduction, calls_in, IsLeast, Searched}
-use Rattle.lists.proofs.Ranges.{range_length, range_front, range_at, picks_all}
+use Rattle.lists.proofs.Ranges.{range_length, range_at, picks_all}
 use Rattle.reduction.proofs.ReductionLaws.{least as still_least, left_among}
-use Rattle.reduction.proofs.TrialLaws.{calls_many}
+use Rattle.reduction.proofs.TrialLaws.{calls_many, ready_again}
 
 or_false : (a b : Bool) → (a || b) ≡ false → (a ≡ false) × (b ≡ false)
 or_false true b e = absurd (let z : ◌≡◌ {A = ℕ} 0 1 = cc in omega arith)
 or_false false b e = (refl, e)
+
+-- too many calls, or more than there is room for
+pub too_many : (most n room long : ℕ) → (most < n) ⊎ ((n ≤ most) × (room < long)) → (ltb most n || ltb room long) ≡ true
+too_many most n room long (inl h) = rw (lt-ltb most n h)
+too_many most n room long (inr h) = rw (le-ltb most n h.0, lt-ltb room long h.1)
 
 -- ---- lists that are refused
 
@@ -106,52 +114,86 @@ least_among l z = left_among (code_of l) (calls_of l.calls) z
 
 -- ---- a list that is reduced
 
-module _ (start rows calls vertices edges journal answers image list : List ℕ) (e : list_refusal (lent start rows calls vertices edges journal answers image) ≡ 0)
-    (t : too_long (lent start rows calls vertices edges journal answers image) (length list) ≡ false) where
-  abbrev l : Lent
-  l = lent start rows calls vertices edges journal answers image
+-- what is lent, where no run refuses it and the list is not too long
+pub record Reducible : Type 0 where
+  pub start : List ℕ
+  pub rows : List ℕ
+  pub calls : List ℕ
+  pub vertices : List ℕ
+  pub edges : List ℕ
+  pub journal : List ℕ
+  pub answers : List ℕ
+  pub image : List ℕ
+  pub list : List ℕ
+  pub accepted : list_refusal (lent start rows calls vertices edges journal answers image) ≡ 0
+  pub short : too_long (lent start rows calls vertices edges journal answers image) (length list) ≡ false
 
-  pub past : Passed l
-  past = passed l e
+module _ (r : Reducible) where
+  abbrev pub given : Lent
+  given = lent r.start r.rows r.calls r.vertices r.edges r.journal r.answers r.image
 
-  pub few_calls : length calls / 5 ≤ 20000
-  few_calls = ltb-false 20000 (length calls / 5) (or_false (ltb 20000 (length calls / 5)) (ltb (length list) (length calls)) t).0
+  -- how many calls are sent
+  abbrev pub sent : ℕ
+  sent = length r.calls / 5
 
-  pub list_room : length calls ≤ length list
-  list_room = ltb-false (length list) (length calls) (or_false (ltb 20000 (length calls / 5)) (ltb (length list) (length calls)) t).1
+  pub past : Passed given
+  past = passed given r.accepted
 
-  pub ready : (closed : List ℕ) (types : ℕ) → closed ≡ closure_words rows → types ≡ length rows → Ready (parameters_of l) start vertices edges journal closed types
-  ready closed types c n = record {
+  pub few_calls : sent ≤ 20000
+  few_calls = ltb-false 20000 sent (or_false (ltb 20000 sent) (ltb (length r.list) (length r.calls)) r.short).0
+
+  pub list_room : length r.calls ≤ length r.list
+  list_room = ltb-false (length r.list) (length r.calls) (or_false (ltb 20000 sent) (ltb (length r.list) (length r.calls)) r.short).1
+
+  pub ready : (closed : List ℕ) → closed ≡ closure_of r.rows → Ready (parameters_of given) r.start r.vertices r.edges r.journal closed (length r.rows)
+  ready closed c = record {
     setting = record {
       limits = past.limits;
       vertices = refl;
       edges = refl;
       changes = refl;
       rows = past.rows_good;
-      closed_rows = c;
-      types_in = n;
+      closed_rows = c ∙ closure_good r.rows past.rows_good;
+      types_in = refl;
     };
     start_loads = past.start_loads;
   }
 
-  pub answers_many : length calls / 5 ≤ length answers
+  pub answers_many : sent ≤ length r.answers
   answers_many = omega (arith, past.answers_room)
 
-  module _ (kept : List ℕ) (k : kept ≡ overwritten (range (length calls / 5)) answers) where
-    pub all_numbered : Numbered calls kept (length calls / 5)
-    all_numbered = record {
-      fits = rw k (rw (length-append, length-drop) (omega (arith, range_length (length calls / 5), answers_many)));
-      few = few_calls;
-      numbers = λ i h. rw (
-        k,
-        get_or-append (range (length calls / 5)) (drop (length (range (length calls / 5))) answers) 0 i (omega (arith, range_length (length calls / 5))),
-        range_at (length calls / 5) i h,
-      ) h;
-    }
+  module _ (kept : List ℕ) (k : kept ≡ range (length (take sent r.answers))) where
+    numbers : kept ≡ range sent
+    numbers = k ∙ ap range (length-take-le sent r.answers answers_many)
 
-    pub all_calls : calls_at calls (take (length calls / 5) kept) ≡ calls_of calls
+    pub all_many : length kept ≡ sent
+    all_many = ap length numbers ∙ range_length sent
+
+    pub all_numbered : Numbered r.calls kept (length kept)
+    all_numbered =
+        let m = all_many in record {
+          fits = omega arith;
+          few = omega (arith, few_calls);
+          numbers = λ i h. let l : i < sent = omega (arith, h) in rw (numbers, range_at sent i l) l;
+        }
+
+    pub all_calls : calls_at r.calls kept ≡ calls_of r.calls
     all_calls =
-        let n = length calls / 5 in
-        let m : length (calls_of calls) ≡ n = calls_length n calls (omega arith) (omega arith) in
-        ap (λ (ks : List ℕ). calls_at calls (take n ks)) k ∙ ap (calls_at calls) (range_front n answers) ∙ picks_all (calls_of calls) (call_at []) n (omega arith)
-        ∙ take_all n (calls_of calls) (omega arith)
+        let m : length (calls_of r.calls) ≡ sent = calls_length sent r.calls (omega arith) (omega arith) in
+        ap (calls_at r.calls) numbers ∙ picks_all (calls_of r.calls) (call_at []) sent (omega arith) ∙ take_all sent (calls_of r.calls) (omega arith)
+
+    -- the code of the first trial is that of the list as sent
+    module _ (closed : List ℕ) (c : closed ≡ closure_of r.rows) (got : ℕ)
+        (t : (w : Parameters) → Ready w r.start r.vertices r.edges r.journal closed (length r.rows) → got ≡ last_code w (load r.start) (calls_at r.calls kept)) where
+      pub code_sent : got ≡ code_of given (calls_of r.calls)
+      code_sent = t _ (ready closed c) ∙ ap (code_of given) all_calls
+
+      -- and the search, over the tables that it leaves, finds the least
+      pub searched_is : (vertices edges journal : List ℕ) → length vertices ≡ length r.vertices → length edges ≡ length r.edges → length journal ≡ length r.journal
+          → (kept' : List ℕ) (n : ℕ) (result : Reduction)
+          → ((w : Parameters) → Ready w r.start vertices edges journal closed (length r.rows) → got ≡ last_code w (load r.start) (calls_at r.calls kept)
+          → Searched r.calls kept' n result (reduced (last_code w (load r.start)) (calls_at r.calls kept)))
+          → Searched r.calls kept' n result (least given)
+      searched_is vertices edges journal v e j kept' n result s =
+          subst (λ (xs : List Call). Searched r.calls kept' n result (reduced (code_of given) xs)) all_calls
+          (s _ (ready_again _ _ _ _ _ _ _ (ready closed c) vertices edges journal v e j) (t _ (ready closed c)))

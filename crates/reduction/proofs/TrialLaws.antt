@@ -1,18 +1,18 @@
 -- A list that is tried: call by call, its beginning, and what the search and the writing make of the numbers kept.
-use Rattle.std.specs.Prelude.{◌==◌}
-use Prim.Native.Nat.{ℕ, suc, ◌+◌, ◌-◌, ◌*◌, ◌/◌, ◌^◌, ◌≤◌, ◌<◌}
+use Rattle.std.specs.Prelude.{◌==◌, ◌≢◌, Option, Some, None}
+use Prim.Native.Nat.{ℕ, zero, suc, ◌+◌, ◌-◌, ◌*◌, ◌/◌, ◌^◌, ◌≤◌, ◌<◌}
 use mathlib.Core.Path.{◌≡◌, refl, sym, ap, subst, ◌∙◌}
 use mathlib.Core.Bool.{Bool, true, false}
-use mathlib.Core.List.{List, [], ◌∷◌, ◌++◌, map-append}
+use mathlib.Core.List.{List, [], ◌∷◌, ◌++◌, map-append, append_assoc}
 use native.Mathlib.Omega.{arith}
 use native.Mathlib.Numerals.{add-one}
-use borrow.Author.Tests.{lt-ltb, ltb-true, ltb-false, eqb-true, eqb-false}
-use lib.Dec.{ltb}
-use lib.ListN.{length, get_or, take, drop, length-drop, length-map}
-use lib.Seq.{take-suc, take_at, length-take-le, sets, get_or-take, get_or-drop}
-use Rattle.lists.specs.Choice.{◌⇒◌else◌}
+use borrow.Author.Tests.{ltb-true, ltb-false, eqb-true, eqb-false, eq-eqb}
+use lib.Dec.{ltb, eqb}
+use Rattle.std.specs.Option.{option_eq}
+use lib.ListN.{length, get_or, take, drop, length-append, length-drop, length-map}
+use lib.Seq.{take-suc, take_at, take-append_seam, drop_at, drop-drop, length-take-le, get_or-take}
 use Rattle.lists.specs.Lists.{overwritten, concat_map, without}
-use Rattle.lists.proofs.Stores.{over_sets}
+use borrow.Rule.Slice.PartMut.{put_mid}
 use Rattle.graph.specs.WellFormed.{Bounds, Within}
 use Rattle.history.specs.Machine.{Machine, fresh}
 use Rattle.image.specs.Image.{load}
@@ -34,29 +34,43 @@ use Rattle.engine.proofs.RunLaws.{can_load, running}
 use Rattle.marks.specs.Marked.{mark_words}
 use Rattle.reduction.specs.declared.Trying.{Trying}
 use Rattle.reduction.specs.Reduction.{Reduced, reduced, reduced_from}
-use Rattle.reduction.specs.Trials.{last_of, call_numbered, calls_at, tried, place_of, Tries, Numbered, Ready}
+use Rattle.reduction.specs.Trials.{last_of, call_numbered, calls_at, left_out, Numbered, Ready}
 use Rattle.reduction.specs.Outcomes.{words_of, Searched}
 use Rattle.reduction.proofs.ReductionLaws.{searching, search_begins, search_ends, search_drops, search_keeps}
 use Rattle.lists.proofs.Without.{without_length, without_before, without_behind, without_most, take_without, take_before, map_without}
 
--- ---- the number at a place
+-- ---- one number more
 
-pub tried_at : (kept : List ℕ) (skip i : ℕ) → get_or (without skip kept) i 0 ≡ get_or kept (place_of i skip) 0
-tried_at kept skip i = go (ltb i skip) refl
-  where
-    go : (t : Bool) → ltb i skip ≡ t → get_or (without skip kept) i 0 ≡ get_or kept (t ⇒ i else (i + 1)) 0
-    go true e = without_before skip i kept 0 (ltb-true i skip e)
-    go false e = without_behind skip i kept 0 (ltb-false i skip e) ∙ ap (λ (j : ℕ). get_or kept j 0) (sym (add-one i))
+-- behind the one that is left out
+without_last : {A : Type 0} (s : ℕ) (xs : List A) (x : A) → s ≢ length xs → without s (xs ++ (x ∷ [])) ≡ without s xs ++ (x ∷ [])
+without_last zero [] x h = absurd (h refl)
+without_last (suc s) [] x h = refl
+without_last zero (y ∷ xs) x h = refl
+without_last {A} (suc s) (y ∷ xs) x h = ap (λ (l : List A). y ∷ l) (without_last s xs x (λ e. h (ap suc e)))
 
--- the first i + 1 of those that are tried
-pub tried_more : (calls kept : List ℕ) (skip i : ℕ) → i < length (without skip kept)
-    → calls_at calls (tried kept skip (i + 1)) ≡ calls_at calls (tried kept skip i) ++ (call_numbered calls (get_or kept (place_of i skip) 0) ∷ [])
-tried_more calls kept skip i h =
-    let W = without skip kept in
-    ap (λ (j : ℕ). calls_at calls (take j W)) (add-one i)
-    ∙ ap (calls_at calls) (take-suc W i 0 h)
-    ∙ map-append (call_numbered calls) (take i W) (get_or W i 0 ∷ [])
-    ∙ ap (λ (k : ℕ). calls_at calls (take i W) ++ (call_numbered calls k ∷ [])) (tried_at kept skip i)
+left_more : (skip : Option ℕ) (kept : List ℕ) (i : ℕ) → i < length kept → skip ≢ Some i
+    → left_out skip (take (suc i) kept) ≡ left_out skip (take i kept) ++ (get_or kept i 0 ∷ [])
+left_more None kept i h d = take-suc kept i 0 h
+left_more (Some s) kept i h d =
+    ap (without s) (take-suc kept i 0 h)
+    ∙ without_last s (take i kept) (get_or kept i 0) (λ e. d (ap Some (e ∙ length-take-le i kept (omega arith))))
+
+-- the one at `skip` adds nothing
+pub left_same : (calls kept : List ℕ) (skip : Option ℕ) (i : ℕ) → i < length kept → skip ≡ Some i
+    → calls_at calls (left_out skip (take (i + 1) kept)) ≡ calls_at calls (left_out skip (take i kept))
+left_same calls kept skip i h e =
+    rw e (
+    ap (λ (j : ℕ). calls_at calls (without i (take j kept))) (add-one i)
+    ∙ ap (calls_at calls) (sym (take_without i i kept (omega arith)) ∙ take_before i kept
+    ∙ sym (without_most i (take i kept) (omega (arith, length-take-le i kept (omega arith)))))
+    )
+
+tried_more : (calls kept : List ℕ) (skip : Option ℕ) (i : ℕ) → i < length kept → skip ≢ Some i
+    → calls_at calls (left_out skip (take (i + 1) kept)) ≡ calls_at calls (left_out skip (take i kept)) ++ (call_numbered calls (get_or kept i 0) ∷ [])
+tried_more calls kept skip i h d =
+    ap (λ (j : ℕ). calls_at calls (left_out skip (take j kept))) (add-one i)
+    ∙ ap (calls_at calls) (left_more skip kept i h d)
+    ∙ map-append (call_numbered calls) (left_out skip (take i kept)) (get_or kept i 0 ∷ [])
 
 -- ---- one call more
 
@@ -69,30 +83,50 @@ pub record Tried (w : Parameters) (m : Machine) (xs : List Call) (y : Store) (me
   pub after : Running w y mem closed types (last w m xs)
   pub coded : code ≡ last_of 0 (answers w m xs)
 
-pub tried_none : (w : Parameters) (m : Machine) (y : Store) (mem : Memory) (closed : List ℕ) (types : ℕ) → Running w y mem closed types m → Tried w m [] y mem closed types 0
+tried_none : (w : Parameters) (m : Machine) (y : Store) (mem : Memory) (closed : List ℕ) (types : ℕ) → Running w y mem closed types m → Tried w m [] y mem closed types 0
 unfolding last answers
 tried_none w m y mem closed types h = record { after = h; coded = refl }
 
-module _ (w : Parameters) (m : Machine) (calls kept : List ℕ) (skip i : ℕ) (y : Store) (mem : Memory) (closed : List ℕ) (types code : ℕ)
-    (h : Tried w m (calls_at calls (tried kept skip i)) y mem closed types code) where
-  pub tried_one : i < length (without skip kept) → (k : ℕ) → k ≡ get_or kept (place_of i skip) 0 → k < length calls / 5 → (ws : List ℕ) → ws ≡ take 5 (drop (5 * k) calls)
-      → (d : Called) (mem' : Memory)
+pub tried_begins : (calls : List ℕ) (skip : Option ℕ) (w : Parameters) (m : Machine) (y : Store) (mem : Memory) (closed : List ℕ) (types : ℕ)
+    → Running w y mem closed types m → Tried w m (calls_at calls (left_out skip [])) y mem closed types 0
+tried_begins calls None w m y mem closed types h = tried_none w m y mem closed types h
+tried_begins calls (Some s) w m y mem closed types h = tried_none w m y mem closed types h
+
+-- what a comparison with the one at `skip` says
+pub is_skipped : (skip : Option ℕ) (i : ℕ) → true ≡ option_eq eqb skip (Some i) → skip ≡ Some i
+is_skipped None i e = cc
+is_skipped (Some s) i e = ap Some (eqb-true s i (sym e))
+
+pub not_skipped : (skip : Option ℕ) (i : ℕ) → false ≡ option_eq eqb skip (Some i) → skip ≢ Some i
+not_skipped skip i e f =
+    let g : false ≡ eqb i i = rw f at e in
+    let h = eq-eqb i i refl in
+    cc
+
+module _ (w : Parameters) (m : Machine) (calls kept : List ℕ) (skip : Option ℕ) (i : ℕ) (y : Store) (mem : Memory) (closed : List ℕ) (types code : ℕ)
+    (h : Tried w m (calls_at calls (left_out skip (take i kept))) y mem closed types code) where
+  pub tried_one : i < length kept → skip ≢ Some i → get_or kept i 0 < length calls / 5 → (ws : List ℕ)
+      → ws ≡ take 5 (drop (5 * get_or kept i 0) calls) → (d : Called) (mem' : Memory)
       → ((v : Parameters) → (n : Machine) → Running v y mem closed types n → Answered v v.changes n (command_of (call_at ws)) d mem' closed types)
-      → Tried w m (calls_at calls (tried kept skip (i + 1))) d.store mem' closed types d.answer.code
+      → Tried w m (calls_at calls (left_out skip (take (i + 1) kept))) d.store mem' closed types d.answer.code
   unfolding answers
-  tried_one l k e u ws f d mem' g =
-      let xs = calls_at calls (tried kept skip i) in
+  tried_one l o u ws f d mem' g =
+      let k = get_or kept i 0 in
+      let xs = calls_at calls (left_out skip (take i kept)) in
       let now = last w m xs in
       let a = g w now h.after in
-      let x : call_at ws ≡ call_numbered calls (get_or kept (place_of i skip) 0) =
-      ap call_at f ∙ sym (call_at_lem k calls (call_at []) (omega arith)) ∙ ap (call_numbered calls) e in
-      let all : xs ++ (call_at ws ∷ []) ≡ calls_at calls (tried kept skip (i + 1)) =
-      ap (λ (z : Call). xs ++ (z ∷ [])) x ∙ sym (tried_more calls kept skip i l) in
+      let x : call_at ws ≡ call_numbered calls k =
+      ap call_at f ∙ sym (call_at_lem k calls (call_at []) (omega arith)) in
+      let all : xs ++ (call_at ws ∷ []) ≡ calls_at calls (left_out skip (take (i + 1) kept)) =
+      ap (λ (z : Call). xs ++ (z ∷ [])) x ∙ sym (tried_more calls kept skip i l o) in
       let r : Tried w m (xs ++ (call_at ws ∷ [])) d.store mem' closed types d.answer.code = record {
         after = subst (λ (n : Machine). Running w d.store mem' closed types n) (sym (last_more w m xs (call_at ws))) a.after;
         coded = ap (λ (z : Answer). z.code) a.answered ∙ sym (ap (last_of 0) (answered w m xs [] (call_at ws)) ∙ last_of_more 0 (answers w m xs) (answer w now (call_at ws)));
       } in
       subst (λ (zs : List Call). Tried w m zs d.store mem' closed types d.answer.code) all r
+
+  pub tried_skips : i < length kept → skip ≡ Some i → Tried w m (calls_at calls (left_out skip (take (i + 1) kept))) y mem closed types code
+  tried_skips l e = subst (λ (zs : List Call). Tried w m zs y mem closed types code) (sym (left_same calls kept skip i l e)) h
 
 -- ---- a beginning
 
@@ -140,14 +174,19 @@ module _ (w : Parameters) (start vertices edges journal closed : List ℕ) (type
 
 -- ---- the calls written
 
-five_at : (calls : List ℕ) (k : ℕ) → k < length calls / 5
-    → words_of (call_numbered calls k)
-    ≡ get_or calls (5 * k) 0 ∷ get_or calls (5 * k + 1) 0 ∷ get_or calls (5 * k + 2) 0 ∷ get_or calls (5 * k + 3) 0 ∷ get_or calls (5 * k + 4) 0 ∷ []
+five_is : (ws : List ℕ) → length ws ≡ 5 → words_of (call_at ws) ≡ ws
+five_is (k ∷ a ∷ b ∷ c ∷ d ∷ []) h = refl
+five_is (k ∷ a ∷ b ∷ c ∷ d ∷ e ∷ ws) h = absurd (omega arith)
+five_is [] h = absurd (omega arith)
+five_is (k ∷ []) h = absurd (omega arith)
+five_is (k ∷ a ∷ []) h = absurd (omega arith)
+five_is (k ∷ a ∷ b ∷ []) h = absurd (omega arith)
+five_is (k ∷ a ∷ b ∷ c ∷ []) h = absurd (omega arith)
+
+five_at : (calls : List ℕ) (k : ℕ) → k < length calls / 5 → words_of (call_numbered calls k) ≡ take 5 (drop (5 * k) calls)
 five_at calls k h =
-    let zero_more : 5 * k + 0 ≡ 5 * k = omega arith in
-    let word : (j : ℕ) → j < 5 → get_or (take 5 (drop (5 * k) calls)) j 0 ≡ get_or calls (5 * k + j) 0 = λ j l. get_or-take 5 (drop (5 * k) calls) j 0 l ∙ get_or-drop (5 * k) calls j 0 in
     ap words_of (call_at_lem k calls (call_at []) (omega arith))
-    ∙ (λ i. (word 0 (omega arith) ∙ ap (λ (j : ℕ). get_or calls j 0) zero_more) i ∷ word 1 (omega arith) i ∷ word 2 (omega arith) i ∷ word 3 (omega arith) i ∷ word 4 (omega arith) i ∷ [])
+    ∙ five_is (take 5 (drop (5 * k) calls)) (length-take-le 5 (drop (5 * k) calls) (rw length-drop (omega arith)))
 
 concat_more : (xs : List Call) (x : Call) → concat_map words_of (xs ++ (x ∷ [])) ≡ concat_map words_of xs ++ words_of x
 concat_more [] x = refl
@@ -161,79 +200,54 @@ concat_length (x ∷ xs) = omega (arith, concat_length xs)
 abbrev pub written : List ℕ → List ℕ → ℕ → List ℕ → List ℕ
 written calls kept n list = overwritten (concat_map words_of (calls_at calls (take n kept))) list
 
-pub written_more : (calls kept list : List ℕ) (i k : ℕ) → i < length kept → 5 * i + 5 ≤ length list → k ≡ get_or kept i 0 → k < length calls / 5
-    → sets (written calls kept i list) (5 * i)
-    (get_or calls (5 * k) 0 ∷ get_or calls (5 * k + 1) 0 ∷ get_or calls (5 * k + 2) 0 ∷ get_or calls (5 * k + 3) 0 ∷ get_or calls (5 * k + 4) 0 ∷ [])
-    ≡ written calls kept (i + 1) list
-written_more calls kept list i k h room e u =
+-- words behind those at the front
+over_put : (A ws list : List ℕ) (at k : ℕ) → at ≡ length A → k ≡ length ws → put_mid at k (overwritten A list) ws ≡ overwritten (A ++ ws) list
+over_put A ws list at k e f =
+    rw (e, f)
+    (ap (λ (l : List ℕ). l ++ (ws ++ drop (length ws) (drop (length A) (A ++ drop (length A) list)))) (take-append_seam A (drop (length A) list))
+    ∙ ap (λ (l : List ℕ). A ++ (ws ++ drop (length ws) l)) (drop_at A (drop (length A) list) (length A) refl)
+    ∙ ap (λ (l : List ℕ). A ++ (ws ++ l)) (drop-drop (length ws) (length A) list ∙ ap (λ (j : ℕ). drop j list) (sym (length-append A ws)))
+    ∙ sym (append_assoc A ws (drop (length (A ++ ws)) list)))
+
+pub written_more : (calls kept list ws : List ℕ) (i n : ℕ) → i < length kept → get_or kept i 0 < length calls / 5
+    → ws ≡ take 5 (drop (5 * get_or kept i 0) calls) → n ≡ 5 → put_mid (5 * i) n (written calls kept i list) ws ≡ written calls kept (i + 1) list
+written_more calls kept list ws i n h u e f =
     let xs = calls_at calls (take i kept) in
     let A = concat_map words_of xs in
-    let x = call_numbered calls k in
-    let n : length xs ≡ i = length-map (take i kept) (call_numbered calls) ∙ length-take-le i kept (omega arith) in
-    let a : length A ≡ 5 * i = concat_length xs ∙ ap (λ (j : ℕ). 5 * j) n in
+    let x = call_numbered calls (get_or kept i 0) in
+    let m : length xs ≡ i = length-map (take i kept) (call_numbered calls) ∙ length-take-le i kept (omega arith) in
+    let a : length A ≡ 5 * i = concat_length xs ∙ ap (λ (j : ℕ). 5 * j) m in
+    let w : ws ≡ words_of x = e ∙ sym (five_at calls (get_or kept i 0) u) in
     let all : xs ++ (x ∷ []) ≡ calls_at calls (take (i + 1) kept) =
-    ap (λ (j : ℕ). xs ++ (call_numbered calls j ∷ [])) e ∙ sym (map-append (call_numbered calls) (take i kept) (get_or kept i 0 ∷ []))
+    sym (map-append (call_numbered calls) (take i kept) (get_or kept i 0 ∷ []))
     ∙ ap (calls_at calls) (sym (take-suc kept i 0 h)) ∙ ap (λ (j : ℕ). calls_at calls (take j kept)) (sym (add-one i)) in
-    ap (sets (written calls kept i list) (5 * i)) (sym (five_at calls k u))
-    ∙ ap (λ (j : ℕ). sets (A ++ drop (length A) list) j (words_of x)) (sym a)
-    ∙ over_sets A (words_of x) list (omega arith)
+    ap (put_mid (5 * i) n (written calls kept i list)) w
+    ∙ over_put A (words_of x) list (5 * i) n (sym a) f
     ∙ ap (λ (l : List ℕ). overwritten l list) (sym (concat_more xs x))
     ∙ ap (λ (zs : List Call). overwritten (concat_map words_of zs) list) all
 
 -- ---- the words of a call, as a part of the list
 
-pub five_words : (calls : List ℕ) (k : ℕ) → k < length calls / 5 → length (take (5 * k + 5 - 5 * k) (drop (5 * k) calls)) ≡ 5
-five_words calls k h =
-    let e : 5 * k + 5 - 5 * k ≡ 5 = omega arith in
-    rw e (length-take-le 5 (drop (5 * k) calls) (rw length-drop (omega arith)))
+pub five_words : (calls : List ℕ) (k at : ℕ) → at ≡ 5 * k → k < length calls / 5 → length (take (at + 5 - at) (drop at calls)) ≡ 5
+five_words calls k at e h =
+    let n : at + 5 - at ≡ 5 = omega arith in
+    rw n (length-take-le 5 (drop at calls) (rw length-drop (omega (arith, e))))
 
-pub five_part : (calls : List ℕ) (k : ℕ) → take (5 * k + 5 - 5 * k) (drop (5 * k) calls) ≡ take 5 (drop (5 * k) calls)
-five_part calls k = let e : 5 * k + 5 - 5 * k ≡ 5 = omega arith in ap (λ (j : ℕ). take j (drop (5 * k) calls)) e
+pub five_part : (calls : List ℕ) (k at : ℕ) → at ≡ 5 * k → take (at + 5 - at) (drop at calls) ≡ take 5 (drop (5 * k) calls)
+five_part calls k at e =
+    let n : at + 5 - at ≡ 5 = omega arith in
+    ap (λ (j : ℕ). take j (drop at calls)) n ∙ ap (λ (j : ℕ). take 5 (drop j calls)) e
 
--- ---- what is tried, by the numbers kept
+-- ---- the numbers at the front
 
--- without the one at `at` of the first count
-pub tried_without : (calls kept : List ℕ) (at count : ℕ) → at < count → calls_at calls (tried kept at (count - 1)) ≡ without at (calls_at calls (take count kept))
-tried_without calls kept at count h =
-    let e : suc (count - 1) ≡ count = omega arith in
-    ap (calls_at calls) (take_without at (count - 1) kept (omega arith) ∙ ap (λ (n : ℕ). without at (take n kept)) e)
-    ∙ map_without (call_numbered calls) at (take count kept)
-
--- as sent
-pub tried_all : (calls kept : List ℕ) (n : ℕ) → calls_at calls (tried kept n n) ≡ calls_at calls (take n kept)
-tried_all calls kept n = ap (calls_at calls) (take_before n kept)
-
-module _ (calls kept : List ℕ) (n : ℕ) (h : Numbered calls kept n) where
-  pub tries_without : (at count : ℕ) → count ≤ n → at + 1 < count → Tries calls kept at (count - 1)
-  tries_without at count l s =
-      let f = h.fits in
-      let q = h.few in
-      record {
-        fits = omega (arith, without_length at kept (omega arith));
-        few = omega arith;
-        places = λ i k. go i (ltb i at) refl k;
-        numbers = λ i k. num i (ltb i at) refl k;
-      }
-    where
-      go : (i : ℕ) (t : Bool) → ltb i at ≡ t → i < count - 1 → (t ⇒ i else (i + 1)) < length kept
-      go i true e k = omega (arith, h.fits)
-      go i false e k = omega (arith, h.fits)
-
-      num : (i : ℕ) (t : Bool) → ltb i at ≡ t → i < count - 1 → get_or kept (t ⇒ i else (i + 1)) 0 < length calls / 5
-      num i true e k = h.numbers i (omega arith)
-      num i false e k = h.numbers (i + 1) (omega arith)
-
-  pub tries_all : Tries calls kept n n
-  tries_all = record {
-    fits = fits_all (ltb n (length kept)) refl;
-    few = omega (arith, h.few);
-    places = λ i k. rw (lt-ltb i n k) (omega (arith, h.fits));
-    numbers = λ i k. rw (lt-ltb i n k) (h.numbers i k);
-  }
-    where
-      fits_all : (t : Bool) → ltb n (length kept) ≡ t → n ≤ length (without n kept)
-      fits_all true e = omega (arith, without_length n kept (ltb-true n (length kept) e), ltb-true n (length kept) e)
-      fits_all false e = rw (without_most n kept (ltb-false n (length kept) e)) h.fits
+pub front_numbered : (calls kept : List ℕ) (n : ℕ) → Numbered calls kept n → Numbered calls (take n kept) (length (take n kept))
+front_numbered calls kept n h =
+    let m = length-take-le n kept h.fits in
+    record {
+      fits = omega arith;
+      few = omega (arith, h.few);
+      numbers = λ i l. rw (get_or-take n kept i 0 (omega arith)) (h.numbers i (omega arith));
+    }
 
 -- ---- after a trial
 
@@ -301,7 +315,7 @@ module _ (calls kept kept' : List ℕ) (s r : Trying) (wanted got : ℕ) (h : Nu
             less = omega (arith, y.0, y.1);
           }
 
-  pub search_step : (code : List Call → ℕ) (runs : ℕ) → got ≡ code (calls_at calls (tried kept s.at (s.count - 1)))
+  pub search_step : (code : List Call → ℕ) (runs : ℕ) → got ≡ code (calls_at calls (left_out (Some s.at) (take s.count kept)))
       → searching code wanted s.at (calls_at calls (take s.count kept)) runs ≡ searching code wanted r.at (calls_at calls (take r.count kept')) (runs + 1)
   search_step code runs e = go (got == wanted) refl
     where
@@ -312,7 +326,7 @@ module _ (calls kept kept' : List ℕ) (s r : Trying) (wanted got : ℕ) (h : Nu
       many = calls_many calls kept s.count h
 
       codes : got ≡ code (without s.at (calls_at calls (take s.count kept)))
-      codes = e ∙ ap code (tried_without calls kept s.at s.count (omega arith))
+      codes = e ∙ ap code (map_without (call_numbered calls) s.at (take s.count kept))
 
       go : (t : Bool) → (got == wanted) ≡ t
           → searching code wanted s.at (calls_at calls (take s.count kept)) runs ≡ searching code wanted r.at (calls_at calls (take r.count kept')) (runs + 1)

@@ -1,6 +1,5 @@
 -- A list that is tried: the calls of some numbers, one of them left out, and the code of its last call.
-use Rattle.std.specs.Prelude.{ℕ, ◌+◌, ◌/◌, ◌≤◌, ◌<◌, ◌≡◌, true, List, [], ◌∷◌, map, ltb, length, get_or, take}
-use Rattle.lists.specs.Choice.{◌⇒◌else◌}
+use Rattle.std.specs.Prelude.{ℕ, ◌/◌, ◌≤◌, ◌<◌, ◌≡◌, true, List, [], ◌∷◌, Option, Some, None, map, length, get_or}
 use Rattle.graph.specs.Graph.{Graph}
 use Rattle.history.specs.Machine.{fresh}
 use Rattle.image.specs.Image.{loadable}
@@ -29,20 +28,10 @@ call_numbered calls k = get_or (calls_of calls) k (call_at [])
 abbrev pub calls_at : List ℕ → List ℕ → List Call
 calls_at calls ks = map (call_numbered calls) ks
 
--- the first n numbers that are kept, without the one at `skip`
-abbrev pub tried : List ℕ → ℕ → ℕ → List ℕ
-tried kept skip n = take n (without skip kept)
-
--- where the i-th of them stands
-abbrev pub place_of : ℕ → ℕ → ℕ
-place_of i skip = ltb i skip ⇒ i else (i + 1)
-
--- there are so many, and each is the number of a call
-pub record Tries (calls kept : List ℕ) (skip n : ℕ) : Type 0 where
-  pub fits : n ≤ length (without skip kept)
-  pub few : n < 20001
-  pub places : (i : ℕ) → i < n → place_of i skip < length kept
-  pub numbers : (i : ℕ) → i < n → get_or kept (place_of i skip) 0 < length calls / 5
+-- the numbers that are kept, without the one at `skip`
+abbrev pub left_out : Option ℕ → List ℕ → List ℕ
+left_out None kept = kept
+left_out (Some skip) kept = without skip kept
 
 -- the first n numbers that are kept are those of calls
 pub record Numbered (calls kept : List ℕ) (n : ℕ) : Type 0 where

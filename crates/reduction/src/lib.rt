@@ -2,8 +2,7 @@
 // code.
 #![tactic(auto)]
 
-ghost use Rattle.std.specs.Prelude.{◌≡◌, true, false, [], ◌∷◌, ◌++◌, ◌+◌, ◌-◌, ◌*◌, ◌/◌, ◌≤◌, ◌<◌, length, get_or, take, drop};
-ghost use Rattle.std.proofs.lemmas.List.Edits.{sets};
+ghost use Rattle.std.specs.Prelude.{◌≡◌, ◌≢◌, true, false, ◌++◌, ◌+◌, ◌-◌, ◌*◌, ◌≤◌, ◌<◌, length, take, drop};
 ghost use Rattle.lists.specs.Lists.{overwritten, range, concat_map, without};
 ghost use Rattle.history.specs.Machine.{Machine};
 ghost use Rattle.image.specs.Image.{load};
@@ -14,56 +13,62 @@ ghost use Rattle.history_calls.specs.Memory.{memory};
 ghost use Rattle.engine.specs.Running.{Running, Runs};
 ghost use Rattle.engine.specs.Outcomes.{lent};
 ghost use Rattle.reduction.specs.Reduction.{reduced as reduced_of};
-ghost use Rattle.reduction.specs.Trials.{last_of, last_code, calls_at, tried, place_of, Tries, Numbered, CanTry, Ready};
-ghost use Rattle.reduction.specs.Outcomes.{words_of, too_long, after_reduction, reduction, Untouched, IsLeast, Searched};
+ghost use Rattle.reduction.specs.Trials.{last_of, last_code, calls_at, left_out, Numbered, CanTry, Ready};
+ghost use Rattle.reduction.specs.Outcomes.{words_of, too_long, after_reduction, reduction, refused_reduction};
+ghost use Rattle.reduction.specs.Outcomes.{Untouched, IsLeast, Searched};
 ghost use Rattle.lists.specs.Slices.{slice};
 
 use engine::begin::begin;
 use engine::calls::one;
+use engine::list_refusal::ListRefusal;
 use engine::refusals::refusal;
 use history_calls::Store;
 use type_rows::closure;
 
-// The code, the calls kept, the runs made. Of a refused list `kept` is the number beside its code.
+const MOST_CALLS: usize = 20000;
+
+/// What a reduction returns. The layout is that of include/futtockfig.h.
 #[repr(C)]
 #[derive(Clone, Copy, Debug, PartialEq, Eq)]
 pub struct Reduction {
+    /// 0, or why the list is refused.
     pub code: u32,
+    /// How many calls are kept; of a refused list the number beside its code.
     pub kept: usize,
+    /// How many runs were made; of a refused list 0.
     pub runs: usize,
 }
 
-// The calls that are still kept, and the one that is tried next.
+impl From<ListRefusal> for Reduction {
+    ghost from_gives = { λ r result. result ≡ refused_reduction r };
+
+    fn from(refusal: ListRefusal) -> Reduction {
+        Reduction {
+            code: refusal.code(),
+            kept: refusal.number(),
+            runs: 0,
+        }
+    }
+}
+
+/// How many calls are still kept, and which of them is tried next.
 #[derive(Clone, Copy, Debug, PartialEq, Eq)]
 pub struct Trying {
     pub count: usize,
     pub at: usize,
 }
 
-// The number i of each of n calls, at the front.
-fn number_calls(kept: &mut [u32], n: usize)
-    requires { (n ≤ length kept.old) × (n ≤ 20000) }
-    ensures { kept.new ≡ overwritten (range n) kept.old }
+// The number i of each call.
+fn number_calls(kept: &mut [u32])
+    requires { length kept.old ≤ 20000 }
+    ensures { kept.new ≡ range (length kept.old) }
 {
-    let mut i = 0;
-    while i < n {
+    for i in 0..kept.len() {
         kept[i] = i as u32;
-        i += 1;
     }
 }
 
-// The place of the i-th number where the one at `skip` is left out.
-fn place(i: usize, skip: usize) -> usize
-    requires { i < 20000 }
-    ensures { result ≡ place_of i skip }
-{
-    if i < skip {
-        return i;
-    }
-    i + 1
-}
-
-// Runs n of the calls whose numbers are kept, without the one at `skip`: the code of the last one, 0 without any.
+// Runs the calls whose numbers are kept, without the one at `skip`: the code of the last one, 0 without any.
 fn last_code(
     store: Store,
     vertices: &mut [u32],
@@ -74,21 +79,21 @@ fn last_code(
     types: u32,
     calls: &[u32],
     kept: &[u32],
-    skip: usize,
-    n: usize,
+    skip: Option<usize>,
 ) -> u32
     requires runs { Runs store vertices.old edges.old journal.old marks.old closed.now types }
-    requires tries { Tries calls.now kept.now skip n }
+    requires numbered { Numbered calls.now kept.now (length kept.now) }
     ensures { (w : Parameters) → (m : Machine)
         → Running w store (memory vertices.old edges.old journal.old marks.old) closed.now types m
-        → result ≡ last_of 0 (answers_of w m (calls_at calls.now (tried kept.now skip n))) }
+        → result ≡ last_of 0 (answers_of w m (calls_at calls.now (left_out skip kept.now))) }
 {
     let mut y = store;
     let mut code = 0;
-    let mut i = 0;
-    while i < n {
-        let j = place(i, skip);
-        let k = kept[j] as usize;
+    for i in 0..kept.len() {
+        if skip == Some(i) {
+            continue;
+        }
+        let at = 5 * kept[i] as usize;
         let done = one(
             y,
             vertices,
@@ -97,11 +102,10 @@ fn last_code(
             marks,
             closed,
             types,
-            &calls[5 * k..5 * k + 5],
+            &calls[at..at + 5],
         );
         y = done.store;
         code = done.answer.code;
-        i += 1;
     }
     code
 }
@@ -116,53 +120,45 @@ fn trial(
     types: u32,
     calls: &[u32],
     kept: &[u32],
-    skip: usize,
-    n: usize,
+    skip: Option<usize>,
 ) -> u32
     requires can_try { CanTry start.now vertices.old edges.old journal.old closed.now types }
-    requires tries { Tries calls.now kept.now skip n }
+    requires numbered { Numbered calls.now kept.now (length kept.now) }
     ensures { (w : Parameters) → Ready w start.now vertices.old edges.old journal.old closed.now types
-        → result ≡ last_code w (load start.now)
-        (calls_at calls.now (tried kept.now skip n)) }
+        → result ≡ last_code w (load start.now) (calls_at calls.now (left_out skip kept.now)) }
 {
-    let x = begin(start, vertices, edges);
+    let begun = begin(start, vertices, edges);
     let mut marks = [0u32; marks::WORDS];
     last_code(
-        x, vertices, edges, journal, &mut marks, closed, types, calls, kept, skip, n,
+        begun, vertices, edges, journal, &mut marks, closed, types, calls, kept, skip,
     )
 }
 
-// Drops the number at `at` of the first `count`: those behind it move down by one.
-fn drop_call(kept: &mut [u32], at: usize, count: usize)
-    requires { (at < count) × (count ≤ length kept.old) }
-    ensures { kept.new
-        ≡ without at (take count kept.old) ++ drop (count - 1) kept.old }
+// Drops the number at `at`: those behind it move down by one. The last word stays.
+fn drop_call(kept: &mut [u32], at: usize)
+    requires { at < length kept.old }
+    ensures { kept.new ≡ without at kept.old ++ drop (length kept.old - 1) kept.old }
 {
-    let mut i = at;
-    while i + 1 < count {
-        kept[i] = kept[i + 1];
-        i += 1;
-    }
+    kept.copy_within(at + 1.., at);
 }
 
 // After a trial: the call is dropped and the search begins again, or the next one is tried.
 fn next_search(kept: &mut [u32], s: Trying, alike: bool) -> Trying
-    requires { (s.at < s.count) × (s.count ≤ length kept.old) }
-    ensures count_value { alike ≡ true → (result.count ≡ s.count - 1) × (result.at ≡ 0) × (kept.new
+    requires at { s.at < s.count }
+    requires count { s.count ≤ length kept.old }
+    ensures dropped { alike ≡ true → (result.count ≡ s.count - 1) × (result.at ≡ 0) × (kept.new
         ≡ without s.at (take s.count kept.old) ++ drop (s.count - 1) kept.old) }
-    ensures count_value_2 { alike ≡ false → (result.count ≡ s.count) × (result.at ≡ s.at + 1)
+    ensures needed { alike ≡ false → (result.count ≡ s.count) × (result.at ≡ s.at + 1)
         × (kept.new ≡ kept.old) }
 {
     if alike {
-        drop_call(kept, s.at, s.count);
-        return Trying {
+        drop_call(&mut kept[..s.count], s.at);
+        Trying {
             count: s.count - 1,
             at: 0,
-        };
-    }
-    Trying {
-        count: s.count,
-        at: s.at + 1,
+        }
+    } else {
+        Trying { at: s.at + 1, ..s }
     }
 }
 
@@ -177,17 +173,20 @@ fn search(
     calls: &[u32],
     kept: &mut [u32],
     wanted: u32,
-    n: usize,
 ) -> Reduction
     requires can_try { CanTry start.now vertices.old edges.old journal.old closed.now types }
-    requires numbered { Numbered calls.now kept.old n }
+    requires numbered { Numbered calls.now kept.old (length kept.old) }
     ensures { (w : Parameters) → Ready w start.now vertices.old edges.old journal.old closed.now types
-        → wanted ≡ last_code w (load start.now) (calls_at calls.now (take n kept.old))
-        → Searched calls.now kept.new n result (reduced_of (last_code w (load start.now))
-        (calls_at calls.now (take n kept.old))) }
+        → wanted ≡ last_code w (load start.now) (calls_at calls.now kept.old)
+        → Searched calls.now kept.new (length kept.old) result (reduced_of (last_code w (load start.now))
+        (calls_at calls.now kept.old)) }
 {
-    let mut s = Trying { count: n, at: 0 };
+    let mut s = Trying {
+        count: kept.len(),
+        at: 0,
+    };
     let mut runs = 1;
+    // Two numbers end it, and the second goes back to 0: `for` is no plainer.
     while s.at + 1 < s.count {
         let code = trial(
             start,
@@ -197,9 +196,8 @@ fn search(
             closed,
             types,
             calls,
-            kept,
-            s.at,
-            s.count - 1,
+            &kept[..s.count],
+            Some(s.at),
         );
         s = next_search(kept, s, code == wanted);
         runs += 1;
@@ -211,31 +209,15 @@ fn search(
     }
 }
 
-// One call's five words.
-fn copy_call(list: &mut [u32], to: usize, calls: &[u32], from: usize)
-    requires { (to + 5 ≤ length list.old) × (from + 5 ≤ length calls.now) }
-    ensures { list.new ≡ sets list.old to (get_or calls.now from 0
-        ∷ get_or calls.now (from + 1) 0 ∷ get_or calls.now (from + 2) 0
-        ∷ get_or calls.now (from + 3) 0 ∷ get_or calls.now (from + 4) 0 ∷ []) }
+// The calls of the numbers that are kept, to the front of the lent list.
+fn write_calls(list: &mut [u32], calls: &[u32], kept: &[u32])
+    requires numbered { Numbered calls.now kept.now (length kept.now) }
+    requires room { 5 * length kept.now ≤ length list.old }
+    ensures { list.new ≡ overwritten (concat_map words_of (calls_at calls.now kept.now)) list.old }
 {
-    list[to] = calls[from];
-    list[to + 1] = calls[from + 1];
-    list[to + 2] = calls[from + 2];
-    list[to + 3] = calls[from + 3];
-    list[to + 4] = calls[from + 4];
-}
-
-// The calls of the first n numbers, to the front of the lent list.
-fn write_calls(list: &mut [u32], calls: &[u32], kept: &[u32], n: usize)
-    requires { Numbered calls.now kept.now n × (5 * n ≤ length list.old) }
-    ensures { list.new ≡ overwritten
-        (concat_map words_of (calls_at calls.now (take n kept.now))) list.old }
-{
-    let mut i = 0;
-    while i < n {
-        let k = kept[i] as usize;
-        copy_call(list, 5 * i, calls, 5 * k);
-        i += 1;
+    for i in 0..kept.len() {
+        let at = 5 * kept[i] as usize;
+        list[5 * i..5 * i + 5].copy_from_slice(&calls[at..at + 5]);
     }
 }
 
@@ -260,27 +242,23 @@ fn reduced(
 {
     let closed = closure(rows);
     let types = rows.len() as u32;
-    let n = calls.len() / 5;
-    number_calls(answers, n);
+    let kept = &mut answers[..calls.len() / 5];
+    number_calls(kept);
     let wanted = trial(
-        start, vertices, edges, journal, &closed, types, calls, answers, n, n,
+        start, vertices, edges, journal, &closed, types, calls, kept, None,
     );
     if wanted == 0 {
-        return Reduction {
-            code: 115,
-            kept: 0,
-            runs: 0,
-        };
+        return Reduction::from(ListRefusal::NoFailure);
     }
-    let r = search(
-        start, vertices, edges, journal, &closed, types, calls, answers, wanted, n,
+    let found = search(
+        start, vertices, edges, journal, &closed, types, calls, kept, wanted,
     );
-    write_calls(list, calls, answers, r.kept);
-    r
+    write_calls(list, calls, &kept[..found.kept]);
+    found
 }
 
-// The result and the lent list are those of the specification, whatever is lent; image is only measured. Refused by a
-// code of the run or by 114, nothing is written; else what tables, journal and answers hold is left open.
+/// The result and the lent list are those of the specification, whatever is lent; image is only measured. Refused by a
+/// code of the run or by 114, nothing is written; else what tables, journal and answers hold is left open.
 pub fn reduce(
     start: &[u32],
     rows: &[u64],
@@ -298,7 +276,7 @@ pub fn reduce(
         (slice journal.old journal.new) (slice answers.old answers.new) }
     ensures least { IsLeast (lent start.now rows.now calls.now vertices.old edges.old journal.old answers.old image.now) result list.new }
 {
-    let refused = refusal(
+    if let Err(refused) = refusal(
         start,
         rows,
         calls.len(),
@@ -307,27 +285,11 @@ pub fn reduce(
         journal.len(),
         answers.len(),
         image.len(),
-    );
-    if refused.code != 0 {
-        return Reduction {
-            code: refused.code,
-            kept: refused.number as usize,
-            runs: 0,
-        };
+    ) {
+        return Reduction::from(refused);
     }
-    if 20000 < calls.len() / 5 {
-        return Reduction {
-            code: 114,
-            kept: 0,
-            runs: 0,
-        };
-    }
-    if list.len() < calls.len() {
-        return Reduction {
-            code: 114,
-            kept: 0,
-            runs: 0,
-        };
+    if MOST_CALLS < calls.len() / 5 || list.len() < calls.len() {
+        return Reduction::from(ListRefusal::BadList);
     }
     reduced(
         start, rows, calls, vertices, edges, journal, answers, image, list,

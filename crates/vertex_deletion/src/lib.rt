@@ -35,7 +35,7 @@ fn cost_of(tables: &Tables<'_>, a: u32) -> u32
     ensures { (head : Head) → (b : Bounds) → (g : Graph) → Holds (state_of head tables.now) g
         → Allowed b g (Change.DeleteVertex a) → result ≡ cost (Change.DeleteVertex a) g }
 {
-    walks::counting::count_edges(tables.vertices, tables.edges, a) + 1
+    walks::counting::count_edges(tables, a) + 1
 }
 
 // Takes edge n out, as one row of a step of this cost.

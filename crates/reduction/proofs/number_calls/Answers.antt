@@ -1,42 +1,19 @@
-use mathlib.Core.Path.{◌≡◌, refl, ap, ◌∙◌}
+use mathlib.Core.Path.{◌≡◌, ap, ◌∙◌}
+use mathlib.Core.List.{List, ◌++◌, append-nil}
 use native.Mathlib.Omega.{arith}
-use lib.ListN.{length-set}
+use Prim.Native.Nat.{ℕ}
+use lib.ListN.{length, drop_of_length-le}
 use Rattle.lists.specs.Lists.{range, overwritten}
-use Rattle.lists.proofs.Ranges.{range_more}
+use Rattle.lists.proofs.Ranges.{range_length, range_more}
 use Rattle.reduction.proofs.number_calls.Goals as goal
 
-pub loop-i-init : goal.loop-i-init
-loop-i-init c = (omega arith, refl, refl)
-
 pub loop-i-preserved : goal.loop-i-preserved
-loop-i-preserved c =
-    let l = c.loop-i in
-    let a = c.args in (
-      omega arith,
-      length-set l.kept l.i l.i ∙ l.invariant.1,
-      rw l.invariant.2 (range_more l.i a.kept.now (omega arith)),
-    )
-
-pub shape_of-kept : goal.shape_of-kept
-shape_of-kept c = c.loop-i.invariant.1
+loop-i-preserved c = rw c.loop-i.invariant (range_more c.loop-i.i c.args.kept.now (omega arith))
 
 pub returns : goal.returns
 returns c =
-    let l = c.loop-i in
-    let e : l.i ≡ c.args.n = omega arith in
-    l.invariant.2 ∙ ap (λ n. overwritten (range n) c.args.kept.now) e
-
-pub overflow_cast-kept : goal.overflow_cast-kept
-overflow_cast-kept c = omega arith
-
-pub offset_bounds-kept-i : goal.offset_bounds-kept-i
-offset_bounds-kept-i c = omega arith
-
-pub bounds-kept-i : goal.bounds-kept-i
-bounds-kept-i c = omega arith
-
-pub overflow_add-i : goal.overflow_add-i
-overflow_add-i c = omega arith
-
-pub loop-i-smaller : goal.loop-i-smaller
-loop-i-smaller c = omega arith
+    let kept = c.args.kept.now in
+    let n = length kept in
+    let e : c.loop-i.i ≡ n = omega arith in
+    c.loop-i.invariant ∙ ap (λ (i : ℕ). overwritten (range i) kept) e
+    ∙ ap (λ (l : List ℕ). range n ++ l) (drop_of_length-le kept (omega (arith, range_length n))) ∙ append-nil (range n)
