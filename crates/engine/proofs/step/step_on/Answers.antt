@@ -79,9 +79,3 @@ returns-in-Unknown c =
       leaves = λ z. (ap (λ (d : Called). d.store) c.answer.ensures, refl);
       same_loan = record { vertices = refl; edges = refl; vertices_length = refl; edges_length = refl };
     }
-
-pub overflow_sub-free : goal.overflow_sub-free
-overflow_sub-free c = c.requires.1.0
-
-pub overflow_sub-free-in-History : goal.overflow_sub-free-in-History
-overflow_sub-free-in-History c = c.requires.1.0
