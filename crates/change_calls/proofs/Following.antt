@@ -63,6 +63,12 @@ cut_nothing p n set places ms e h f =
 pub altered_by : (c : Change) (types free : ℕ) (x : Store) (mem mem' : Memory) {d d' : Called} → d ≡ d' → DoesChange c types free x mem d' mem' → DoesChange c types free x mem d mem'
 altered_by c types free x mem mem' e a = subst (λ (z : Called). DoesChange c types free x mem z mem') (sym e) a
 
+-- the journal was written through the room
+pub written_back : {c : Change} {types free : ℕ} {x : Store} {mem : Memory} {d : Called} {vertices edges t t' marks : List ℕ} → t ≡ t'
+    → DoesChange c types free x mem d (memory vertices edges t' marks) → DoesChange c types free x mem d (memory vertices edges t marks)
+written_back {c = c} {types = types} {free = free} {x = x} {mem = mem} {d = d} {vertices = vertices} {edges = edges} {marks = marks} e a =
+    subst (λ (t : List ℕ). DoesChange c types free x mem d (memory vertices edges t marks)) (sym e) a
+
 module _ (c : Change) (types free : ℕ) (x : Store) (mem : Memory) (code n : ℕ) (s' : State) (t' : List ℕ)
     (r : Attempts c types free x.current.position (tables_of x mem) mem.journal code n s' t') where
   abbrev after : Memory
@@ -111,7 +117,7 @@ module _ (c : Change) (types free : ℕ) (x : Store) (mem : Memory) (code n : �
       sign_fits = omega (arith, (step.steps 0).rows.within, (step.steps 0).rows.upto, signed_length x.current.position.used 0 t', y)
 
       step_follows : (capacity : ℕ) → free ≡ free_of capacity m.line → (x' : Store) → x'.current ≡ after_step x.current.position s'.head n → x'.bench ≡ x.bench
-          → Marked (cut_marks x.current.position.place m.marks) x'.set mem.marks → ByRule capacity x' 0 n step_after
+          → Marked (cut_marks x.current.position.place m.marks) x'.set.bits mem.marks → ByRule capacity x' 0 n step_after
       step_follows capacity q x' f w k =
           let u : deed (cost c (present m)) (steps (step_of m.bench c (present m))) ≡ change_deed c m = sym (ap deed_by step.alters_graph) in
           accepted (change_rule b capacity c) m b x' step_after n (sym ((r.comes b m e h.journal).coded capacity q) ∙ r.accepts y) (step.costs ∙ ap (λ (d : Deed). d.number) u)
@@ -120,7 +126,7 @@ module _ (c : Change) (types free : ℕ) (x : Store) (mem : Memory) (code n : �
                 (subst (λ (i : ℕ). Journal b (after_step x.current.position s'.head n).position s' (signed x.current.position.used x.bench t')
                 (extended (step_of i c (present m)) m.line)) h.bench (step.steps x.bench));
             bench = w ∙ h.bench;
-            marks = subst (λ (p : ℕ). Marked (cut_marks p m.marks) x'.set mem.marks) h.journal.place k;
+            marks = subst (λ (p : ℕ). Marked (cut_marks p m.marks) x'.set.bits mem.marks) h.journal.place k;
             names = cut_named m.marks m.names mem.marks m.line.place h.names;
             inside = λ i p z. omega (arith, left_low m.line.place p (m.marks i) z, length_cut m.line.place m.line.steps (step_of m.bench c (present m)) h.journal.inside);
           }))
@@ -131,8 +137,8 @@ module _ (c : Change) (types free : ℕ) (x : Store) (mem : Memory) (code n : �
 
   -- the change is a step, signed, and the marks are cut
   pub change_made : n ≢ 0 → (x' : Store) → x'.current ≡ after_step x.current.position s'.head n → x'.bench ≡ x.bench
-      → ((ms : ℕ → MarkPlace) → Marked ms x.set mem.marks → ((k q : ℕ) → ms k ≡ at q → q ≤ x.current.position.steps)
-      → Marked (cut_marks x.current.position.place ms) x'.set mem.marks)
+      → ((ms : ℕ → MarkPlace) → Marked ms x.set.bits mem.marks → ((k q : ℕ) → ms k ≡ at q → q ≤ x.current.position.steps)
+      → Marked (cut_marks x.current.position.place ms) x'.set.bits mem.marks)
       → (t'' : List ℕ) → t'' ≡ signed x.current.position.used x.bench t' → DoesChange c types free x mem (done x' 0 n) (memory s'.vertices s'.edges t'' mem.marks)
   change_made y x' f w cuts t'' v = subst (λ (t : List ℕ). DoesChange c types free x mem (done x' 0 n) (memory s'.vertices s'.edges t mem.marks)) (sym v) (record {
     follows = λ b m n e h q. step_follows b m e h y n q x' f w (cuts m.marks h.marks (mark_steps b x mem m h));

@@ -1,4 +1,5 @@
-// Every call of a list, one after another.
+// Every call of a list, one after another. What is lent stays slices of words, as a caller has them: `step` makes one of
+// the two tables.
 ghost use Rattle.std.specs.Prelude.{◌≡◌, ℕ, ◌*◌, ◌/◌, ◌≤◌, length, List};
 ghost use Rattle.history.specs.Machine.{Machine};
 ghost use Rattle.machine.specs.Calls.{Parameters};

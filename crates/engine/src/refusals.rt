@@ -1,4 +1,5 @@
-// The refusals of a list: the first test in turn that it does not pass. Nothing is written.
+// The refusals of a list: the first test in turn that it does not pass. Nothing is written. Runs of one store, of
+// several, recorded ones and reductions each have steps of their own: what they share are these tests.
 ghost use Rattle.std.specs.Prelude.{◌≡◌};
 ghost use Rattle.lists.specs.Choice.{within};
 ghost use Rattle.machine.specs.Run.{Lent, list_refusal, list_number};
@@ -14,7 +15,7 @@ use type_rows::are_good;
 pub fn at_most(most: u32, n: usize) -> bool
     ensures { result ≡ within 1 most n }
 {
-    1 <= n && n <= most as usize
+    (1..=most as usize).contains(&n)
 }
 
 /// Whether each capacity is one that a run may have.

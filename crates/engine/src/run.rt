@@ -1,4 +1,4 @@
-// A run: what is lent, the calls, the result.
+// A run: what is lent, the calls, the result. The C interface lends eight slices and is told a record of three numbers.
 ghost use Rattle.std.specs.Prelude.{◌≡◌};
 ghost use Rattle.machine.specs.Demands.{Demand2};
 ghost use Rattle.machine.specs.Run.{list_refusal, accepted as accepted_of, run as run_of};

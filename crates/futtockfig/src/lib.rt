@@ -1,5 +1,6 @@
 // The run of one store and of several, the parts of an image, the page, the comparison of two images, calls for an
 // order, the recorded run and the reduction of a list, for programs in C and Rust: include/futtockfig.h says it in C.
+// A result that C is told is a flat record with a code in it.
 #![tactic(auto)]
 
 ghost use Rattle.std.specs.Prelude.{◌≡◌, length};

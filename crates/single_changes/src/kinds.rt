@@ -45,7 +45,7 @@ fn edge_words(tables: &Tables<'_>, n: u32) -> EdgeWords
     }
 }
 
-/// Kind 1.
+/// Kind 1: a new vertex, last in its order.
 #[inline(always)]
 pub fn create_vertex(
     tables: &mut Tables<'_>,
@@ -73,7 +73,7 @@ pub fn create_vertex(
     )
 }
 
-/// Kind 3.
+/// Kind 3: a new edge, untested, last in its order and in the lists of its ends.
 #[inline(always)]
 pub fn create_edge(
     tables: &mut Tables<'_>,
@@ -103,7 +103,7 @@ pub fn create_edge(
     tried_edits::insert_edge(tables, head, room, n, a, z, sort, at)
 }
 
-/// Kind 4.
+/// Kind 4: an edge goes.
 #[inline(always)]
 pub fn delete_edge(
     tables: &mut Tables<'_>,
@@ -121,7 +121,7 @@ pub fn delete_edge(
     tried_edits::remove_edge(tables, head, room, n, removed_edge(tables, n))
 }
 
-/// Kind 5.
+/// Kind 5: another type of a vertex.
 #[inline(always)]
 pub fn retype_vertex(
     tables: &mut Tables<'_>,
@@ -142,7 +142,7 @@ pub fn retype_vertex(
     tried_edits::set_vertex(tables, head, room, n, old, VertexWords { sort, ..old })
 }
 
-/// Kind 6.
+/// Kind 6: another type of an edge.
 #[inline(always)]
 pub fn retype_edge(
     tables: &mut Tables<'_>,
@@ -163,7 +163,7 @@ pub fn retype_edge(
     tried_edits::set_edge(tables, head, room, n, old, EdgeWords { sort, ..old })
 }
 
-/// Kind 7.
+/// Kind 7: another value of a vertex.
 #[inline(always)]
 pub fn set_value(
     tables: &mut Tables<'_>,
@@ -183,7 +183,7 @@ pub fn set_value(
     tried_edits::set_vertex(tables, head, room, n, old, VertexWords { value, ..old })
 }
 
-/// Kind 8.
+/// Kind 8: another reading of an edge.
 #[inline(always)]
 pub fn set_reading(
     tables: &mut Tables<'_>,

@@ -1,5 +1,5 @@
-// Kinds 9 to 16: a word that goes to another vertex, and what moves in its order. Each pair of kinds that differ in a side
-// is one function.
+// Kinds 9 to 16: a word that goes to another vertex, and what moves in its order, as in kinds.rt. Each pair of kinds that
+// differ in a side is one function. Vertices, edges and words stay apart, as their tables, rows and codes do.
 ghost use Rattle.std.specs.Prelude.{◌≡◌};
 ghost use Rattle.lists.specs.Choice.{◌⇒◌else◌};
 ghost use Rattle.graph_tables.specs.Tables.{state_of, SameLoan, HalfRowIn, wprev, wthis};
@@ -47,7 +47,7 @@ fn word_place(tables: &Tables<'_>, w: u32) -> WordPlace
     }
 }
 
-/// Kind 9, and kind 10 for the in word: a word of edge e goes last in the list of u.
+/// Kind 9: the out word of edge e goes last in the list of u; kind 10: the in word.
 #[inline(always)]
 pub fn set_end<const IN: bool>(
     tables: &mut Tables<'_>,
@@ -72,7 +72,7 @@ pub fn set_end<const IN: bool>(
     tried_edits::move_word(tables, head, room, w, old, new)
 }
 
-/// Kind 11, and kind 12 for after.
+/// Kind 11: vertex a goes right before b; kind 12: right after it.
 #[inline(always)]
 pub fn order_vertex<const AFTER: bool>(
     tables: &mut Tables<'_>,
@@ -93,7 +93,7 @@ pub fn order_vertex<const AFTER: bool>(
     tried_edits::move_vertex(tables, head, room, a, old, new)
 }
 
-/// Kind 13, and kind 14 for after.
+/// Kind 13: edge a goes right before b; kind 14: right after it.
 #[inline(always)]
 pub fn order_edge<const AFTER: bool>(
     tables: &mut Tables<'_>,
@@ -114,7 +114,7 @@ pub fn order_edge<const AFTER: bool>(
     tried_edits::move_edge(tables, head, room, a, old, new)
 }
 
-/// Kind 15, and kind 16 for after.
+/// Kind 15: word a goes right before b in their list; kind 16: right after it.
 #[inline(always)]
 pub fn order_word<const AFTER: bool>(
     tables: &mut Tables<'_>,

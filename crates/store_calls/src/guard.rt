@@ -45,7 +45,11 @@ fn next_place(place: u32, steps: u32) -> Option<u32>
     requires { place ≤ steps }
     ensures { unwrap_or result place ≡ next_place place steps }
 {
-    if place == steps { None } else { Some(place + 1) }
+    if place == steps {
+        None
+    } else {
+        Some(place + 1)
+    }
 }
 
 /// The place that a redo, or a call to a mark or a name, leads to, where there is one; none of any other call.

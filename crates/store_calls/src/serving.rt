@@ -11,10 +11,11 @@ use history_calls::Store;
 fn is_store(number: u32, stores: usize) -> bool
     ensures { result ≡ within 1 stores number }
 {
-    1 <= number && number as usize <= stores
+    (1..=stores).contains(&(number as usize))
 }
 
-/// The place of a store among them; the first where there is no such store.
+/// The place of a store among them; the first where there is no such store. Not an Option: a call of a store that is not
+/// there goes the same way through the loop, and `answer` refuses it.
 fn slot(number: u32, stores: usize) -> usize
     requires { 1 ≤ stores }
     ensures value { result ≡ slot_of number stores }
@@ -58,6 +59,7 @@ pub fn serve(
     let mut all = first;
     let mut room = joint;
     let mut k = 0;
+    // Not a `for`: as many calls as one loop answered are passed over.
     while k < n {
         let number = calls[6 * k];
         let there = is_store(number, stores);

@@ -1,4 +1,5 @@
-// A run of several stores: what is lent, the calls, the result.
+// A run of several stores: what is lent, the calls, the result. The C interface lends eight slices and is told a record
+// of three numbers.
 ghost use Rattle.std.specs.Prelude.{◌≡◌};
 ghost use Rattle.machine.specs.StoreRun.{stores_refusal, accepted_in, run_in};
 ghost use Rattle.machine.specs.StoreDemands.{Demand2In};

@@ -4,7 +4,4 @@ use Rattle.change_calls.proofs.cut.Goals as goal
 pub returns-then-position : goal.returns-then-position
 returns-then-position c =
     let a = c.args in
-    λ ms h f. cut_nothing a.position.place a.position.steps a.set a.marks.now ms c.if-position.true h f
-
-pub returns : goal.returns
-returns c = λ ms h f. c.cut_marks.ensures.by_index ms h
+    λ ms h f. cut_nothing a.position.place a.position.steps a.set.bits a.marks.now ms c.if-position.true h f

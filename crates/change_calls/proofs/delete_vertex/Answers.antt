@@ -1,67 +1,65 @@
+use Prim.Native.Nat.{ℕ}
 use mathlib.Core.Path.{refl}
+use mathlib.Core.Logic.{◌≢◌}
+use mathlib.Core.List.{List}
 use Rattle.graph.specs.declared.Change.TheVariants.{DeleteVertex}
-use Rattle.graph_tables.specs.Tables.{state}
-use Rattle.history_calls.specs.Memory.{Memory, memory, tables_of}
-use Rattle.change_calls.proofs.Attempting.{deletion_attempts}
+use Rattle.graph_tables.specs.Tables.{State, state_of}
+use Rattle.tried_edits.specs.Tried.{outcome}
+use Rattle.vertex_deletion.specs.Deleting.{Deletes}
+use Rattle.history_calls.specs.Memory.{memory_of}
+use Rattle.change_calls.proofs.Attempting.{Attempts, deletion_attempts}
 use Rattle.change_calls.proofs.Following.{altered_by, step_fits, sign_fits, change_kept, change_made}
+use Rattle.change_calls.proofs.delete_vertex.Goals.{After-delete}
 use Rattle.change_calls.proofs.delete_vertex.Goals as goal
 
--- the lent words as the call begins
-abbrev given : goal.After-stay → Memory
-given s = memory s.args.vertices.now s.args.edges.now s.args.journal.now s.args.marks.now
+-- what the deletion came to, as code of its rule and as step
+attempts : (types : ℕ) (c : After-delete) {code n : ℕ} {s : State} {t : List ℕ} → let a = c.args in
+    Deletes a.vertex a.free a.store.current.position (state_of a.store.current.head a.tables.now) a.journal.now (outcome code n s t)
+    → Attempts (DeleteVertex a.vertex) types a.free a.store.current.position (state_of a.store.current.head a.tables.now) a.journal.now code n s t
+attempts types c r = let a = c.args in deletion_attempts types a.store.current.position (state_of a.store.current.head a.tables.now) a.journal.now _ _ _ _ a.vertex a.free r
 
-abbrev given-at-After-put_bench-arg-1 : goal.After-put_bench-arg-1 → Memory
-given-at-After-put_bench-arg-1 s = memory s.args.vertices.now s.args.edges.now s.args.journal.now s.args.marks.now
+-- one that is made has a cost
+costs : (c : After-delete) {n : ℕ} {s : State} {t : List ℕ} → let a = c.args in
+    Deletes a.vertex a.free a.store.current.position (state_of a.store.current.head a.tables.now) a.journal.now (outcome 0 n s t) → n ≢ 0
+costs c r z = (r.stays z).0 refl
 
-abbrev given-at-After-stepped-arg-1 : goal.After-stepped-arg-1 → Memory
-given-at-After-stepped-arg-1 s = memory s.args.vertices.now s.args.edges.now s.args.journal.now s.args.marks.now
+pub step-requires-clause-place : goal.step-requires-clause-place
+step-requires-clause-place c =
+    let a = c.args in
+    let p = c.requires.0 in
+    let s = (goal.at.step-requires-clause-place c).After-delete in
+    (step_fits (DeleteVertex a.vertex) p.0.types a.free a.store (memory_of a.tables.now a.journal.now a.marks.now) _ _ _ _
+    (attempts p.0.types s c.in-Ok.ensures.made) p.0 p.1 refl p.2 (costs s c.in-Ok.ensures.made)).0
 
-abbrev given-at-After-cut-set : goal.After-cut-set → Memory
-given-at-After-cut-set s = memory s.args.vertices.now s.args.edges.now s.args.journal.now s.args.marks.now
+pub step-requires-clause-used : goal.step-requires-clause-used
+step-requires-clause-used c =
+    let a = c.args in
+    let p = c.requires.0 in
+    let s = (goal.at.step-requires-clause-used c).After-delete in
+    (step_fits (DeleteVertex a.vertex) p.0.types a.free a.store (memory_of a.tables.now a.journal.now a.marks.now) _ _ _ _
+    (attempts p.0.types s c.in-Ok.ensures.made) p.0 p.1 refl p.2 (costs s c.in-Ok.ensures.made)).1
 
-pub returns-then-removed-eq0 : goal.returns-then-removed-eq0
-returns-then-removed-eq0 c =
-    let s = c in
-    let k = c.delete-removed in
-    let s' = state k.result.head k.new.vertices k.new.edges in
-    let t' = k.new.journal in
-    let z = c.if-removed-eq0.true in
-    λ types. altered_by (DeleteVertex s.args.vertex) types s.args.free s.args.store (given s) _ c.stay.ensures
-    (change_kept (DeleteVertex s.args.vertex) types s.args.free s.args.store (given s) _ _ s' t'
-    (deletion_attempts types s.args.store.current.position (tables_of s.args.store (given s)) s.args.journal.now _ _ s' t' s.args.vertex s.args.free k.ensures)
-    z)
+pub step-requires-clause-row : goal.step-requires-clause-row
+step-requires-clause-row c =
+    let a = c.args in
+    let p = c.requires.0 in
+    let s = (goal.at.step-requires-clause-row c).After-delete in
+    sign_fits (DeleteVertex a.vertex) p.0.types a.free a.store (memory_of a.tables.now a.journal.now a.marks.now) _ _ _ _
+    (attempts p.0.types s c.in-Ok.ensures.made) p.0 p.1 refl p.2 (costs s c.in-Ok.ensures.made)
 
-pub put_bench-requires : goal.put_bench-requires
-put_bench-requires c =
-    let start = c in
-    let d = c.delete-removed in
-    let p = start.requires.0 in
-    let s' = state d.result.head d.new.vertices d.new.edges in
-    let t' = d.new.journal in
-    sign_fits (DeleteVertex start.args.vertex) p.0.types start.args.free start.args.store (given-at-After-put_bench-arg-1 start) _ _ s' t'
-    (deletion_attempts p.0.types start.args.store.current.position (tables_of start.args.store (given-at-After-put_bench-arg-1 start)) start.args.journal.now _ _ s' t' start.args.vertex
-    start.args.free d.ensures) p.0 p.1 refl p.2 c.if-removed-eq0.false
+pub returns-in-Ok-clause-changes : goal.returns-in-Ok-clause-changes
+returns-in-Ok-clause-changes c =
+    let a = c.args in
+    let d = c.step.result in
+    let s = (goal.at.returns-in-Ok-clause-changes c).After-delete in
+    λ types. altered_by (DeleteVertex a.vertex) types a.free a.store _ _ (λ i. record { store = d.store; answer = c.step.ensures.answer i })
+    (change_made (DeleteVertex a.vertex) types a.free a.store (memory_of a.tables.now a.journal.now a.marks.now) _ _ _ _
+    (attempts types s c.in-Ok.ensures.made) (costs s c.in-Ok.ensures.made)
+    d.store c.step.ensures.current c.step.ensures.bench c.step.ensures.cuts _ c.step.ensures.signs)
 
-pub stepped-current-requires : goal.stepped-current-requires
-stepped-current-requires c =
-    let s = c in
-    let k = c.delete-removed in
-    let p = s.requires.0 in
-    let s' = state k.result.head k.new.vertices k.new.edges in
-    let t' = k.new.journal in
-    step_fits (DeleteVertex s.args.vertex) p.0.types s.args.free s.args.store (given-at-After-stepped-arg-1 s) _ _ s' t'
-    (deletion_attempts p.0.types s.args.store.current.position (tables_of s.args.store (given-at-After-stepped-arg-1 s)) s.args.journal.now _ _ s' t' s.args.vertex s.args.free
-    k.ensures) p.0 p.1 refl p.2 c.if-removed-eq0.false
-
-pub returns : goal.returns
-returns c =
-    let s = c in
-    let k = c.delete-removed in
-    let s' = state k.result.head k.new.vertices k.new.edges in
-    let t' = k.new.journal in
-    λ types. change_made (DeleteVertex s.args.vertex) types s.args.free s.args.store (given-at-After-cut-set s) _ _ s' t'
-    (deletion_attempts types s.args.store.current.position (tables_of s.args.store (given-at-After-cut-set s)) s.args.journal.now _ _ s' t' s.args.vertex s.args.free k.ensures)
-    c.if-removed-eq0.false _ c.stepped-current.ensures refl c.cut-set.ensures _ c.put_bench.ensures
-
-pub cut-set-requires : goal.cut-set-requires
-cut-set-requires c = c.requires.0.2.marks.room
+pub returns-in-Err-clause-changes : goal.returns-in-Err-clause-changes
+returns-in-Err-clause-changes c =
+    let a = c.args in
+    λ types. altered_by (DeleteVertex a.vertex) types a.free a.store _ _ c.answer.ensures
+    (change_kept (DeleteVertex a.vertex) types a.free a.store (memory_of a.tables.now a.journal.now a.marks.now) _ _ _ _
+    (attempts types (goal.at.returns-in-Err-clause-changes c).After-delete c.in-Err.ensures.made) refl)

@@ -1,103 +1,72 @@
+use Prim.Native.Nat.{ℕ}
 use mathlib.Core.Path.{refl}
-use Rattle.graph.specs.declared.Change.TheVariants.{Single}
+use mathlib.Core.List.{List}
 use native.Mathlib.Omega.{arith}
-use Rattle.graph_tables.specs.Tables.{state}
-use Rattle.history_calls.specs.Memory.{Memory, memory, tables_of}
-use Rattle.single_changes.specs.One.{HoldsGraph}
-use Rattle.change_calls.proofs.Attempting.{stands_now, single_attempts}
-use Rattle.change_calls.proofs.Following.{altered_by, step_fits, sign_fits, change_kept, change_made}
+use Rattle.std.proofs.Common.{rules}
+use Rattle.graph.specs.declared.Change.TheVariants.{Single}
+use Rattle.graph_tables.specs.Tables.{State, state_of}
+use Rattle.tried_edits.specs.Tried.{attempt, outcome}
+use Rattle.history_calls.specs.Memory.{memory_of}
+use Rattle.single_changes.specs.One.{One}
+use Rattle.change_calls.proofs.Attempting.{Attempts, stands_now, single_attempts}
+use Rattle.change_calls.proofs.Following.{altered_by, written_back, step_fits, sign_fits, change_kept, change_made}
+use Rattle.change_calls.proofs.single.Goals.{After-make}
 use Rattle.change_calls.proofs.single.Goals as goal
 
--- the lent words as the call begins
-abbrev given : goal.After-make-arg-4-1 → Memory
-given s = memory s.args.vertices.now s.args.edges.now s.args.journal.now s.args.marks.now
+-- what the change came to, as code of its rule and as step
+attempts : (c : After-make) {code n : ℕ} {s : State} {t : List ℕ} → let a = c.args in
+    One a.change a.types (attempt a.store.current.position.used a.free (state_of a.store.current.head a.tables.now) a.journal.now) (outcome code n s t)
+    → Attempts (Single a.change) a.types a.free a.store.current.position (state_of a.store.current.head a.tables.now) a.journal.now code n s t
+attempts c r =
+    let a = c.args in
+    let p = c.requires in
+    let s = state_of a.store.current.head a.tables.now in
+    single_attempts a.types a.store.current.position s a.journal.now _ _ _ _ a.free p.4 a.change (stands_now a.types a.store.current.position s a.journal.now p.0 p.1 p.2 p.3.journal) r
 
--- the tables hold a graph
-held : (s : goal.After-make-arg-4-1) → HoldsGraph (tables_of s.args.store (given s))
-held s =
-    let p = s.requires in
-    stands_now s.args.types s.args.store.current.position (tables_of s.args.store (given s)) s.args.journal.now p.0 p.1 p.2 p.3.journal
+pub step-requires-clause-place : goal.step-requires-clause-place
+step-requires-clause-place c =
+    let a = c.args in
+    let p = c.requires in
+    (step_fits (Single a.change) a.types a.free a.store (memory_of a.tables.now a.journal.now a.marks.now) _ _ _ _
+    (attempts (goal.at.step-requires-clause-place c).After-make c.in-Ok.ensures.made) p.0 p.1 p.2 p.3 c.if-made-ne0.true).0
 
-abbrev given-at-After-stay : goal.After-stay → Memory
-given-at-After-stay s = memory s.args.vertices.now s.args.edges.now s.args.journal.now s.args.marks.now
+pub step-requires-clause-used : goal.step-requires-clause-used
+step-requires-clause-used c =
+    let a = c.args in
+    let p = c.requires in
+    (step_fits (Single a.change) a.types a.free a.store (memory_of a.tables.now a.journal.now a.marks.now) _ _ _ _
+    (attempts (goal.at.step-requires-clause-used c).After-make c.in-Ok.ensures.made) p.0 p.1 p.2 p.3 c.if-made-ne0.true).1
 
-held_at_After_stay : (s : goal.After-stay) → HoldsGraph (tables_of s.args.store (given-at-After-stay s))
-held_at_After_stay s =
-    let p = s.requires in
-    stands_now s.args.types s.args.store.current.position (tables_of s.args.store (given-at-After-stay s)) s.args.journal.now p.0 p.1 p.2 p.3.journal
+pub step-requires-clause-row : goal.step-requires-clause-row
+step-requires-clause-row c =
+    let a = c.args in
+    let p = c.requires in
+    let r =
+    sign_fits (Single a.change) a.types a.free a.store (memory_of a.tables.now a.journal.now a.marks.now) _ _ _ _
+    (attempts (goal.at.step-requires-clause-row c).After-make c.in-Ok.ensures.made) p.0 p.1 p.2 p.3 c.if-made-ne0.true in
+    omega (arith, r, c.make.ensures.same_room.length)
 
-abbrev given-at-After-put_bench-arg-1 : goal.After-put_bench-arg-1 → Memory
-given-at-After-put_bench-arg-1 s = memory s.args.vertices.now s.args.edges.now s.args.journal.now s.args.marks.now
+pub returns-in-Ok-clause-changes : goal.returns-in-Ok-clause-changes
+returns-in-Ok-clause-changes c =
+    let a = c.args in
+    let d = c.step.result in
+    altered_by (Single a.change) a.types a.free a.store _ _ (λ i. record { store = d.store; answer = c.step.ensures.answer i })
+    (change_made (Single a.change) a.types a.free a.store (memory_of a.tables.now a.journal.now a.marks.now) _ _ _ _
+    (attempts (goal.at.returns-in-Ok-clause-changes c).After-make c.in-Ok.ensures.made)
+    c.if-made-ne0.true d.store c.step.ensures.current c.step.ensures.bench c.step.ensures.cuts _ (search rules))
 
-held_at_After_put_bench_arg_1 : (s : goal.After-put_bench-arg-1) → HoldsGraph (tables_of s.args.store (given-at-After-put_bench-arg-1 s))
-held_at_After_put_bench_arg_1 s =
-    let p = s.requires in
-    stands_now s.args.types s.args.store.current.position (tables_of s.args.store (given-at-After-put_bench-arg-1 s)) s.args.journal.now p.0 p.1 p.2 p.3.journal
+pub returns-in-Ok-2-clause-changes : goal.returns-in-Ok-2-clause-changes
+returns-in-Ok-2-clause-changes c =
+    let a = c.args in
+    altered_by (Single a.change) a.types a.free a.store _ _ (search rules)
+    (written_back (search rules)
+    (change_kept (Single a.change) a.types a.free a.store (memory_of a.tables.now a.journal.now a.marks.now) _ _ _ _
+    (attempts (goal.at.returns-in-Ok-2-clause-changes c).After-make c.in-Ok.ensures.made) c.if-made-ne0.false))
 
-abbrev given-at-After-stepped-arg-1 : goal.After-stepped-arg-1 → Memory
-given-at-After-stepped-arg-1 s = memory s.args.vertices.now s.args.edges.now s.args.journal.now s.args.marks.now
-
-held_at_After_stepped_arg_1 : (s : goal.After-stepped-arg-1) → HoldsGraph (tables_of s.args.store (given-at-After-stepped-arg-1 s))
-held_at_After_stepped_arg_1 s =
-    let p = s.requires in
-    stands_now s.args.types s.args.store.current.position (tables_of s.args.store (given-at-After-stepped-arg-1 s)) s.args.journal.now p.0 p.1 p.2 p.3.journal
-
-abbrev given-at-After-cut-set : goal.After-cut-set → Memory
-given-at-After-cut-set s = memory s.args.vertices.now s.args.edges.now s.args.journal.now s.args.marks.now
-
-held_at_After_cut_set : (s : goal.After-cut-set) → HoldsGraph (tables_of s.args.store (given-at-After-cut-set s))
-held_at_After_cut_set s =
-    let p = s.requires in
-    stands_now s.args.types s.args.store.current.position (tables_of s.args.store (given-at-After-cut-set s)) s.args.journal.now p.0 p.1 p.2 p.3.journal
-
-pub make-made-requires : goal.make-made-requires
-make-made-requires c =
-    let s = c in
-    (held s, λ n. omega (arith, n, s.requires.4))
-
-pub returns-then-made-eq0 : goal.returns-then-made-eq0
-returns-then-made-eq0 c =
-    let s = c in
-    let k = c.make-made in
-    let s' = state k.result.head k.new.vertices k.new.edges in
-    let t' = k.new.journal in
-    let r = single_attempts s.args.types s.args.store.current.position (tables_of s.args.store (given-at-After-stay s)) s.args.journal.now _ _ s' t' s.args.free s.requires.4
-    s.args.change (held_at_After_stay s) k.ensures in
-    altered_by (Single s.args.change) s.args.types s.args.free s.args.store (given-at-After-stay s) _ c.stay.ensures
-    (change_kept (Single s.args.change) s.args.types s.args.free s.args.store (given-at-After-stay s) _ _ s' t' r c.if-made-eq0.true)
-
-pub put_bench-requires : goal.put_bench-requires
-put_bench-requires c =
-    let s = c in
-    let k = c.make-made in
-    let p = s.requires in
-    let s' = state k.result.head k.new.vertices k.new.edges in
-    let t' = k.new.journal in
-    let r = single_attempts s.args.types s.args.store.current.position (tables_of s.args.store (given-at-After-put_bench-arg-1 s)) s.args.journal.now _ _ s' t' s.args.free s.requires.4
-    s.args.change (held_at_After_put_bench_arg_1 s) k.ensures in
-    sign_fits (Single s.args.change) s.args.types s.args.free s.args.store (given-at-After-put_bench-arg-1 s) _ _ s' t' r p.0 p.1 p.2 p.3 c.if-made-eq0.false
-
-pub stepped-current-requires : goal.stepped-current-requires
-stepped-current-requires c =
-    let s = c in
-    let k = c.make-made in
-    let p = s.requires in
-    let s' = state k.result.head k.new.vertices k.new.edges in
-    let t' = k.new.journal in
-    let r = single_attempts s.args.types s.args.store.current.position (tables_of s.args.store (given-at-After-stepped-arg-1 s)) s.args.journal.now _ _ s' t' s.args.free s.requires.4
-    s.args.change (held_at_After_stepped_arg_1 s) k.ensures in
-    step_fits (Single s.args.change) s.args.types s.args.free s.args.store (given-at-After-stepped-arg-1 s) _ _ s' t' r p.0 p.1 p.2 p.3 c.if-made-eq0.false
-
-pub returns : goal.returns
-returns c =
-    let s = c in
-    let k = c.make-made in
-    let s' = state k.result.head k.new.vertices k.new.edges in
-    let t' = k.new.journal in
-    let r = single_attempts s.args.types s.args.store.current.position (tables_of s.args.store (given-at-After-cut-set s)) s.args.journal.now _ _ s' t' s.args.free s.requires.4
-    s.args.change (held_at_After_cut_set s) k.ensures in
-    change_made (Single s.args.change) s.args.types s.args.free s.args.store (given-at-After-cut-set s) _ _ s' t' r c.if-made-eq0.false _
-    c.stepped-current.ensures refl c.cut-set.ensures _ c.put_bench.ensures
-
-pub cut-set-requires : goal.cut-set-requires
-cut-set-requires c = c.requires.3.marks.room
+pub returns-in-Err-clause-changes : goal.returns-in-Err-clause-changes
+returns-in-Err-clause-changes c =
+    let a = c.args in
+    altered_by (Single a.change) a.types a.free a.store _ _ c.answer-in-Err.ensures
+    (written_back (search rules)
+    (change_kept (Single a.change) a.types a.free a.store (memory_of a.tables.now a.journal.now a.marks.now) _ _ _ _
+    (attempts (goal.at.returns-in-Err-clause-changes c).After-make c.in-Err.ensures.made) refl))
