@@ -200,10 +200,3 @@ pub fn put_this(edges: &mut [u32], e: u32, a: u32, z: u32)
     edges[at + EDGE_ALPHA] = a;
     edges[at + EDGE_OMEGA] = z;
 }
-
-/// The reading of a kind and decimetres that are one: `Reading::from_words`, by the name that the journal has for it.
-pub fn reading_of(k: u32, d: u32) -> Reading
-    ensures { result ≡ reading_of k d }
-{
-    Reading::from_words(k, d)
-}
