@@ -12,8 +12,8 @@ ghost use Rattle.arrangement.specs.declared.NotArranged.TheVariants.{Image};
 ghost use Rattle.arrangement.specs.Scratch.{marked, seen_from, taken, settled};
 
 use graph::MOST_EDGES;
+use image::by_name::Part;
 use image::layout::{EDGE, record_size};
-use image::part;
 use image_check::{BadImage, check_saved};
 use lists::get;
 
@@ -227,6 +227,9 @@ fn settle(
 }
 
 // ---- the three
+// What is wanted and the list stay apart: each clause is one equation of the list before and after, and a struct that is
+// lent both would have to promise besides that it keeps that list. Vertices and edges differ in part, size and kind alone:
+// `order_numbers` is what they share, and C calls each by name.
 
 /// Items that are the numbers of records.
 fn order_numbers(
@@ -277,7 +280,7 @@ pub fn arrange_vertices(
     let mut items = [0u8; ITEMS];
     order_numbers(
         Kind::Vertex,
-        part(words, 1),
+        Part::Vertices.within(words),
         record_size(words),
         get(words, 0),
         wanted,
@@ -295,7 +298,7 @@ pub fn arrange_edges(words: &[u32], wanted: &[u32], list: &mut [u32]) -> Result<
     let mut items = [0u8; ITEMS];
     order_numbers(
         Kind::Edge,
-        part(words, 2),
+        Part::Edges.within(words),
         EDGE,
         get(words, 1),
         wanted,
@@ -315,9 +318,9 @@ pub fn arrange_words(
         ≡ word_order words.now vertex wanted.now list.old }
 {
     check_saved(words)?;
-    if !has_number(part(words, 1), record_size(words), vertex) {
+    if !has_number(Part::Vertices.within(words), record_size(words), vertex) {
         return Err(NotArranged::NoVertex);
     }
     let mut items = [0u8; ITEMS];
-    order_words(part(words, 2), vertex, wanted, &mut items, list)
+    order_words(Part::Edges.within(words), vertex, wanted, &mut items, list)
 }

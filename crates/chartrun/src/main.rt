@@ -4,6 +4,8 @@
 use transcript::transcribe;
 use whole_input::read_whole;
 
+// The three programs have these lines each: one function of theirs would take the answer as a closure, and so require
+// that it may be called, where no function above the run requires anything.
 // More than 60,000 bytes are read, so a longer input is seen to be too long. A write that fails is not told.
 fn main(rt: HostRuntime) {
     let mut input = [0u8; 65536];

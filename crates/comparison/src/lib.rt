@@ -8,9 +8,8 @@ ghost use Rattle.comparison.specs.Comparison.{matches, agrees, alike, comparison
 ghost use Rattle.comparison.specs.Walks.{edge_at, noted, places_of, paired_from};
 
 use graph::{MOST_EDGES, Reading};
-use graph_tables::rows::reading_of;
+use image::by_name::Part;
 use image::layout::EDGE;
-use image::part;
 use image_check::{BadImage, check_saved};
 use lists::get;
 use lists::words::put;
@@ -88,6 +87,9 @@ impl From<Result<Counts, NotCompared>> for Compared {
 // Scratch: a word for each edge number from 0 on.
 const PLACES: usize = MOST_EDGES as usize + 1;
 
+// In these three b's record is told by a place. A number that is noted nowhere leads to b's first record, which need not be
+// there, so no slice of six words stands for it; `near` keeps the places behind j from wrapping.
+
 /// Whether an edge record and the one at j have one number and the same ends.
 fn is_match(edge: &[u32], b: &[u32], j: usize) -> bool
     requires six { length edge.now ≡ 6 }
@@ -112,7 +114,7 @@ fn reading_at(words: &[u32], at: usize) -> Reading
     requires { at ≤ 2 ^ 40 }
     ensures { result ≡ (edge_at words.now at).reading }
 {
-    reading_of(get(words, at + 4), get(words, at + 5))
+    Reading::from_words(get(words, at + 4), get(words, at + 5))
 }
 
 /// Whether they match and their readings agree.
@@ -178,7 +180,11 @@ pub fn compare(first: &[u32], second: &[u32], tolerance: u32) -> Result<Counts, 
 {
     check_saved(first).map_err(NotCompared::First)?;
     check_saved(second).or(Err(NotCompared::Second))?;
-    let c = walked(part(first, 2), part(second, 2), tolerance);
+    let c = walked(
+        Part::Edges.within(first),
+        Part::Edges.within(second),
+        tolerance,
+    );
     Ok(Counts {
         matched: c.matched,
         agreeing: c.agreeing,

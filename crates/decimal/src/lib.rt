@@ -1,4 +1,5 @@
 // Texts in slices of bytes, for chartrun's text and for the page. The digits of a number are in specs/.
+// Bytes and place travel as two: see text/writing.rt.
 #![tactic(auto)]
 
 ghost use Rattle.std.specs.Prelude.{◌-◌, length};

@@ -120,7 +120,7 @@ impl Store {
         }
     }
 
-    /// After a call that changes nothing and has this answer.
+    /// After a call that changes nothing and has this answer, as the two words that a question's answer is.
     #[inline(always)]
     pub fn stay(self, code: u32, number: u32) -> Called
         ensures { result ≡ done self code number }
@@ -154,8 +154,8 @@ impl Store {
     }
 
     /// Kind 19 is one step back, kind 20 one step on, kind 21 leads to the place of a mark, kind 57 to that of the mark
-    /// with a name. No other call leads anywhere. Where they lead is asked before a call too, by copies::leads_to and
-    /// store_calls::guard::place_ahead.
+    /// with a name. No other call leads anywhere. Before a call copies::leads_to asks this too;
+    /// store_calls::guard::place_ahead reads the place off the call's words.
     ///
     /// # Errors
     /// `AtTheEnd` where there is no step, `NoMark`, `MarkGone`, `NameUnknown` where there is no such mark.

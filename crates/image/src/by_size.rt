@@ -1,11 +1,12 @@
 // Where the parts of an image begin, by the words of a vertex record: saved words and old ones alike.
-// A caller has counts that are words, and a size that `record_size` gave.
+// A caller has counts that are words, and a size that `record_size` gave. The three functions are public and take them as
+// numbers, each its own; a struct of them would stand at each call in place of the call.
 ghost use Rattle.std.specs.Prelude.{◌≡◌, ◌+◌, ◌*◌, ◌≤◌, ◌<◌, ◌^◌};
 ghost use Rattle.image.specs.Image.{edge_offset, incidence_offset, length_as};
 
 use crate::layout::{EDGE, HEADER};
 
-// Where the edge part begins behind v vertex records of size words.
+/// Where the edge part begins behind v vertex records of size words.
 pub fn edge_offset(size: usize, v: usize) -> usize
     requires { (size ≤ 4) × (v < 2 ^ 32) }
     ensures { (result ≡ edge_offset size v) × (result ≤ 6 + 4 * v) }
@@ -13,7 +14,7 @@ pub fn edge_offset(size: usize, v: usize) -> usize
     HEADER + size * v
 }
 
-// Where the lists begin, behind e edges.
+/// Where the lists begin, behind e edges.
 pub fn incidence_offset(size: usize, v: usize, e: usize) -> usize
     requires { (size ≤ 4) × (v < 2 ^ 32) × (e < 2 ^ 32) }
     ensures { (result ≡ incidence_offset size v e) × (result ≤ 6 + 4 * v + 6 * e) }
@@ -21,7 +22,7 @@ pub fn incidence_offset(size: usize, v: usize, e: usize) -> usize
     edge_offset(size, v) + EDGE * e
 }
 
-// The words of the whole: an edge is in two lists.
+/// The words of the whole: an edge is in two lists.
 pub fn length(size: usize, v: usize, e: usize) -> usize
     requires { (size ≤ 4) × (v < 2 ^ 32) × (e < 2 ^ 32) }
     ensures { (result ≡ length_as size v e) × (result ≤ 6 + 4 * v + 8 * e) }

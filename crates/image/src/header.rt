@@ -5,7 +5,7 @@ ghost use Rattle.image.specs.Parts.{has_part};
 
 use crate::by_size::{edge_offset, incidence_offset, length};
 use crate::layout::{HEADER, record_size};
-use lists::words::word;
+use lists::get;
 
 /// Whether length, offsets and total fit the counts, in records of one size.
 #[tactic(auto, unfolding(crate::specs::Image::sound_header))]
@@ -13,13 +13,13 @@ pub fn sound(words: &[u32]) -> bool
     ensures { result ≡ sound_header words.now }
 {
     let size = record_size(words);
-    let v = word(words, 0);
-    let e = word(words, 1);
+    let v = get(words, 0) as usize;
+    let e = get(words, 1) as usize;
     let total = length(size, v, e);
-    word(words, 2) == HEADER
-        && word(words, 3) == edge_offset(size, v)
-        && word(words, 4) == incidence_offset(size, v, e)
-        && word(words, 5) == total
+    get(words, 2) as usize == HEADER
+        && get(words, 3) as usize == edge_offset(size, v)
+        && get(words, 4) as usize == incidence_offset(size, v, e)
+        && get(words, 5) as usize == total
         && words.len() == total
 }
 

@@ -3,14 +3,14 @@
 
 pub mod layout; // layout.rt: the words of header and records, where the parts begin, and which records words have
 pub mod by_size; // by_size.rt: the same places by the words of a vertex record
+pub mod by_name; // by_name.rt: the parts by name
 pub mod header; // header.rt: whether the header is sound, and which parts there are
 
 ghost use Rattle.std.specs.Prelude.{◌≡◌, ◌<◌, ◌^◌};
 ghost use Rattle.image.specs.Image.{part as part_of};
 ghost use Rattle.image.specs.Parts.{part_bound, part_start, LiesAt};
 
-use lists::numbers::wide;
-use lists::words::word;
+use lists::get;
 
 // The header's word `next` behind the number of a part: where the part starts (1) or ends (2). 0 where there is no such
 // part: without a sound header, or for another number than 1, 2 or 3.
@@ -20,18 +20,21 @@ fn part_bound(words: &[u32], which: u32, next: u32) -> usize
     if !header::has_part(words, which) {
         return 0;
     }
-    word(words, wide(which) + wide(next))
+    get(words, which as usize + next as usize) as usize
 }
 
-// Where a part starts, in words from the first: the header's offset of it, also where the part is empty.
+// In these two a number tells which part: C asks for any, and `empty_elsewhere` is refused by what they promise of one
+// that names none. A caller that knows its part takes it by name.
+
+/// Where a part starts, in words from the first: the header's offset of it, also where the part is empty.
 pub fn part_start(words: &[u32], which: u32) -> usize
     ensures { result ≡ part_start which words.now }
 {
     part_bound(words, which, 1)
 }
 
-// Part 1, 2 or 3 (vertices, edges, incidences) of words with a sound header, as it lies in these very words;
-// else an empty part at their first.
+/// Part 1, 2 or 3 (vertices, edges, incidences) of words with a sound header, as it lies in these very words;
+/// else an empty part at their first.
 pub fn part(words: &[u32], which: u32) -> &[u32]
     ensures { (result.now ≡ part_of which words.now)
         × LiesAt (part_start which words.now) words.entry result }

@@ -10,9 +10,9 @@ ghost use Rattle.std.specs.Prelude.{◌≡◌};
 ghost use Rattle.image_check.specs.Checks.{checked, saved_bounds, verdict, bad_code, bad_offset};
 
 use graph::{MOST_EDGES, MOST_TYPES, MOST_VERTICES};
+use image::by_name::Part;
 use image::header::sound;
 use image::layout::record_size;
-use image::part;
 use passes::{Limits, Parts};
 
 /// What is bad about words that no graph saves as.
@@ -50,7 +50,8 @@ impl BadImage {
 }
 
 /// Whether the words are those that some graph within the capacities and types saves as. A refusal says what is bad.
-/// Capacities above the limits of a run are checked as these: the scratch of the check is made for them.
+/// Capacities above the limits of a run are checked as these: the scratch of the check is made for them. So they come as
+/// numbers, and `Limits` holds what is left of them.
 pub fn check(words: &[u32], vertices: u32, edges: u32, types: u32) -> Result<(), BadImage>
     ensures { result ≡ verdict (checked vertices edges types) words.now }
 {
@@ -72,9 +73,9 @@ pub fn check(words: &[u32], vertices: u32, edges: u32, types: u32) -> Result<(),
         return Ok(());
     }
     let parts = Parts {
-        vertices: part(words, 1),
-        edges: part(words, 2),
-        incidences: part(words, 3),
+        vertices: Part::Vertices.within(words),
+        edges: Part::Edges.within(words),
+        incidences: Part::Incidences.within(words),
         size: record_size(words),
     };
     parts.check(limits)

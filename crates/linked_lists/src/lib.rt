@@ -1,5 +1,8 @@
 // Doubly linked lists threaded through a lent table of words. Node 0 is no node: it stands for the ends of a list.
-// A caller has a table that holds the list: a walk along links that are not a list need not end.
+// A caller has a table that holds the list: a walk along links that are not a list need not end. So a walk is a `while`:
+// an iterator has to end by itself.
+// That a layout is valid is asked in clauses and is no field of it: its three values are constants, and the laws speak of
+// any layout, so that each would hold a proof beside two numbers, and no clause of a caller would go.
 #![tactic(auto)]
 
 ghost use Rattle.std.specs.Prelude.{◌≡◌, ◌+◌, ◌<◌, ◌^◌, length, ◌==◌};
@@ -51,7 +54,8 @@ impl LinkLayout {
         }
     }
 
-    // Makes v the node after x.
+    // Makes v the node after x. Its twin on the other side has another word and another end: one function by a constant
+    // would ask for it twice in two lines.
     fn put_next(self, table: &mut [u32], ends: Ends, x: u32, v: u32) -> Ends
         requires valid_layout { ValidLayout self }
         requires inside { Inside self (length table.old) x }

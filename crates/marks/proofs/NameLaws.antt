@@ -1,8 +1,8 @@
 -- The names as marks are set, named, dropped and cut, and the holder of a name.
 use Rattle.std.specs.Prelude.{◌==◌}
-use Prim.Native.Nat.{ℕ, ◌+◌, ◌-◌, ◌≤◌, ◌<◌}
+use Prim.Native.Nat.{ℕ, zero, suc, ◌+◌, ◌-◌, ◌≤◌, ◌<◌}
 use mathlib.Core.Bool.{Bool, true, false, not, ◌&&◌}
-use mathlib.Core.Path.{◌≡◌, refl, sym, ap, ◌∙◌}
+use mathlib.Core.Path.{◌≡◌, refl, sym, ap, subst, ◌∙◌}
 use mathlib.Core.Logic.{◌≢◌}
 use mathlib.Core.List.{List}
 use native.Mathlib.Omega.{arith}
@@ -12,10 +12,12 @@ use lib.Seq.{get_or-set_same, get_or-set_other}
 use Rattle.lists.specs.Choice.{◌⇒◌else◌, within}
 use Rattle.lists.proofs.Bools.{ft, and_true}
 use Rattle.lists.proofs.Picks.{Same, same, differ, same?}
-use Rattle.history.specs.Machine.{Machine, MarkPlace, gone, at, stands, marked, Name, name, no_name, is_name, same_name, named, kept_names, cut, cut_marks, bears, holder_but}
-use Rattle.history.proofs.Seeking.{seek_same, seek_found}
+use Rattle.history.specs.Machine.{Machine, MarkPlace, gone, at, stands, marked, Name, name, no_name, is_name, same_name, named, kept_names, cut, cut_marks, bears, holder_but, seek}
+use Rattle.std.specs.Prelude.{Option, None, Some}
+use Rattle.std.specs.Option.{MatchOption}
+use Rattle.history.proofs.Seeking.{seek_same, seek_found, seek_none}
 use Rattle.marks.specs.Marked.{in_set, Marked}
-use Rattle.marks.specs.Named.{name_at, name_in, name_set, mark_put, bears_in, holder_in, Named}
+use Rattle.marks.specs.Named.{name_at, name_in, name_set, mark_put, bears_in, holder_in, mark_found, Named}
 use Rattle.marks.proofs.MarkLaws.{in_marks, in_set_lem, marked_other}
 
 -- ---- a name is written behind the places
@@ -128,3 +130,18 @@ unfolding holder_in
 holder_bears s words n d =
     let f = seek_found 64 1 (holder_in s words 0 n) (λ k. not (k == 0) && bears_in s words n k) refl d in
     (and_true (in_set s (holder_in s words 0 n)) _ (and_true (not (holder_in s words 0 n == 0)) _ f).1).0
+
+-- ---- the holder of a name is the first mark that bears it
+
+seek_first : (n k i : ℕ) (p : ℕ → Bool) → k ≤ i → i < k + n → p i ≡ true → ((j : ℕ) → k ≤ j → j < i → p j ≡ false) → seek n k p ≡ i
+unfolding seek
+seek_first zero k i p a b e f = absurd (omega arith)
+seek_first (suc n) k i p a b e f = elim (same? k i) [
+  | same u v ↦ rw (subst (λ (j : ℕ). p j ≡ true) v e) u
+  | differ u v ↦ rw (f k (omega arith) (omega arith)) (seek_first n (suc k) i p (omega arith) (omega arith) e (λ j x y. f j (omega arith) y))
+]
+
+pub found_first : (r : Option ℕ) (p : ℕ → Bool) → MatchOption r ((k : ℕ) → 1 ≤ k → k < 65 → p k ≡ false)
+    (λ i. (1 ≤ i) × (i < 65) × (p i ≡ true) × ((k : ℕ) → 1 ≤ k → k < i → p k ≡ false)) → r ≡ mark_found (seek 64 1 p)
+found_first None p h = rw (seek_same 64 1 p (λ j. false) (λ j a b. h j a (omega arith)), seek_none 64 1 (λ j. false) (λ j. refl)) refl
+found_first (Some i) p h = rw (seek_first 64 1 i p h.0 (omega (arith, h.1)) h.2 h.3, ne_eqb i 0 (omega (arith, h.0))) refl

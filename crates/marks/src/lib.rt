@@ -1,4 +1,5 @@
-// The standing marks: one 64-bit set, and the place and the name of each.
+// The standing marks: one 64-bit set, and the place and the name of each. The words of the marks are a slice, whose
+// length is required: a part of a longer array can be lent too, which an array type would rule out (DECISIONS 89).
 #![tactic(auto)]
 
 pub mod codes; // may a mark be set, named, or gone to
@@ -140,12 +141,7 @@ impl MarkSet {
         requires { length words.now ≡ mark_words }
         ensures { result ≡ mark_found (holder_in self.bits words.now but (name_of name)) }
     {
-        for a in 1..MOST_MARKS + 1 {
-            if a != but && self.bears(words, name, a) {
-                return Some(a);
-            }
-        }
-        None
+        (1..MOST_MARKS + 1).find(|&a| a != but && self.bears(words, name, a))
     }
 
     /// Mark a is set (kind 17) at place p, with no name. Where a is no mark, nothing changes.

@@ -1,17 +1,18 @@
 // The page of an image (a saved chart): one row of 25 bytes for each edge.
-// Each function but print writes a text at a place of out and returns the place behind it.
+// Each function but print writes a text at a place of out and returns the place behind it: bytes and place stay two, and
+// the columns are written by hand, since each clause so is one equation of the bytes and both places.
 #![tactic(auto)]
 
 ghost use Rattle.std.specs.Prelude.{◌≡◌, ◌+◌, ◌*◌, ◌/◌, ◌≤◌, length, replicate};
 ghost use Rattle.decimal.specs.Stored.{Stored};
-ghost use Rattle.graph.specs.Graph.{reading_of};
 ghost use Rattle.page.specs.Rows.{column, cell, reading_column, row_of, edge_read, rows_from};
 ghost use Rattle.page.specs.Page.{page_of, printed, no_page_code, no_page_offset, told};
 ghost use Rattle.page.specs.declared.NoPage.TheVariants.{Image};
 
 use decimal::bytes;
+use graph::Reading;
+use image::by_name::Part;
 use image::layout::EDGE;
-use image::part;
 use image_check::{BadImage, check_saved};
 
 /// Why there is no page of an image.
@@ -85,7 +86,7 @@ fn spaces(out: &mut [u8], at: usize, count: usize) -> usize
     end
 }
 
-// A number, right-aligned.
+// A number, right-aligned. No twin of the text's digits: it is padded from the left as it is written.
 fn column(out: &mut [u8], at: usize, width: usize, n: u32) -> usize
     requires { at + width ≤ length out.old }
     ensures { Stored (column width n) at out.old out.new result }
@@ -103,15 +104,15 @@ fn column(out: &mut [u8], at: usize, width: usize, n: u32) -> usize
     p + 1
 }
 
-// A reading by its two words, right-aligned in six columns.
-fn reading(out: &mut [u8], at: usize, kind: u32, decimetres: u32) -> usize
+// A reading, right-aligned in six columns.
+fn reading(out: &mut [u8], at: usize, reading: Reading) -> usize
     requires { at + 6 ≤ length out.old }
-    ensures { Stored (reading_column (reading_of kind decimetres)) at out.old out.new result }
+    ensures { Stored (reading_column reading) at out.old out.new result }
 {
-    match kind {
-        0 => bytes(out, at, b"     -"),
-        1 => bytes(out, at, b"silent"),
-        _ => column(out, at, 6, decimetres),
+    match reading {
+        Reading::Untested => bytes(out, at, b"     -"),
+        Reading::Silent => bytes(out, at, b"silent"),
+        Reading::Heard(decimetres) => column(out, at, 6, decimetres),
     }
 }
 
@@ -135,7 +136,7 @@ fn row(out: &mut [u8], at: usize, edge: &[u32]) -> usize
     let b = cell(out, a, 4, edge[1]);
     let c = cell(out, b, 4, edge[2]);
     let d = cell(out, c, 2, edge[3]);
-    let e = reading(out, d, edge[4], edge[5]);
+    let e = reading(out, d, Reading::from_words(edge[4], edge[5]));
     out[e] = b'\n';
     e + 1
 }
@@ -159,7 +160,7 @@ pub fn print(words: &[u32], page: &mut [u8]) -> Result<usize, NoPage>
     ensures { printed (told result) page.new ≡ page_of words.now page.old }
 {
     check_saved(words)?;
-    let records = part(words, 2);
+    let records = Part::Edges.within(words);
     let count = records.len() / EDGE;
     if page.len() < 25 * count {
         return Err(NoPage::Short);

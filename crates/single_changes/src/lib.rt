@@ -55,7 +55,7 @@ pub fn make(
         SingleChange::VertexBefore(a, b) => {
             moves::order_vertex::<false>(tables, head, room, a, b)
         }
-        SingleChange::VertexAfter(a, b) => { moves::order_vertex::<true>(tables, head, room, a, b) }
+        SingleChange::VertexAfter(a, b) => moves::order_vertex::<true>(tables, head, room, a, b),
         SingleChange::EdgeBefore(a, b) => moves::order_edge::<false>(tables, head, room, a, b),
         SingleChange::EdgeAfter(a, b) => moves::order_edge::<true>(tables, head, room, a, b),
         SingleChange::WordBefore(a, b) => moves::order_word::<false>(tables, head, room, a, b),

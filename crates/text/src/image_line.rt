@@ -7,11 +7,16 @@ ghost use Rattle.text.specs.ImageLine.{framed, read_image, line_words, line_verd
 use crate::number::Number;
 use crate::reading::words;
 
-// 6 to 400,000 bytes, the word image in front and a newline at the end.
+// The bytes of a line: the word image and a newline at least.
+const LEAST_BYTES: usize = 6;
+
+const MOST_BYTES: usize = 400000;
+
+// As many bytes, the word image in front and a newline at the end.
 fn is_framed(bytes: &[u8]) -> bool
     ensures { result ≡ framed bytes.now }
 {
-    (6..=400000).contains(&bytes.len())
+    (LEAST_BYTES..=MOST_BYTES).contains(&bytes.len())
         && bytes.starts_with(b"image")
         && bytes[bytes.len() - 1] == b'\n'
 }

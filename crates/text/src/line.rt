@@ -13,7 +13,7 @@ pub struct Line {
 impl Line {
     ghost use Rattle.text.specs.Scan.{fresh_line, space_in, line_in, line_good, line_blank};
 
-    pub fn new() -> Self
+    fn new() -> Self
         ensures { result ≡ fresh_line }
     {
         Line {
@@ -23,14 +23,14 @@ impl Line {
     }
 
     /// Five numbers.
-    pub fn is_good(self) -> bool
+    fn is_good(self) -> bool
         ensures { result ≡ line_good self }
     {
         self.number.is_value() && self.fields == 4
     }
 
     /// No byte of the line was read.
-    pub fn is_blank(self) -> bool
+    fn is_blank(self) -> bool
         ensures { result ≡ line_blank self }
     {
         self.number.is_empty() && self.fields == 0
@@ -53,7 +53,7 @@ impl Line {
         }
     }
 
-    pub fn with_byte(self, byte: u8) -> Self
+    fn with_byte(self, byte: u8) -> Self
         ensures { result ≡ line_in self byte }
     {
         if byte == b' ' {
@@ -66,7 +66,8 @@ impl Line {
     }
 }
 
-/// The lines so far: how many ended, the number of the first bad one or 0, and the line since.
+/// The lines so far: how many ended, the number of the first bad one, and the line since. Where none is bad the number
+/// is 0 and no Option: so specs/Scan has it, and the laws that say which line is the first bad one.
 #[derive(Clone, Copy, Debug, PartialEq, Eq)]
 pub struct Lines {
     pub ended: u32,
@@ -77,7 +78,7 @@ pub struct Lines {
 impl Lines {
     ghost use Rattle.text.specs.Scan.{scan, fresh_lines, line_ended, byte_in, rest_in};
 
-    pub fn new() -> Self
+    fn new() -> Self
         ensures { result ≡ fresh_lines }
     {
         Lines {
@@ -98,7 +99,7 @@ impl Lines {
         self.line = Line::new();
     }
 
-    pub fn push(&mut self, byte: u8)
+    fn push(&mut self, byte: u8)
         requires { self.old.ended + 1 < 2 ^ 32 }
         ensures { self.new ≡ byte_in self.old byte }
     {
@@ -110,7 +111,7 @@ impl Lines {
     }
 
     /// Ends the text: a rest without a newline is a line too, and bad.
-    pub fn end(&mut self)
+    fn end(&mut self)
         requires { self.old.ended + 1 < 2 ^ 32 }
         ensures { self.new ≡ rest_in self.old }
     {
@@ -120,7 +121,7 @@ impl Lines {
     }
 
     /// All lines of the bytes.
-    pub fn of(bytes: &[u8]) -> Self
+    pub(crate) fn of(bytes: &[u8]) -> Self
         requires { length bytes.now + 1 < 2 ^ 32 }
         ensures { result ≡ rest_in (scan byte_in fresh_lines bytes.now) }
     {

@@ -11,7 +11,7 @@ pub enum Number {
 }
 
 /// Whether a byte ends a number: a space or a newline.
-pub fn ends_field(byte: u8) -> bool
+pub(crate) fn ends_field(byte: u8) -> bool
     ensures { result ≡ field_ends byte }
 {
     byte == b' ' || byte == b'\n'
@@ -21,20 +21,20 @@ impl Number {
     ghost use Rattle.text.specs.Scan.{add_digit, digit_in, is_value, value_in, blank, number_after};
     ghost use Rattle.text.specs.ImageLine.{field_in};
 
-    pub fn is_value(self) -> bool
+    pub(crate) fn is_value(self) -> bool
         ensures { result ≡ is_value self }
     {
         matches!(self, Number::Value(_))
     }
 
-    pub fn is_empty(self) -> bool
+    pub(crate) fn is_empty(self) -> bool
         ensures { result ≡ blank self }
     {
         matches!(self, Number::Empty)
     }
 
     /// The number, or 0 where there is none.
-    pub fn value(self) -> u32
+    pub(crate) fn value(self) -> u32
         ensures { result ≡ value_in self }
     {
         match self {
@@ -59,7 +59,7 @@ impl Number {
     }
 
     /// With a byte behind it that ends no number.
-    pub fn with_byte(self, byte: u8) -> Self
+    pub(crate) fn with_byte(self, byte: u8) -> Self
         ensures { result ≡ digit_in self byte }
     {
         if byte.is_ascii_digit() {
@@ -70,7 +70,7 @@ impl Number {
     }
 
     /// The number since the last space or newline, in the text of calls.
-    pub fn after(self, byte: u8) -> Self
+    pub(crate) fn after(self, byte: u8) -> Self
         ensures { result ≡ number_after self byte }
     {
         if ends_field(byte) {
@@ -81,7 +81,7 @@ impl Number {
     }
 
     /// The number since the last space, in the line of an image: there only a space behind a number ends one.
-    pub fn after_in_line(self, byte: u8) -> Self
+    pub(crate) fn after_in_line(self, byte: u8) -> Self
         ensures { result ≡ field_in self byte }
     {
         if byte != b' ' {

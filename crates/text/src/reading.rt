@@ -8,7 +8,13 @@ ghost use Rattle.text.specs.Scan.{word_at, words_from};
 use crate::line::Lines;
 use crate::number::{Number, ends_field};
 
-/// No text of calls: the number that is printed after `unreadable`. It is 0 of more than 60,000 bytes, 1001 of more than
+// What is read at most; there is room for as many calls.
+const MOST_BYTES: usize = 60000;
+
+const MOST_LINES: u32 = 1000;
+
+/// No text of calls: the number that is printed after `unreadable`, and no enum of its three kinds, since the
+/// definitions of specs/Reading and the laws on them speak of that number. It is 0 of more than 60,000 bytes, 1001 of more than
 /// 1,000 lines, else that of the first bad line.
 #[derive(Clone, Copy, Debug, PartialEq, Eq)]
 pub struct Unreadable(pub u32);
@@ -27,7 +33,7 @@ fn word_at(calls: &mut [u32], at: usize, number: Number, byte: u8) -> usize
 }
 
 /// The words of readable bytes.
-pub fn words(bytes: &[u8], calls: &mut [u32]) -> usize
+pub(crate) fn words(bytes: &[u8], calls: &mut [u32]) -> usize
     requires { length (words_from Number.Empty bytes.now) ≤ length calls.old }
     ensures count { result ≡ length (words_from Number.Empty bytes.now) }
     ensures calls_after { calls.new ≡ overwritten (words_from Number.Empty bytes.now) calls.old }
@@ -47,12 +53,12 @@ pub fn read(bytes: &[u8], calls: &mut [u32; 5000]) -> Result<usize, Unreadable>
     ensures verdict { result ≡ verdict_of (read_text bytes.now) }
     ensures calls_after { calls.new ≡ overwritten (call_words (read_text bytes.now)) calls.old }
 {
-    if bytes.len() > 60000 {
+    if bytes.len() > MOST_BYTES {
         return Err(Unreadable(0));
     }
     let lines = Lines::of(bytes);
-    if lines.ended > 1000 {
-        return Err(Unreadable(1001));
+    if lines.ended > MOST_LINES {
+        return Err(Unreadable(MOST_LINES + 1));
     }
     if lines.bad != 0 {
         return Err(Unreadable(lines.bad));

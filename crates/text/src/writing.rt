@@ -1,4 +1,7 @@
-// From words to bytes. Each function writes a text at a place of out and returns the place behind it.
+// From words to bytes. Each function writes a text at a place of out and returns the place behind it. A struct of the two
+// would be no plainer: each clause is one equation of the bytes and both places, and would then have to say too that the
+// struct keeps its bytes. `write!` would want a writer into lent bytes, whose text no clause of its own tells.
+// Code and number of an answer, code and offset of a refusal come as the words that C is given them in.
 ghost use Rattle.std.specs.Prelude.{◌+◌, ◌*◌, ◌≤◌, length};
 ghost use Rattle.lists.specs.Lists.{concat_map};
 ghost use Rattle.decimal.specs.Stored.{Stored, WrittenAt};

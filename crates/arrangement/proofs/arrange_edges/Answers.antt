@@ -17,14 +17,14 @@ returns-in_err-check_saved c =
 
 pub order_numbers-requires-clause-whole : goal.order_numbers-requires-clause-whole
 order_numbers-requires-clause-whole c =
-    edges_whole c.args.words.now (ap code_of (sym c.check_saved.ensures ∙ c.in_ok-check_saved.was)) _ c.get.ensures _ c.part.ensures.0
+    edges_whole c.args.words.now (ap code_of (sym c.check_saved.ensures ∙ c.in_ok-check_saved.was)) _ c.get.ensures _ c.within.ensures.0
 
 pub returns : goal.returns
 returns c =
     let a = c.args in
     let z = ap code_of (sym c.check_saved.ensures ∙ c.in_ok-check_saved.was) in
     let count = c.get.ensures in
-    let part = c.part.ensures.0 in
+    let part = c.within.ensures.0 in
     c.order_numbers.ensures
     ∙ (λ i. settled 14 a.wanted.now (count i) (marked (numbers_in 6 (count i) (part i)) (replicate 8002 0)) a.list.now)
     ∙ edges_settled a.words.now z a.wanted.now a.list.now

@@ -20,14 +20,14 @@ order_numbers-requires-clause-size c = size_least c.args.words.now _ c.record_si
 
 pub order_numbers-requires-clause-whole : goal.order_numbers-requires-clause-whole
 order_numbers-requires-clause-whole c =
-    vertices_whole c.args.words.now (ap code_of (sym c.check_saved.ensures ∙ c.in_ok-check_saved.was)) _ _ c.record_size.ensures.0 c.get.ensures _ c.part.ensures.0
+    vertices_whole c.args.words.now (ap code_of (sym c.check_saved.ensures ∙ c.in_ok-check_saved.was)) _ _ c.record_size.ensures.0 c.get.ensures _ c.within.ensures.0
 
 pub returns : goal.returns
 returns c =
     let a = c.args in
     let z = ap code_of (sym c.check_saved.ensures ∙ c.in_ok-check_saved.was) in
     let count = c.get.ensures in
-    let part = c.part.ensures.0 in
+    let part = c.within.ensures.0 in
     let rs = c.record_size.ensures.0 in
     c.order_numbers.ensures
     ∙ (λ i. settled 12 a.wanted.now (count i) (marked (numbers_in (rs i) (count i) (part i)) (replicate 8002 0)) a.list.now)

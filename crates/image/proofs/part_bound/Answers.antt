@@ -1,9 +1,6 @@
-use mathlib.Core.Path.{◌≡◌, sym, ap, ◌∙◌}
-use Prim.Native.Nat.{ℕ, ◌+◌}
-use native.Mathlib.Omega.{arith}
+use mathlib.Core.Path.{sym, ◌∙◌}
 use borrow.Author.Rules.{rules}
 use borrow.Author.Tests.{not-true, not-false}
-use lib.ListN.{get_or}
 use Rattle.image.specs.Parts.{part_bound}
 use Rattle.image.proofs.part_bound.Goals as goal
 
@@ -14,9 +11,4 @@ returns-then-not-has_part c = (rw (sym c.has_part.ensures ∙ not-true c.has_par
 pub returns : goal.returns
 unfolding part_bound
 returns c =
-    let d = c in
-    let a = d.args in
-    let e : c.wide.result + c.wide-2.result ≡ a.which + a.next = omega arith in (
-      rw (sym d.has_part.ensures ∙ not-false d.has_part.result d.if-not-has_part.false-raw) (c.word.ensures.0 ∙ ap (λ (i : ℕ). get_or a.words.now i 0) e),
-      c.word.ensures.1,
-    )
+    (rw (sym c.has_part.ensures ∙ not-false c.has_part.result c.if-not-has_part.false-raw) c.get.ensures, search rules)

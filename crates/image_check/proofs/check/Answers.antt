@@ -59,15 +59,15 @@ invariant_of-parts c =
     let l = counts_le vc.result ec.result x.result y.result k in
     let le : y.result ≤ 4000 = omega (arith, l.1, ec.ensures) in
     let z = c.record_size in
-    let hv = vertices_all a.words.now h z.result x.result z.ensures.0 x.ensures c.part.result.now c.part.ensures.0 in
-    let he = edges_all a.words.now h y.result y.ensures c.part-2.result.now c.part-2.ensures.0 in
+    let hv = vertices_all a.words.now h z.result x.result z.ensures.0 x.ensures c.within.result.now c.within.ensures.0 in
+    let he = edges_all a.words.now h y.result y.ensures c.within-2.result.now c.within-2.ensures.0 in
     record {
       sizes = record {
         least = omega (arith, z.ensures.0, (size_range (record_size a.words.now) (record_size_lem a.words.now)).0);
         most = z.ensures.1;
         vertices = omega (arith, hv, l.0, vc.ensures, mul-le-mul_right x.result z.ensures.1);
         edges = omega (arith, he, le);
-        incidences = incidences_few a.words.now h y.result y.ensures le c.part-3.result.now c.part-3.ensures.0;
+        incidences = incidences_few a.words.now h y.result y.ensures le c.within-3.result.now c.within-3.ensures.0;
       };
     }
 
@@ -83,9 +83,9 @@ returns c =
     let h = sym s.ensures ∙ not-false s.result c.if-not-sound.false-raw in
     let k = sym n.ensures ∙ not-false n.result c.if-not-counts.false-raw in
     let z = c.record_size in
-    let u = c.part in
-    let v = c.part-2 in
-    let w = c.part-3 in
+    let u = c.within in
+    let v = c.within-2 in
+    let w = c.within-3 in
     verdict_by a.words.now h
     (λ i. omega (arith, c.type_inv.words i)) vc.result
     ec.result a.types z.result x.result y.result

@@ -15,12 +15,12 @@ returns-in_err-check_saved c =
 pub returns-then-page-count : goal.returns-then-page-count
 returns-then-page-count c =
     let a = c.args in
-    page_short a.words.now _ (ap code_of (sym c.check_saved.ensures ∙ c.in_ok-check_saved.was)) c.part-records.ensures.0 a.page.now
+    page_short a.words.now _ (ap code_of (sym c.check_saved.ensures ∙ c.in_ok-check_saved.was)) c.within-records.ensures.0 a.page.now
     c.if-page-count.true
 
 pub returns : goal.returns
 returns c =
     let r = c.rows in
     let a = c.args in
-    page_done a.words.now _ (ap code_of (sym c.check_saved.ensures ∙ c.in_ok-check_saved.was)) c.part-records.ensures.0 a.page.now
+    page_done a.words.now _ (ap code_of (sym c.check_saved.ensures ∙ c.in_ok-check_saved.was)) c.within-records.ensures.0 a.page.now
     r.new.out r.result c.if-page-count.false r.ensures

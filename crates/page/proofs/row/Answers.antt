@@ -1,8 +1,8 @@
-use mathlib.Core.Path.{refl}
+use mathlib.Core.Path.{refl, ap}
 use native.Mathlib.Omega.{arith}
 use Prim.Native.Nat.{◌+◌}
-use Rattle.decimal.proofs.Stores.{stored_byte, stored_then}
-use Rattle.page.specs.Rows.{row_of}
+use Rattle.decimal.proofs.Stores.{stored_as, stored_byte, stored_then}
+use Rattle.page.specs.Rows.{reading_column, row_of}
 use Rattle.page.proofs.Columns.{cell_length, reading_length}
 use Rattle.page.proofs.row.Goals as goal
 
@@ -85,4 +85,4 @@ returns c =
     (stored_then c.cell-b.ensures
     (stored_then c.cell-c.ensures
     (stored_then c.cell-d.ensures
-    (stored_then r.ensures (stored_byte r.new.out _ r.result 10 (r.result + 1) refl refl)))))
+    (stored_then (stored_as (ap reading_column c.from_words.ensures) r.ensures) (stored_byte r.new.out _ r.result 10 (r.result + 1) refl refl)))))

@@ -4,9 +4,6 @@ use Rattle.commands.specs.Calls.{calls_of}
 use Rattle.engine.proofs.CallLaws.{used_fits, capacity_is, reads_five, own_calls, after_at}
 use Rattle.engine.proofs.calls.each.Goals as goal
 
-pub overflow_cast-capacity : goal.overflow_cast-capacity
-overflow_cast-capacity c = let p = c.requires.runs in omega (arith, p.2.represents.journal.rows.short)
-
 pub carry_out-requires : goal.carry_out-requires
 carry_out-requires c =
     let s = c in

@@ -32,18 +32,6 @@ returns-then-not-are_good c =
     let z = sym c.check_lengths.ensures.0 ∙ ap code_if_refused c.in_ok-check_lengths.was in
     λ l h. rows_refused l _ _ _ _ _ _ _ _ h z (search rules)
 
-pub overflow_cast-v : goal.overflow_cast-v
-overflow_cast-v c =
-    let a = c.args in
-    let z = sym c.check_lengths.ensures.0 ∙ ap code_if_refused c.in_ok-check_lengths.was in
-    omega (arith, (capacities a.calls a.answers a.vertices a.edges a.journal z).0)
-
-pub overflow_cast-e : goal.overflow_cast-e
-overflow_cast-e c =
-    let a = c.args in
-    let z = sym c.check_lengths.ensures.0 ∙ ap code_if_refused c.in_ok-check_lengths.was in
-    omega (arith, (capacities a.calls a.answers a.vertices a.edges a.journal z).1)
-
 pub overflow_cast-rows : goal.overflow_cast-rows
 overflow_cast-rows c = omega (arith, (good_facts c.args.rows.now (search rules)).few)
 

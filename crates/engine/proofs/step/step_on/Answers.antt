@@ -32,8 +32,8 @@ returns-in-Alter c =
           c.args.capacity in
           rw c.in-Alter.is
           (alter_answers w m _ _ _ _ h n _ _ _ c.alter.auto.journal
-          (c.alter.ensures.changed.follows (bounds_in w) m n (sym h.setting.types_in) h.represents (free_is w m _ _ _ _ h n)));
-      leaves = c.alter.ensures.changed.leaves;
+          (c.alter.ensures.changes.follows (bounds_in w) m n (sym h.setting.types_in) h.represents (free_is w m _ _ _ _ h n)));
+      leaves = c.alter.ensures.changes.leaves;
       same_loan = c.alter.ensures.same_loan;
     }
 
@@ -79,9 +79,3 @@ returns-in-Unknown c =
       leaves = λ z. (ap (λ (d : Called). d.store) c.answer.ensures, refl);
       same_loan = record { vertices = refl; edges = refl; vertices_length = refl; edges_length = refl };
     }
-
-pub overflow_sub-free : goal.overflow_sub-free
-overflow_sub-free c = c.requires.1.0
-
-pub overflow_sub-free-in-History : goal.overflow_sub-free-in-History
-overflow_sub-free-in-History c = c.requires.1.0

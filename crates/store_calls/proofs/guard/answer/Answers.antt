@@ -82,12 +82,6 @@ returns-then-not-there c =
           (not-true _ c.if-not-there.true-raw) c.refuse.ensures;
     }
 
-pub overflow_sub-free : goal.overflow_sub-free
-overflow_sub-free c = omega (arith, c.requires.runs.1.0)
-
-pub slice_bounds-beyond-end : goal.slice_bounds-beyond-end
-slice_bounds-beyond-end c = omega (arith, c.requires.in_bounds)
-
 pub beyond-requires : goal.beyond-requires
 beyond-requires c =
     let p = c.requires.runs.0 in (
@@ -109,14 +103,6 @@ returns-then-beyond c =
 
 pub stretch_length-count-requires : goal.stretch_length-count-requires
 stretch_length-count-requires c = c.requires.in_bounds
-
-pub overflow_mul-count : goal.overflow_mul-count
-overflow_mul-count c =
-    omega (
-      arith,
-      c.stretch_length-count.ensures.there,
-      c.well_formed.1.1.1.1.1.1.1.1.0.1,
-    )
 
 -- the calls taken, and what the loop asks of them
 pub carry_out-after-requires : goal.carry_out-after-requires
@@ -156,12 +142,3 @@ returns c =
           (far_at_After_slice_known_10_1 c w m h)
           ∙ c.if-beyond.false)));
     }
-
-pub slice_bounds-carry_out-count : goal.slice_bounds-carry_out-count
-slice_bounds-carry_out-count c = omega (arith, c.stretch_length-count.ensures.some)
-
-pub slice_bounds-carry_out-start : goal.slice_bounds-carry_out-start
-slice_bounds-carry_out-start c = omega (arith, c.stretch_length-count.ensures.some)
-
-pub slice_bounds-carry_out-end : goal.slice_bounds-carry_out-end
-slice_bounds-carry_out-end c = omega (arith, c.stretch_length-count.ensures.there)

@@ -40,35 +40,6 @@ record Left (w : Parameters) (s : Stores) (v e t k c n : ℕ) (calls : List ℕ)
   rest : room - used ≡ joint_room (last_in w (last_in w s (take k (store_calls_of calls))) (take c (store_calls_of (take (6 * n - 6 * k) (drop (6 * k) calls)))))
   written : part' ≡ overwritten (answer_words (answers_in w (last_in w s (take k (store_calls_of calls))) (take c (store_calls_of (take (6 * n - 6 * k) (drop (6 * k) calls)))))) part
 
-facts_at_After_slot_i : (c : goal.After-slot-i) → Facts c.args.v
-    c.args.e c.args.t
-    c.slot-i.result c.args.stores c.loop-k.vertices
-    c.loop-k.edges c.loop-k.journal
-    (store_at c.loop-k.all c.slot-i.result).current.position.used c.loop-k.room
-facts_at_After_slot_i c =
-    let a = c.args in
-    let l = c.loop-k in
-    let p = c.requires.serves in
-    let g = l.invariant.5 p.0 p.1 p.2 p.3 p.4 in
-    let S = last_in p.0 p.1 (take l.k (store_calls_of a.calls.now)) in
-    let z = sizes a.v a.e a.t in
-    let m = whole l.vertices l.edges l.journal l.marks in
-    let h = g.0.after in
-    let q = limits_last p.0 p.1 (take l.k (store_calls_of a.calls.now)) in
-    let i : c.slot-i.result < S.count = omega (arith, c.slot-i.ensures.upper_bound, q.0, p.2) in
-    record {
-      eight = in_eight p.0 z l.all m _ _ S h c.slot-i.result i;
-      vend = vertices_end p.0 z l.all m _ _ S h c.slot-i.result i;
-      eend = edges_end p.0 z l.all m _ _ S h c.slot-i.result i;
-      tend = journal_end p.0 z l.all m _ _ S h c.slot-i.result i;
-      vshort = omega (arith, l.invariant.1, c.well_formed.1.0.1);
-      eshort = omega (arith, l.invariant.2, c.well_formed.1.1.0.1);
-      tshort = omega (arith, l.invariant.3, c.well_formed.1.1.1.0.1);
-      fits = used_fits p.0 z l.all m _ _ S h c.slot-i.result i;
-      short = let r = room_short p.0 z l.all m _ _ S h c.slot-i.result i in omega (arith, r, g.1);
-      words = part_short p.0 z l.all m _ _ S h;
-    }
-
 facts_at_After_x_1 : (c : goal.After-x-1) → Facts c.args.v
     c.args.e c.args.t
     c.slot-i.result c.args.stores c.loop-k.vertices
@@ -98,141 +69,7 @@ facts_at_After_x_1 c =
       words = part_short p.0 z l.all m _ _ S h;
     }
 
-facts_at_After_min_granted : (c : goal.After-min-granted) → Facts c.args.v
-    c.args.e c.args.t
-    c.slot-i.result c.args.stores c.loop-k.vertices
-    c.loop-k.edges c.loop-k.journal
-    (store_at c.loop-k.all c.slot-i.result).current.position.used c.loop-k.room
-facts_at_After_min_granted c =
-    let a = c.args in
-    let l = c.loop-k in
-    let p = c.requires.serves in
-    let g = l.invariant.5 p.0 p.1 p.2 p.3 p.4 in
-    let S = last_in p.0 p.1 (take l.k (store_calls_of a.calls.now)) in
-    let z = sizes a.v a.e a.t in
-    let m = whole l.vertices l.edges l.journal l.marks in
-    let h = g.0.after in
-    let q = limits_last p.0 p.1 (take l.k (store_calls_of a.calls.now)) in
-    let i : c.slot-i.result < S.count = omega (arith, c.slot-i.ensures.upper_bound, q.0, p.2) in
-    record {
-      eight = in_eight p.0 z l.all m _ _ S h c.slot-i.result i;
-      vend = vertices_end p.0 z l.all m _ _ S h c.slot-i.result i;
-      eend = edges_end p.0 z l.all m _ _ S h c.slot-i.result i;
-      tend = journal_end p.0 z l.all m _ _ S h c.slot-i.result i;
-      vshort = omega (arith, l.invariant.1, c.well_formed.1.0.1);
-      eshort = omega (arith, l.invariant.2, c.well_formed.1.1.0.1);
-      tshort = omega (arith, l.invariant.3, c.well_formed.1.1.1.0.1);
-      fits = used_fits p.0 z l.all m _ _ S h c.slot-i.result i;
-      short = let r = room_short p.0 z l.all m _ _ S h c.slot-i.result i in omega (arith, r, g.1);
-      words = part_short p.0 z l.all m _ _ S h;
-    }
-
-facts_at_After_answer_arg_1 : (c : goal.After-answer-arg-1) → Facts c.args.v
-    c.args.e c.args.t
-    c.slot-i.result c.args.stores c.loop-k.vertices
-    c.loop-k.edges c.loop-k.journal
-    (store_at c.loop-k.all c.slot-i.result).current.position.used c.loop-k.room
-facts_at_After_answer_arg_1 c =
-    let a = c.args in
-    let l = c.loop-k in
-    let p = c.requires.serves in
-    let g = l.invariant.5 p.0 p.1 p.2 p.3 p.4 in
-    let S = last_in p.0 p.1 (take l.k (store_calls_of a.calls.now)) in
-    let z = sizes a.v a.e a.t in
-    let m = whole l.vertices l.edges l.journal l.marks in
-    let h = g.0.after in
-    let q = limits_last p.0 p.1 (take l.k (store_calls_of a.calls.now)) in
-    let i : c.slot-i.result < S.count = omega (arith, c.slot-i.ensures.upper_bound, q.0, p.2) in
-    record {
-      eight = in_eight p.0 z l.all m _ _ S h c.slot-i.result i;
-      vend = vertices_end p.0 z l.all m _ _ S h c.slot-i.result i;
-      eend = edges_end p.0 z l.all m _ _ S h c.slot-i.result i;
-      tend = journal_end p.0 z l.all m _ _ S h c.slot-i.result i;
-      vshort = omega (arith, l.invariant.1, c.well_formed.1.0.1);
-      eshort = omega (arith, l.invariant.2, c.well_formed.1.1.0.1);
-      tshort = omega (arith, l.invariant.3, c.well_formed.1.1.1.0.1);
-      fits = used_fits p.0 z l.all m _ _ S h c.slot-i.result i;
-      short = let r = room_short p.0 z l.all m _ _ S h c.slot-i.result i in omega (arith, r, g.1);
-      words = part_short p.0 z l.all m _ _ S h;
-    }
-
-facts_at_After_answer_arg_in_loop_k_1 : (c : goal.After-answer-arg-in-loop-k-1) → Facts c.args.v
-    c.args.e c.args.t
-    c.slot-i.result c.args.stores c.loop-k.vertices
-    c.loop-k.edges c.loop-k.journal
-    (store_at c.loop-k.all c.slot-i.result).current.position.used c.loop-k.room
-facts_at_After_answer_arg_in_loop_k_1 c =
-    let a = c.args in
-    let l = c.loop-k in
-    let p = c.requires.serves in
-    let g = l.invariant.5 p.0 p.1 p.2 p.3 p.4 in
-    let S = last_in p.0 p.1 (take l.k (store_calls_of a.calls.now)) in
-    let z = sizes a.v a.e a.t in
-    let m = whole l.vertices l.edges l.journal l.marks in
-    let h = g.0.after in
-    let q = limits_last p.0 p.1 (take l.k (store_calls_of a.calls.now)) in
-    let i : c.slot-i.result < S.count = omega (arith, c.slot-i.ensures.upper_bound, q.0, p.2) in
-    record {
-      eight = in_eight p.0 z l.all m _ _ S h c.slot-i.result i;
-      vend = vertices_end p.0 z l.all m _ _ S h c.slot-i.result i;
-      eend = edges_end p.0 z l.all m _ _ S h c.slot-i.result i;
-      tend = journal_end p.0 z l.all m _ _ S h c.slot-i.result i;
-      vshort = omega (arith, l.invariant.1, c.well_formed.1.0.1);
-      eshort = omega (arith, l.invariant.2, c.well_formed.1.1.0.1);
-      tshort = omega (arith, l.invariant.3, c.well_formed.1.1.1.0.1);
-      fits = used_fits p.0 z l.all m _ _ S h c.slot-i.result i;
-      short = let r = room_short p.0 z l.all m _ _ S h c.slot-i.result i in omega (arith, r, g.1);
-      words = part_short p.0 z l.all m _ _ S h;
-    }
-
-facts_at_After_answer_arg_in_loop_k_2_1 : (c : goal.After-answer-arg-in-loop-k-2-1) → Facts c.args.v
-    c.args.e c.args.t
-    c.slot-i.result c.args.stores c.loop-k.vertices
-    c.loop-k.edges c.loop-k.journal
-    (store_at c.loop-k.all c.slot-i.result).current.position.used c.loop-k.room
-facts_at_After_answer_arg_in_loop_k_2_1 c =
-    let a = c.args in
-    let l = c.loop-k in
-    let p = c.requires.serves in
-    let g = l.invariant.5 p.0 p.1 p.2 p.3 p.4 in
-    let S = last_in p.0 p.1 (take l.k (store_calls_of a.calls.now)) in
-    let z = sizes a.v a.e a.t in
-    let m = whole l.vertices l.edges l.journal l.marks in
-    let h = g.0.after in
-    let q = limits_last p.0 p.1 (take l.k (store_calls_of a.calls.now)) in
-    let i : c.slot-i.result < S.count = omega (arith, c.slot-i.ensures.upper_bound, q.0, p.2) in
-    record {
-      eight = in_eight p.0 z l.all m _ _ S h c.slot-i.result i;
-      vend = vertices_end p.0 z l.all m _ _ S h c.slot-i.result i;
-      eend = edges_end p.0 z l.all m _ _ S h c.slot-i.result i;
-      tend = journal_end p.0 z l.all m _ _ S h c.slot-i.result i;
-      vshort = omega (arith, l.invariant.1, c.well_formed.1.0.1);
-      eshort = omega (arith, l.invariant.2, c.well_formed.1.1.0.1);
-      tshort = omega (arith, l.invariant.3, c.well_formed.1.1.1.0.1);
-      fits = used_fits p.0 z l.all m _ _ S h c.slot-i.result i;
-      short = let r = room_short p.0 z l.all m _ _ S h c.slot-i.result i in omega (arith, r, g.1);
-      words = part_short p.0 z l.all m _ _ S h;
-    }
-
 -- the lists are as long as slices can be
-lists_short : (c : goal.After-answer-arg-in-loop-k-3-1) → (length c.args.calls.now * 4 < 9223372036854775808)
-    × (length c.loop-k.answers * 4 < 9223372036854775808)
-    × (2 * (length c.args.calls.now / 6) ≤ length c.loop-k.answers)
-lists_short c = (
-  c.well_formed.1.1.1.1.1.1.1.0.1,
-  omega (arith, c.loop-k.invariant.4, c.well_formed.1.1.1.1.1.1.1.1.0.1),
-  omega (arith, c.loop-k.invariant.4, c.requires.calls_in_bounds),
-)
-
-lists_short_at_After_answer_arg_in_loop_k_4_1 : (c : goal.After-answer-arg-in-loop-k-4-1) → (length c.args.calls.now * 4 < 9223372036854775808)
-    × (length c.loop-k.answers * 4 < 9223372036854775808)
-    × (2 * (length c.args.calls.now / 6) ≤ length c.loop-k.answers)
-lists_short_at_After_answer_arg_in_loop_k_4_1 c = (
-  c.well_formed.1.1.1.1.1.1.1.0.1,
-  omega (arith, c.loop-k.invariant.4, c.well_formed.1.1.1.1.1.1.1.1.0.1),
-  omega (arith, c.loop-k.invariant.4, c.requires.calls_in_bounds),
-)
-
 facts_at_After_answer_arg_in_loop_k_5_1 : (c : goal.After-answer-arg-in-loop-k-5-1) → Facts c.args.v
     c.args.e c.args.t
     c.slot-i.result c.args.stores c.loop-k.vertices
@@ -456,15 +293,6 @@ taken_in c = let t = c.answer-done.ensures.alike in (
   ),
 )
 
-lists_short_at_After_struct_known_1 : (c : goal.After-struct_known-1) → (length c.args.calls.now * 4 < 9223372036854775808)
-    × (length c.loop-k.answers * 4 < 9223372036854775808)
-    × (2 * (length c.args.calls.now / 6) ≤ length c.loop-k.answers)
-lists_short_at_After_struct_known_1 c = (
-  c.well_formed.1.1.1.1.1.1.1.0.1,
-  omega (arith, c.loop-k.invariant.4, c.well_formed.1.1.1.1.1.1.1.1.0.1),
-  omega (arith, c.loop-k.invariant.4, c.requires.calls_in_bounds),
-)
-
 facts_at_After_struct_known_1 : (c : goal.After-struct_known-1) → Facts c.args.v
     c.args.e c.args.t
     c.slot-i.result c.args.stores c.loop-k.vertices
@@ -623,149 +451,11 @@ pub loop-k-init : goal.loop-k-init
 unfolding last_in answers_in
 loop-k-init c = (omega arith, refl, refl, refl, refl, (λ w s e f h. (record { after = h; answered = refl }, f)), refl, refl, refl)
 
-pub overflow_mul-number : goal.overflow_mul-number
-overflow_mul-number c = omega (arith, c.loop-k-test, c.well_formed.1.1.1.1.1.1.1.0.1)
-
-pub offset_bounds-calls-k : goal.offset_bounds-calls-k
-offset_bounds-calls-k c = omega (arith, c.loop-k-test, c.well_formed.1.1.1.1.1.1.1.0.1)
-
 pub slot-i-requires : goal.slot-i-requires
 slot-i-requires c = let p = c.requires.serves in omega (arith, p.2, p.4.some)
 
-pub bounds-all-i : goal.bounds-all-i
-bounds-all-i c = (facts_at_After_slot_i (c)).eight
-
 pub overflow_add-used : goal.overflow_add-used
 overflow_add-used c = let f = (facts_at_After_x_1 c).short in omega (arith, f)
-
-pub overflow_mul-i : goal.overflow_mul-i
-overflow_mul-i c = let f = facts_at_After_min_granted c in omega (arith, f.vend, f.vshort)
-
-pub overflow_mul-i-in-loop-k : goal.overflow_mul-i-in-loop-k
-overflow_mul-i-in-loop-k c = let f = facts_at_After_min_granted c in omega (arith, f.vend, f.vshort)
-
-pub overflow_add-i : goal.overflow_add-i
-overflow_add-i c = let f = facts_at_After_min_granted c in omega (arith, f.vend, f.vshort)
-
-pub offset_bounds-vertices-i : goal.offset_bounds-vertices-i
-offset_bounds-vertices-i c = let f = facts_at_After_min_granted c in omega (arith, f.vend, f.vshort)
-
-pub slice_bounds-answer-count : goal.slice_bounds-answer-count
-slice_bounds-answer-count c = let f = facts_at_After_min_granted c in omega (arith, f.vend, f.vshort)
-
-pub slice_bounds-answer-start : goal.slice_bounds-answer-start
-slice_bounds-answer-start c = let f = facts_at_After_min_granted c in omega (arith, f.vend, f.vshort)
-
-pub slice_bounds-answer-end : goal.slice_bounds-answer-end
-slice_bounds-answer-end c = let f = facts_at_After_min_granted c in omega (arith, f.vend, f.vshort)
-
-pub overflow_mul-i-in-loop-k-2 : goal.overflow_mul-i-in-loop-k-2
-overflow_mul-i-in-loop-k-2 c = let f = facts_at_After_answer_arg_1 c in omega (arith, f.eend, f.eshort)
-
-pub overflow_mul-i-in-loop-k-3 : goal.overflow_mul-i-in-loop-k-3
-overflow_mul-i-in-loop-k-3 c = let f = facts_at_After_answer_arg_1 c in omega (arith, f.eend, f.eshort)
-
-pub overflow_add-i-in-loop-k : goal.overflow_add-i-in-loop-k
-overflow_add-i-in-loop-k c = let f = facts_at_After_answer_arg_1 c in omega (arith, f.eend, f.eshort)
-
-pub offset_bounds-edges-i : goal.offset_bounds-edges-i
-offset_bounds-edges-i c = let f = facts_at_After_answer_arg_1 c in omega (arith, f.eend, f.eshort)
-
-pub slice_bounds-answer-count-in-loop-k : goal.slice_bounds-answer-count-in-loop-k
-slice_bounds-answer-count-in-loop-k c = let f = facts_at_After_answer_arg_1 c in omega (arith, f.eend, f.eshort)
-
-pub slice_bounds-answer-start-in-loop-k : goal.slice_bounds-answer-start-in-loop-k
-slice_bounds-answer-start-in-loop-k c = let f = facts_at_After_answer_arg_1 c in omega (arith, f.eend, f.eshort)
-
-pub slice_bounds-answer-end-in-loop-k : goal.slice_bounds-answer-end-in-loop-k
-slice_bounds-answer-end-in-loop-k c = let f = facts_at_After_answer_arg_1 c in omega (arith, f.eend, f.eshort)
-
-pub overflow_mul-i-in-loop-k-4 : goal.overflow_mul-i-in-loop-k-4
-overflow_mul-i-in-loop-k-4 c = let f = facts_at_After_answer_arg_in_loop_k_1 c in omega (arith, f.tend, f.tshort)
-
-pub overflow_mul-i-in-loop-k-5 : goal.overflow_mul-i-in-loop-k-5
-overflow_mul-i-in-loop-k-5 c = let f = facts_at_After_answer_arg_in_loop_k_1 c in omega (arith, f.tend, f.tshort)
-
-pub overflow_add-i-in-loop-k-2 : goal.overflow_add-i-in-loop-k-2
-overflow_add-i-in-loop-k-2 c = let f = facts_at_After_answer_arg_in_loop_k_1 c in omega (arith, f.tend, f.tshort)
-
-pub offset_bounds-journal-i : goal.offset_bounds-journal-i
-offset_bounds-journal-i c = let f = facts_at_After_answer_arg_in_loop_k_1 c in omega (arith, f.tend, f.tshort)
-
-pub slice_bounds-answer-count-in-loop-k-2 : goal.slice_bounds-answer-count-in-loop-k-2
-slice_bounds-answer-count-in-loop-k-2 c = let f = facts_at_After_answer_arg_in_loop_k_1 c in omega (arith, f.tend, f.tshort)
-
-pub slice_bounds-answer-start-in-loop-k-2 : goal.slice_bounds-answer-start-in-loop-k-2
-slice_bounds-answer-start-in-loop-k-2 c = let f = facts_at_After_answer_arg_in_loop_k_1 c in omega (arith, f.tend, f.tshort)
-
-pub slice_bounds-answer-end-in-loop-k-2 : goal.slice_bounds-answer-end-in-loop-k-2
-slice_bounds-answer-end-in-loop-k-2 c = let f = facts_at_After_answer_arg_in_loop_k_1 c in omega (arith, f.tend, f.tshort)
-
-pub offset_bounds-marks-i : goal.offset_bounds-marks-i
-offset_bounds-marks-i c = let f = (facts_at_After_answer_arg_in_loop_k_2_1 c).eight in omega (arith, f)
-
-pub bounds-marks-i : goal.bounds-marks-i
-bounds-marks-i c = (facts_at_After_answer_arg_in_loop_k_2_1 c).eight
-
-pub overflow_mul-k : goal.overflow_mul-k
-overflow_mul-k c =
-    let s = lists_short c in
-    omega (arith, c.loop-k-test, s.0, s.1, s.2)
-
-pub overflow_mul-n : goal.overflow_mul-n
-overflow_mul-n c =
-    let s = lists_short c in
-    omega (arith, c.loop-k-test, s.0, s.1, s.2)
-
-pub offset_bounds-calls-k-in-loop-k : goal.offset_bounds-calls-k-in-loop-k
-offset_bounds-calls-k-in-loop-k c =
-    let s = lists_short c in
-    omega (arith, c.loop-k-test, s.0, s.1, s.2)
-
-pub slice_bounds-answer-count-in-loop-k-3 : goal.slice_bounds-answer-count-in-loop-k-3
-slice_bounds-answer-count-in-loop-k-3 c =
-    let s = lists_short c in
-    omega (arith, c.loop-k-test, s.0, s.1, s.2)
-
-pub slice_bounds-answer-start-in-loop-k-3 : goal.slice_bounds-answer-start-in-loop-k-3
-slice_bounds-answer-start-in-loop-k-3 c =
-    let s = lists_short c in
-    omega (arith, c.loop-k-test, s.0, s.1, s.2)
-
-pub slice_bounds-answer-end-in-loop-k-4 : goal.slice_bounds-answer-end-in-loop-k-4
-slice_bounds-answer-end-in-loop-k-4 c =
-    let s = lists_short c in
-    omega (arith, c.loop-k-test, s.0, s.1, s.2)
-
-pub overflow_mul-k-in-loop-k : goal.overflow_mul-k-in-loop-k
-overflow_mul-k-in-loop-k c =
-    let s = lists_short_at_After_answer_arg_in_loop_k_4_1 c in
-    omega (arith, c.loop-k-test, s.0, s.1, s.2)
-
-pub overflow_mul-n-in-loop-k : goal.overflow_mul-n-in-loop-k
-overflow_mul-n-in-loop-k c =
-    let s = lists_short_at_After_answer_arg_in_loop_k_4_1 c in
-    omega (arith, c.loop-k-test, s.0, s.1, s.2)
-
-pub offset_bounds-answers-k : goal.offset_bounds-answers-k
-offset_bounds-answers-k c =
-    let s = lists_short_at_After_answer_arg_in_loop_k_4_1 c in
-    omega (arith, c.loop-k-test, s.0, s.1, s.2)
-
-pub slice_bounds-answer-count-in-loop-k-4 : goal.slice_bounds-answer-count-in-loop-k-4
-slice_bounds-answer-count-in-loop-k-4 c =
-    let s = lists_short_at_After_answer_arg_in_loop_k_4_1 c in
-    omega (arith, c.loop-k-test, s.0, s.1, s.2)
-
-pub slice_bounds-answer-start-in-loop-k-4 : goal.slice_bounds-answer-start-in-loop-k-4
-slice_bounds-answer-start-in-loop-k-4 c =
-    let s = lists_short_at_After_answer_arg_in_loop_k_4_1 c in
-    omega (arith, c.loop-k-test, s.0, s.1, s.2)
-
-pub slice_bounds-answer-end-in-loop-k-5 : goal.slice_bounds-answer-end-in-loop-k-5
-slice_bounds-answer-end-in-loop-k-5 c =
-    let s = lists_short_at_After_answer_arg_in_loop_k_4_1 c in
-    omega (arith, c.loop-k-test, s.0, s.1, s.2)
 
 pub answer-done-requires : goal.answer-done-requires
 answer-done-requires c =
@@ -791,12 +481,6 @@ answer-done-requires c =
       );
     }
 
-pub offset_bounds-all-i-in-loop-k : goal.offset_bounds-all-i-in-loop-k
-offset_bounds-all-i-in-loop-k c = let f = (facts_at_After_same_y c).eight in omega (arith, f)
-
-pub bounds-all-i-in-loop-k : goal.bounds-all-i-in-loop-k
-bounds-all-i-in-loop-k c = (facts_at_After_same_y c).eight
-
 pub overflow_add-room : goal.overflow_add-room
 overflow_add-room c =
     let f =
@@ -806,15 +490,6 @@ pub overflow_sub-room : goal.overflow_sub-room
 overflow_sub-room c =
     let p =
     c.requires.serves in (after_at_After_same_y (c) p.0 p.1 p.2 p.3 p.4).enough
-
-pub overflow_add-k : goal.overflow_add-k
-overflow_add-k c =
-    omega (
-      arith,
-      taken_in c,
-      (lists_short_at_After_struct_known_1
-          c).0,
-    )
 
 pub loop-k-smaller : goal.loop-k-smaller
 loop-k-smaller c =
@@ -866,18 +541,6 @@ loop-k-preserved c =
           ∙ l.invariant.8,
     )
 
-pub shape_of-vertices : goal.shape_of-vertices
-shape_of-vertices c = c.loop-k.invariant.1
-
-pub shape_of-edges : goal.shape_of-edges
-shape_of-edges c = c.loop-k.invariant.2
-
-pub shape_of-journal : goal.shape_of-journal
-shape_of-journal c = c.loop-k.invariant.3
-
-pub shape_of-answers : goal.shape_of-answers
-shape_of-answers c = c.loop-k.invariant.4
-
 pub returns : goal.returns
 returns c =
     let a = c.args in
@@ -889,9 +552,3 @@ returns c =
           a.answers.now l.answers) d g);
       rest_stays = (l.invariant.6, l.invariant.7, l.invariant.8);
     }
-
-pub bounds-calls-k : goal.bounds-calls-k
-bounds-calls-k c = omega (arith, c.loop-k-test)
-
-pub offset_bounds-all-i : goal.offset_bounds-all-i
-offset_bounds-all-i c = omega (arith, (facts_at_After_slot_i (c)).eight)

@@ -45,9 +45,6 @@ returns-in-Err c =
           ∙ (λ i. number_beside (sym e i) (sym o i));
     }
 
-pub overflow_add-at-in-loop : goal.overflow_add-at-in-loop
-overflow_add-at-in-loop c = omega (arith, c.first_length-n.ensures.1, length-drop c.loop.at c.args.start.now, c.well_formed)
-
 pub loop-preserved : goal.loop-preserved
 loop-preserved c =
     let l = c.loop in
@@ -81,30 +78,3 @@ returns c =
     let z : a.stores - l.counter ≡ 0 = omega arith in
     let e = l.invariant.1 ∙ code_end b (a.stores - l.counter) l.at a.start.now z c.if-at-start.false in
     let o = l.invariant.2 ∙ offset_end b (a.stores - l.counter) l.at (drop l.at a.start.now) z in record { code_value = sym e; number_value = beside_none (starts_code b a.stores a.start.now) ∙ ap (λ (k : ℕ). number_beside (starts_code b a.stores a.start.now) k) (sym o) }
-
-pub offset_bounds-start-at : goal.offset_bounds-start-at
-offset_bounds-start-at c = omega arith
-
-pub slice_bounds-first_length-count : goal.slice_bounds-first_length-count
-slice_bounds-first_length-count c = omega arith
-
-pub slice_bounds-first_length-start : goal.slice_bounds-first_length-start
-slice_bounds-first_length-start c = omega arith
-
-pub slice_bounds-first_length-end : goal.slice_bounds-first_length-end
-slice_bounds-first_length-end c = omega arith
-
-pub overflow_add-at : goal.overflow_add-at
-overflow_add-at c = omega (arith, c.first_length-n.ensures.1, length-drop c.loop.at c.args.start.now)
-
-pub offset_bounds-start-at-in-loop : goal.offset_bounds-start-at-in-loop
-offset_bounds-start-at-in-loop c = omega (arith, c.first_length-n.ensures.1, length-drop c.loop.at c.args.start.now)
-
-pub slice_bounds-check-count : goal.slice_bounds-check-count
-slice_bounds-check-count c = omega (arith, c.first_length-n.ensures.1, length-drop c.loop.at c.args.start.now)
-
-pub slice_bounds-check-start : goal.slice_bounds-check-start
-slice_bounds-check-start c = omega (arith, c.first_length-n.ensures.1, length-drop c.loop.at c.args.start.now)
-
-pub slice_bounds-check-end : goal.slice_bounds-check-end
-slice_bounds-check-end c = omega (arith, c.first_length-n.ensures.1, length-drop c.loop.at c.args.start.now)

@@ -29,36 +29,6 @@ check_starts-requires c =
     let k = capacities a.calls a.answers a.vertices a.edges a.journal a.stores z in
     (k.1, k.2)
 
-pub nonzero_div-v : goal.nonzero_div-v
-nonzero_div-v c =
-    let a = c.args in
-    let z = sym c.check_lengths.ensures.0 ∙ ap code_if_refused c.in_ok-check_lengths.was in
-    omega (arith, (capacities a.calls a.answers a.vertices a.edges a.journal a.stores z).0)
-
-pub overflow_cast-v : goal.overflow_cast-v
-overflow_cast-v c =
-    let a = c.args in
-    let z = sym c.check_lengths.ensures.0 ∙ ap code_if_refused c.in_ok-check_lengths.was in
-    omega (arith, (capacities a.calls a.answers a.vertices a.edges a.journal a.stores z).1)
-
-pub nonzero_div-e : goal.nonzero_div-e
-nonzero_div-e c =
-    let a = c.args in
-    let z = sym c.check_lengths.ensures.0 ∙ ap code_if_refused c.in_ok-check_lengths.was in
-    omega (arith, (capacities a.calls a.answers a.vertices a.edges a.journal a.stores z).0)
-
-pub overflow_cast-e : goal.overflow_cast-e
-overflow_cast-e c =
-    let a = c.args in
-    let z = sym c.check_lengths.ensures.0 ∙ ap code_if_refused c.in_ok-check_lengths.was in
-    omega (arith, (capacities a.calls a.answers a.vertices a.edges a.journal a.stores z).2)
-
-pub nonzero_div-image : goal.nonzero_div-image
-nonzero_div-image c =
-    let a = c.args in
-    let z = sym c.check_lengths.ensures.0 ∙ ap code_if_refused c.in_ok-check_lengths.was in
-    omega (arith, (capacities a.calls a.answers a.vertices a.edges a.journal a.stores z).0)
-
 pub returns-in_err-check_starts : goal.returns-in_err-check_starts
 returns-in_err-check_starts c =
     let z = sym c.check_lengths.ensures.0 ∙ ap code_if_refused c.in_ok-check_lengths.was in

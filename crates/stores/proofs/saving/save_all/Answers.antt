@@ -39,33 +39,8 @@ few : (c : goal.After-slice_known-in-loop-i-1) → c.save-words.result ≤ c.arg
 few c = let w = c.requires.each c.loop-i.i
     (omega arith) in omega (arith, short c w.graph w.holds, (c.save-words.ensures w.graph w.holds).1)
 
-vertices_end : (c : goal.After-head-1) → c.loop-i.i * c.args.v + c.args.v ≤ length
-    c.args.vertices.now
-vertices_end c = part_end c.args.v c.loop-i.i c.args.stores
-    (length c.args.vertices.now) (omega arith) c.requires.vertices_fit
-
-edges_end : (c : goal.After-save-arg-1) → c.loop-i.i * c.args.e + c.args.e ≤ length
-    c.args.edges.now
-edges_end c = part_end c.args.e c.loop-i.i c.args.stores
-    (length c.args.edges.now) (omega arith) c.requires.edges_fit
-
-image_end_at_After_save_arg_in_loop_i_1 : (c : goal.After-save-arg-in-loop-i-1) → c.loop-i.i * c.args.n + c.args.n ≤ length
-    c.loop-i.image
-image_end_at_After_save_arg_in_loop_i_1 c =
-    omega (
-      arith,
-      part_end c.args.n c.loop-i.i c.args.stores
-          (length c.args.image.now) (omega arith) c.requires.image_fits,
-    )
-
 pub loop-i-init : goal.loop-i-init
 loop-i-init c = (refl, omega arith, λ g h. (refl, refl, done))
-
-pub offset_bounds-all-i : goal.offset_bounds-all-i
-offset_bounds-all-i c = omega (arith, c.requires.few, c.requires.many)
-
-pub bounds-all-i : goal.bounds-all-i
-bounds-all-i c = omega (arith, c.requires.few, c.requires.many)
 
 pub save-words-requires : goal.save-words-requires
 save-words-requires c =
@@ -75,17 +50,6 @@ save-words-requires c =
     subst (λ (k : ℕ). CanSave (tables_at a.all a.vertices.now a.edges.now a.v a.e l.i) k)
     (sym (part_length a.n l.i l.image e))
     (c.requires.each l.i (omega arith))
-
-pub overflow_add-words : goal.overflow_add-words
-overflow_add-words c =
-    omega (
-      arith,
-      image_end_at_After_slice_known_in_loop_i_1 c,
-      few c,
-      c.loop-i.invariant.0,
-      c.loop-i.invariant.1,
-      c.well_formed,
-    )
 
 pub loop-i-preserved : goal.loop-i-preserved
 loop-i-preserved c =
@@ -107,9 +71,6 @@ loop-i-preserved c =
           ),
     )
 
-pub shape_of-image : goal.shape_of-image
-shape_of-image c = c.loop-i.invariant.0
-
 pub returns : goal.returns
 returns c =
     let l = c.loop-i in
@@ -118,66 +79,3 @@ returns c =
     λ g h.
     let r = l.invariant.2 g h in
     (r.0 ∙ ap (λ (k : ℕ). over_parts a.n (images_to g k) a.image.now) e, r.1 ∙ ap (λ (k : ℕ). sum_of length (images_to g k)) e)
-
-pub overflow_mul-i : goal.overflow_mul-i
-overflow_mul-i c = omega (arith, vertices_end c)
-
-pub overflow_mul-i-in-loop-i : goal.overflow_mul-i-in-loop-i
-overflow_mul-i-in-loop-i c = omega (arith, vertices_end c)
-
-pub overflow_add-i : goal.overflow_add-i
-overflow_add-i c = omega (arith, vertices_end c)
-
-pub offset_bounds-vertices-i : goal.offset_bounds-vertices-i
-offset_bounds-vertices-i c = omega (arith, vertices_end c)
-
-pub slice_bounds-save-count : goal.slice_bounds-save-count
-slice_bounds-save-count c = omega (arith, vertices_end c)
-
-pub slice_bounds-save-start : goal.slice_bounds-save-start
-slice_bounds-save-start c = omega (arith, vertices_end c)
-
-pub slice_bounds-save-end : goal.slice_bounds-save-end
-slice_bounds-save-end c = omega (arith, vertices_end c)
-
-pub overflow_mul-i-in-loop-i-2 : goal.overflow_mul-i-in-loop-i-2
-overflow_mul-i-in-loop-i-2 c = omega (arith, edges_end c)
-
-pub overflow_mul-i-in-loop-i-3 : goal.overflow_mul-i-in-loop-i-3
-overflow_mul-i-in-loop-i-3 c = omega (arith, edges_end c)
-
-pub overflow_add-i-in-loop-i : goal.overflow_add-i-in-loop-i
-overflow_add-i-in-loop-i c = omega (arith, edges_end c)
-
-pub offset_bounds-edges-i : goal.offset_bounds-edges-i
-offset_bounds-edges-i c = omega (arith, edges_end c)
-
-pub slice_bounds-save-count-in-loop-i : goal.slice_bounds-save-count-in-loop-i
-slice_bounds-save-count-in-loop-i c = omega (arith, edges_end c)
-
-pub slice_bounds-save-start-in-loop-i : goal.slice_bounds-save-start-in-loop-i
-slice_bounds-save-start-in-loop-i c = omega (arith, edges_end c)
-
-pub slice_bounds-save-end-in-loop-i : goal.slice_bounds-save-end-in-loop-i
-slice_bounds-save-end-in-loop-i c = omega (arith, edges_end c)
-
-pub overflow_mul-i-in-loop-i-4 : goal.overflow_mul-i-in-loop-i-4
-overflow_mul-i-in-loop-i-4 c = omega (arith, image_end_at_After_save_arg_in_loop_i_1 c)
-
-pub overflow_mul-i-in-loop-i-5 : goal.overflow_mul-i-in-loop-i-5
-overflow_mul-i-in-loop-i-5 c = omega (arith, image_end_at_After_save_arg_in_loop_i_1 c)
-
-pub overflow_add-i-in-loop-i-2 : goal.overflow_add-i-in-loop-i-2
-overflow_add-i-in-loop-i-2 c = omega (arith, image_end_at_After_save_arg_in_loop_i_1 c)
-
-pub offset_bounds-image-i : goal.offset_bounds-image-i
-offset_bounds-image-i c = omega (arith, image_end_at_After_save_arg_in_loop_i_1 c)
-
-pub slice_bounds-save-count-in-loop-i-2 : goal.slice_bounds-save-count-in-loop-i-2
-slice_bounds-save-count-in-loop-i-2 c = omega (arith, image_end_at_After_save_arg_in_loop_i_1 c)
-
-pub slice_bounds-save-start-in-loop-i-2 : goal.slice_bounds-save-start-in-loop-i-2
-slice_bounds-save-start-in-loop-i-2 c = omega (arith, image_end_at_After_save_arg_in_loop_i_1 c)
-
-pub slice_bounds-save-end-in-loop-i-2 : goal.slice_bounds-save-end-in-loop-i-2
-slice_bounds-save-end-in-loop-i-2 c = omega (arith, image_end_at_After_save_arg_in_loop_i_1 c)
