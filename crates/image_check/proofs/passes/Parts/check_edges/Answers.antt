@@ -1,11 +1,11 @@
-use Prim.Native.Nat.{◌+◌, ◌-◌, ◌*◌}
+use Prim.Native.Nat.{◌+◌, ◌-◌, ◌*◌, ◌≤◌}
 use mathlib.Core.Path.{sym, ◌∙◌}
 use native.Mathlib.Omega.{arith}
-use lib.ListN.{get_or}
+use lib.ListN.{length, get_or}
 use Rattle.std.proofs.Common.{rules}
 use Rattle.image_check.proofs.Turns.{turn_of, along, none_left, edge_stop, edge_go, degrees_go, owners_go, edge_end, edge_in, below_ends, below_more}
 use Rattle.image_check.proofs.Verdicts.{record_not}
-use Rattle.image_check.proofs.passes.edges.Goals as goal
+use Rattle.image_check.proofs.passes.Parts.check_edges.Goals as goal
 
 pub returns-then-good-lt6-clause-verdict : goal.returns-then-good-lt6-clause-verdict
 returns-then-good-lt6-clause-verdict c =
@@ -18,7 +18,7 @@ returns-then-good-lt6-clause-verdict c =
     λ count e.
     let v = l.invariant.7 count e in
     let t = turn_of 6 count i _ _ _ (omega arith) cut long v.0 in
-    rw st.1 (edge_stop count i _ _ _ t.0 cut long a.limits.edges a.limits.types l.deg l.own (a.from + 6 * i) _ c.edge_good-good.ensures c.if-good-lt6.true ∙ v.1)
+    rw st.1 (edge_stop count i _ _ _ t.0 cut long a.limits.edges a.limits.types l.deg l.own ((6 + length a.self.now.vertices.now) + 6 * i) _ c.edge_good-good.ensures c.if-good-lt6.true ∙ v.1)
 
 pub returns-then-good-lt6-clause-ends : goal.returns-then-good-lt6-clause-ends
 returns-then-good-lt6-clause-ends c = λ count e q. absurd (record_not q)
@@ -32,12 +32,13 @@ enter-requires c =
     let l = c.loop-i in
     let st = c.in-Some.ensures.steps in
     let g = c.edge_good-good in
+    let few : length a.self.now.edges.now ≤ 24000 = search rules in
     let r = edge_in a.limits.edges a.limits.types l.deg l.own c.in-Some.record.now 0 g.result g.ensures c.if-good-lt6.false in record {
       six = st.0.1.1 ∙ l.invariant.2;
       number = omega (arith, r.number, c.requires.room, l.invariant.5);
       alpha = r.alpha;
       omega = r.omega;
-      fits = below_more (1 + 6 * l.i-iterator.count) _ l.deg (omega (arith, l.invariant.3, c.requires.few)) l.invariant.6;
+      fits = below_more (1 + 6 * l.i-iterator.count) _ l.deg (omega (arith, l.invariant.3, few)) l.invariant.6;
     }
 
 pub loop-i-preserved : goal.loop-i-preserved
@@ -63,7 +64,7 @@ loop-i-preserved c =
           let t = turn_of 6 count i _ _ _ (omega arith) cut long v.0 in
           rw (st.2, n.ensures.ends, n.ensures.owners) (
             t.1,
-            edge_go count i _ _ _ t.0 cut long a.limits.edges a.limits.types l.deg l.own (a.from + 6 * i) _ g.ensures c.if-good-lt6.false _ (omega arith) ∙ v.1,
+            edge_go count i _ _ _ t.0 cut long a.limits.edges a.limits.types l.deg l.own ((6 + length a.self.now.vertices.now) + 6 * i) _ g.ensures c.if-good-lt6.false _ (omega arith) ∙ v.1,
             degrees_go count i _ _ _ t.0 cut long l.deg ∙ v.2,
             owners_go count i _ _ _ t.0 cut long l.own ∙ v.3,
           ),
