@@ -227,6 +227,9 @@ fn settle(
 }
 
 // ---- the three
+// What is wanted and the list stay apart: each clause is one equation of the list before and after, and a struct that is
+// lent both would have to promise besides that it keeps that list. Vertices and edges differ in part, size and kind alone:
+// `order_numbers` is what they share, and C calls each by name.
 
 /// Items that are the numbers of records.
 fn order_numbers(

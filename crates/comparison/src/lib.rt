@@ -87,6 +87,9 @@ impl From<Result<Counts, NotCompared>> for Compared {
 // Scratch: a word for each edge number from 0 on.
 const PLACES: usize = MOST_EDGES as usize + 1;
 
+// In these three b's record is told by a place. A number that is noted nowhere leads to b's first record, which need not be
+// there, so no slice of six words stands for it; `near` keeps the places behind j from wrapping.
+
 /// Whether an edge record and the one at j have one number and the same ends.
 fn is_match(edge: &[u32], b: &[u32], j: usize) -> bool
     requires six { length edge.now ≡ 6 }

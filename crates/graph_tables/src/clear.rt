@@ -1,6 +1,6 @@
 // Tables with no vertices and no edges.
 ghost use Rattle.std.specs.Prelude.{◌≡◌};
-ghost use Rattle.graph_tables.specs.Tables.{cleared, state, state_of, SameLoan};
+ghost use Rattle.graph_tables.specs.Tables.{cleared, state_of, SameLoan};
 
 use crate::{Head, Tables};
 
@@ -16,11 +16,4 @@ impl<'t> Tables<'t> {
         self.edges.fill(0);
         Head::default()
     }
-}
-
-/// The same, of tables that are lent apart.
-pub fn clear(vertices: &mut [u32], edges: &mut [u32]) -> Head
-    ensures { state result vertices.new edges.new ≡ cleared vertices.old edges.old }
-{
-    Tables { vertices, edges }.clear()
 }

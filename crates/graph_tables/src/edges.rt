@@ -4,7 +4,7 @@ ghost use Rattle.std.specs.Prelude.{◌≡◌, ◌^◌, ◌<◌};
 ghost use Rattle.linked_lists.specs.Links.{CanMove};
 ghost use Rattle.graph.specs.Graph.{reading_of, IsWords};
 ghost use Rattle.graph_tables.specs.declared.Head.{Head};
-ghost use Rattle.graph_tables.specs.Tables.{state, state_of, SameLoan, edge_list_ends, edge_links, EdgeRowIn};
+ghost use Rattle.graph_tables.specs.Tables.{state_of, SameLoan, edge_list_ends, edge_links, EdgeRowIn};
 ghost use Rattle.graph_tables.specs.Tables.{state_set_edge, state_move_edge, state_place_edge, CanPlaceEdge};
 ghost use Rattle.graph_tables.specs.Tables.{state_drop_edge, CanDropEdge, state_insert_edge, CanInsertEdge};
 ghost use Rattle.graph_tables.specs.Tables.{state_remove_edge, CanRemoveEdge};
@@ -13,7 +13,6 @@ use crate::fields::EDGE_LINKS;
 use crate::rows::{put_edge, put_fields, put_this};
 use crate::{EdgeRecord, Head, Places, Tables};
 use graph::Reading;
-use linked_lists::Ends;
 
 impl<'t> Tables<'t> {
     /// Sets type and reading of e.
@@ -116,78 +115,4 @@ impl<'t> Tables<'t> {
         self.detach(a, 2 * n);
         self.drop_edge(head, n)
     }
-}
-
-// ---- the same of tables that are lent apart, for the crates that do not hand `Tables` on yet
-
-/// Sets type and reading of e, by the two words of the reading.
-pub fn set_edge_words(
-    head: Head,
-    vertices: &[u32],
-    edges: &mut [u32],
-    e: u32,
-    sort: u32,
-    kind: u32,
-    heard: u32,
-)
-    requires { EdgeRowIn edges.old e × IsWords kind heard }
-    ensures { state head vertices.now edges.new
-        ≡ state_set_edge e sort (reading_of kind heard) (state head vertices.now edges.old) }
-{
-    put_fields(edges, e, sort, kind, heard);
-}
-
-/// Puts edge n after p in Eseq.
-pub fn move_edge(head: Head, vertices: &[u32], edges: &mut [u32], n: u32, p: u32) -> Head
-    requires { CanMove edge_links n p edges.old (edge_list_ends head) }
-    ensures { state result vertices.now edges.new ≡ state_move_edge n p
-        (state head vertices.now edges.old) }
-{
-    let ends = Ends {
-        first: head.efirst,
-        last: head.elast,
-    };
-    let ends = EDGE_LINKS.relink(edges, ends, n, p);
-    Head {
-        efirst: ends.first,
-        elast: ends.last,
-        ..head
-    }
-}
-
-/// An edge's row and its place in Eseq, without its words in the lists.
-pub fn place_edge(head: Head, vertices: &[u32], edges: &mut [u32], edge: EdgeRecord, p: u32) -> Head
-    requires { CanPlaceEdge edge.number p (state head vertices.now edges.old) }
-    ensures { state result vertices.now edges.new
-        ≡ state_place_edge edge.number edge.alpha edge.omega edge.sort
-        edge.reading p (state head vertices.now edges.old) }
-{
-    let ends = Ends {
-        first: head.efirst,
-        last: head.elast,
-    };
-    let ends = EDGE_LINKS.insert_after(edges, ends, p, edge.number);
-    put_edge(edges, edge.number, 1, edge.sort, edge.reading);
-    put_this(edges, edge.number, edge.alpha, edge.omega);
-    Head {
-        efirst: ends.first,
-        elast: ends.last,
-        edges: head.edges + 1,
-        ..head
-    }
-}
-
-/// Takes edge n, from a to z, out of the lists and out of Eseq.
-pub fn remove_edge(
-    head: Head,
-    vertices: &mut [u32],
-    edges: &mut [u32],
-    n: u32,
-    a: u32,
-    z: u32,
-) -> Head
-    requires { (n < 2 ^ 31) × CanRemoveEdge n a z (state head vertices.old edges.old) }
-    ensures { state result vertices.new edges.new ≡ state_remove_edge n a z (state head vertices.old edges.old) }
-{
-    Tables { vertices, edges }.remove_edge(head, n, a, z)
 }

@@ -4,64 +4,88 @@ ghost use Rattle.graph_tables.specs.Tables.{vertex_place, edge_place, half_place
 
 use linked_lists::LinkLayout;
 
-/// How many words the row of a vertex has, that of an edge, and the half of an oriented word.
+/// How many words the row of a vertex has.
 pub const VERTEX_WORDS: usize = 8;
 
+/// How many words the row of an edge has.
 pub const EDGE_WORDS: usize = 12;
 
+/// How many words the half of an oriented word has.
 pub const HALF_WORDS: usize = 6;
 
-// Of the row of a vertex: whether it is there, type, value, first and last word of its list, neighbours in
-// Vseq. Word 5 is spare.
+// Of the row of a vertex. Word 5 is spare.
+
+/// Whether the vertex is there.
 pub const VERTEX_LIVE: usize = 0;
 
+/// Its type.
 pub const VERTEX_TYPE: usize = 1;
 
+/// Its value.
 pub const VERTEX_VALUE: usize = 2;
 
+/// The first word of its list.
 pub const VERTEX_FIRST: usize = 3;
 
+/// The last word of its list.
 pub const VERTEX_LAST: usize = 4;
 
+/// The vertex before it in Vseq.
 pub const VERTEX_PREV: usize = 6;
 
+/// The vertex after it in Vseq.
 pub const VERTEX_NEXT: usize = 7;
 
-// Of a half, 6 words, one for each oriented word of an edge: neighbours in the list, and the vertex it is seen from.
+// Of a half, one for each oriented word of an edge.
+
+/// The word before it in its list.
 pub const HALF_PREV: usize = 0;
 
+/// The word after it in its list.
 pub const HALF_NEXT: usize = 1;
 
+/// The vertex it is seen from.
 pub const HALF_THIS: usize = 2;
 
 // Of the row of an edge: its two halves, the out half first, have three words more each.
+
+/// The vertex it starts from: that of its out half.
 pub const EDGE_ALPHA: usize = 2;
 
+/// Whether the edge is there.
 pub const EDGE_LIVE: usize = 3;
 
+/// Its type.
 pub const EDGE_TYPE: usize = 4;
 
+/// The kind of its reading.
 pub const EDGE_KIND: usize = 5;
 
+/// The vertex it goes to: that of its in half.
 pub const EDGE_OMEGA: usize = 8;
 
+/// The decimetres of its reading.
 pub const EDGE_DECIMETRES: usize = 9;
 
+/// The edge before it in Eseq.
 pub const EDGE_PREV: usize = 10;
 
+/// The edge after it in Eseq.
 pub const EDGE_NEXT: usize = 11;
 
-// The links of Vseq, of Eseq and of the incidence lists.
+/// The links of Vseq.
 pub const VERTEX_LINKS: LinkLayout = LinkLayout {
     stride: 8,
     offset: 2,
 };
 
+/// The links of Eseq.
 pub const EDGE_LINKS: LinkLayout = LinkLayout {
     stride: 12,
     offset: 2,
 };
 
+/// The links of the incidence lists.
 pub const INCIDENCE_LINKS: LinkLayout = LinkLayout {
     stride: 6,
     offset: 12,

@@ -2,7 +2,7 @@
 // A caller has tables that hold a graph to which the edit applies, or lists that are held: `Can` of the edit.
 ghost use Rattle.std.specs.Prelude.{◌≡◌};
 ghost use Rattle.graph_tables.specs.declared.Head.{Head};
-ghost use Rattle.graph_tables.specs.Tables.{state, state_of, SameLoan, HalfRowIn, state_detach, CanDetach, state_attach, CanAttach};
+ghost use Rattle.graph_tables.specs.Tables.{state_of, SameLoan, HalfRowIn, state_detach, CanDetach, state_attach, CanAttach};
 ghost use Rattle.graph_tables.specs.Tables.{state_set_this, state_move_word, CanMoveWord};
 
 use crate::fields::{HALF_THIS, INCIDENCE_LINKS, half_row};
@@ -58,30 +58,4 @@ impl<'t> Tables<'t> {
         self.attach(u, p, w);
         self.set_this(w, u);
     }
-}
-
-// ---- the same of tables that are lent apart, for the crates that do not hand `Tables` on yet
-
-/// Puts word w into v's list after p.
-pub fn attach(head: Head, vertices: &mut [u32], edges: &mut [u32], v: u32, p: u32, w: u32)
-    requires { CanAttach v p w (state head vertices.old edges.old) }
-    ensures { state head vertices.new edges.new ≡ state_attach v p w (state head vertices.old edges.old) }
-{
-    Tables { vertices, edges }.attach(v, p, w)
-}
-
-/// Takes word w out of v's list and puts it into u's after p.
-pub fn move_word(
-    head: Head,
-    vertices: &mut [u32],
-    edges: &mut [u32],
-    w: u32,
-    v: u32,
-    u: u32,
-    p: u32,
-)
-    requires { CanMoveWord w v u p (state head vertices.old edges.old) }
-    ensures { state head vertices.new edges.new ≡ state_move_word w v u p (state head vertices.old edges.old) }
-{
-    Tables { vertices, edges }.move_word(w, v, u, p)
 }

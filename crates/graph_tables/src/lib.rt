@@ -16,7 +16,8 @@ pub mod edges; // edges put in, taken out, set and moved
 pub mod edits; // the nine edits
 pub mod lookups; // is a number in the graph
 
-/// The lent tables. Nothing outside them is written, and the head is a record of its own.
+/// The lent tables. Nothing outside them is written, and the head is a record of its own. Every method is inlined: one
+/// that is called apart reads two pointers and two lengths anew after each store, and undos take 83 in 100 more.
 #[derive(Drop)]
 pub struct Tables<'t> {
     pub vertices: &'t mut [u32],

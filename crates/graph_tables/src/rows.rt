@@ -1,7 +1,7 @@
 // The words of one vertex and of one edge.
 // A caller has a number whose row is in the table: it looked the name up, or the tables hold a graph that has it.
 ghost use Rattle.std.specs.Prelude.{◌≡◌, ◌<◌};
-ghost use Rattle.graph.specs.Graph.{reading_kind, decimetres, reading_of, IsWords};
+ghost use Rattle.graph.specs.Graph.{reading_of, IsWords};
 ghost use Rattle.graph_tables.specs.Tables.{VertexRowIn, EdgeRowIn, HalfRowIn, vertex_field, edge_field};
 ghost use Rattle.graph_tables.specs.Tables.{half_field, wnext, reading_at, edge_fields, vertex_ends, put_ends};
 ghost use Rattle.graph_tables.specs.Tables.{table_vertex_row, table_edge_row, table_edge_this};
@@ -199,57 +199,4 @@ pub fn put_this(edges: &mut [u32], e: u32, a: u32, z: u32)
     let at = edge_row(e);
     edges[at + EDGE_ALPHA] = a;
     edges[at + EDGE_OMEGA] = z;
-}
-
-// ---- the same of tables that are lent apart, for the crates that do not hand `Tables` on yet
-
-/// Word `field` of the half of oriented word w.
-pub fn half_field(edges: &[u32], w: u32, field: usize) -> u32
-    requires { HalfRowIn edges.now w × (field < 6) }
-    ensures { result ≡ half_field field edges.now w }
-{
-    edges[6 * w as usize - 12 + field]
-}
-
-/// The kind of a reading, as a word.
-pub fn kind_of(reading: Reading) -> u32
-    ensures { result ≡ reading_kind reading }
-{
-    match reading {
-        Reading::Untested => 0,
-        Reading::Silent => 1,
-        Reading::Heard(_) => 2,
-    }
-}
-
-/// The decimetres of a reading, 0 where none were heard.
-pub fn decimetres_of(reading: Reading) -> u32
-    ensures { result ≡ decimetres reading }
-{
-    match reading {
-        Reading::Untested | Reading::Silent => 0,
-        Reading::Heard(d) => d,
-    }
-}
-
-/// The reading of a kind and decimetres that are one.
-pub fn reading_of(k: u32, d: u32) -> Reading
-    ensures { result ≡ reading_of k d }
-{
-    match k {
-        0 => Reading::Untested,
-        1 => Reading::Silent,
-        _ => Reading::Heard(d),
-    }
-}
-
-/// The reading of edge e.
-pub fn reading_at(edges: &[u32], e: u32) -> Reading
-    requires { EdgeRowIn edges.now e }
-    ensures { result ≡ reading_at edges.now e }
-{
-    reading_of(
-        edge_field(edges, e, EDGE_KIND),
-        edge_field(edges, e, EDGE_DECIMETRES),
-    )
 }

@@ -3,14 +3,13 @@
 ghost use Rattle.std.specs.Prelude.{◌≡◌};
 ghost use Rattle.linked_lists.specs.Links.{CanMove};
 ghost use Rattle.graph_tables.specs.declared.Head.{Head};
-ghost use Rattle.graph_tables.specs.Tables.{state, state_of, SameLoan, vertex_list_ends, vertex_links, VertexRowIn};
+ghost use Rattle.graph_tables.specs.Tables.{state_of, SameLoan, vertex_list_ends, vertex_links, VertexRowIn};
 ghost use Rattle.graph_tables.specs.Tables.{state_set_vertex, state_move_vertex};
 ghost use Rattle.graph_tables.specs.Tables.{state_insert_vertex, CanInsertVertex, state_remove_vertex, CanRemoveVertex};
 
 use crate::fields::VERTEX_LINKS;
 use crate::rows::put_vertex;
 use crate::{Head, Tables};
-use linked_lists::Ends;
 
 impl<'t> Tables<'t> {
     /// Sets type and value of v.
@@ -66,82 +65,5 @@ impl<'t> Tables<'t> {
             vertices: head.vertices - 1,
             ..head.with_vertex_ends(ends)
         }
-    }
-}
-
-// ---- the same where the vertex table alone is lent for writing, for the crates that do not hand `Tables` on yet
-
-/// Sets type and value of v.
-pub fn set_vertex(head: Head, vertices: &mut [u32], edges: &[u32], v: u32, sort: u32, value: u32)
-    requires { VertexRowIn vertices.old v }
-    ensures { state head vertices.new edges.now ≡ state_set_vertex v sort value
-        (state head vertices.old edges.now) }
-{
-    put_vertex(vertices, v, 1, sort, value);
-}
-
-/// Puts vertex n after p in Vseq.
-pub fn move_vertex(head: Head, vertices: &mut [u32], edges: &[u32], n: u32, p: u32) -> Head
-    requires { CanMove vertex_links n p vertices.old (vertex_list_ends head) }
-    ensures { state result vertices.new edges.now ≡ state_move_vertex n p
-        (state head vertices.old edges.now) }
-{
-    let ends = Ends {
-        first: head.vfirst,
-        last: head.vlast,
-    };
-    let ends = VERTEX_LINKS.relink(vertices, ends, n, p);
-    Head {
-        vfirst: ends.first,
-        vlast: ends.last,
-        ..head
-    }
-}
-
-/// Puts vertex n, with an empty list, into Vseq after p.
-pub fn insert_vertex(
-    head: Head,
-    vertices: &mut [u32],
-    edges: &[u32],
-    n: u32,
-    sort: u32,
-    value: u32,
-    p: u32,
-) -> Head
-    requires { CanInsertVertex n p (state head vertices.old edges.now) }
-    ensures { state result vertices.new edges.now ≡ state_insert_vertex n sort value p
-        (state head vertices.old edges.now) }
-{
-    let ends = Ends {
-        first: head.vfirst,
-        last: head.vlast,
-    };
-    let ends = VERTEX_LINKS.insert_after(vertices, ends, p, n);
-    put_vertex(vertices, n, 1, sort, value);
-    Head {
-        vfirst: ends.first,
-        vlast: ends.last,
-        vertices: head.vertices + 1,
-        ..head
-    }
-}
-
-/// Takes vertex n, whose list is empty, out of Vseq.
-pub fn remove_vertex(head: Head, vertices: &mut [u32], edges: &[u32], n: u32) -> Head
-    requires { CanRemoveVertex n (state head vertices.old edges.now) }
-    ensures { state result vertices.new edges.now ≡ state_remove_vertex n
-        (state head vertices.old edges.now) }
-{
-    let ends = Ends {
-        first: head.vfirst,
-        last: head.vlast,
-    };
-    let ends = VERTEX_LINKS.unlink(vertices, ends, n);
-    put_vertex(vertices, n, 0, 0, 0);
-    Head {
-        vfirst: ends.first,
-        vlast: ends.last,
-        vertices: head.vertices - 1,
-        ..head
     }
 }

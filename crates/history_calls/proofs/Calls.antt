@@ -13,12 +13,12 @@ use Rattle.lists.proofs.Bools.{ft}
 use Rattle.lists.proofs.Picks.{same, differ, same?}
 use Rattle.graph.specs.Graph.{Graph}
 use Rattle.graph.specs.WellFormed.{Bounds}
-use Rattle.history.specs.Machine.{MarkPlace, gone, at, Machine, begun, placed, distance, no_marks, stands, place_or, marked, present, moved_to, Name, name, no_name, named, fresh_at, Step}
+use Rattle.history.specs.Machine.{MarkPlace, gone, at, Machine, begun, placed, free_of, distance, no_marks, stands, place_or, marked, present, moved_to, Name, name, no_name, named, fresh_at, Step}
 use Rattle.history.specs.Machine.{steps_between, made_by}
 use Rattle.machine.specs.HistoryCodes.{no_bench}
 use Rattle.machine.specs.Rules.{effected, history_rule, first_code}
 use Rattle.commands.specs.declared.HistoryCall.{HistoryCall}
-use Rattle.commands.specs.declared.HistoryCall.TheVariants.{SetMark, DropMark, Commit, Between, Standing as StandingMarks, NameMark, SetBench, MadeBy}
+use Rattle.commands.specs.declared.HistoryCall.TheVariants.{SetMark, DropMark, Commit, Between, Standing as StandingMarks, Free, NameMark, SetBench, MadeBy}
 use Rattle.marks.specs.declared.MarkSet.{MarkSet}
 use Rattle.marks.specs.Marked.{mark_words, place_in, with_mark, without_mark, Marked}
 use Rattle.marks.specs.Named.{name_set, mark_put, Named}
@@ -32,7 +32,7 @@ use Rattle.history_calls.specs.declared.Called.{Called}
 use Rattle.history_calls.specs.Memory.{Memory, memory, tables_of}
 use Rattle.history_calls.specs.Represents.{Represents, Follows}
 use Rattle.marks.specs.Codes.{no_mark, standing_code, new_code, name_code}
-use Rattle.history_calls.specs.Outcomes.{pair_code, done, mark_set, places_set, mark_dropped, committed, between_marks, marks_standing, mark_named, names_set, bench_code}
+use Rattle.history_calls.specs.Outcomes.{pair_code, done, mark_set, places_set, mark_dropped, committed, between_marks, marks_standing, changes_free, mark_named, names_set, bench_code}
 use Rattle.history_calls.specs.Outcomes.{bench_set, made_code}
 use Rattle.marks.proofs.CodeLaws.{Mark, standing_none, new_none, standing_is, new_is, both_is, both_none, name_codes, name_none}
 use Rattle.history_calls.proofs.Following.{refused, accepted, follows_by}
@@ -250,6 +250,9 @@ module _ (b : Bounds) (x : Store) (mem : Memory) (m : Machine) (h : Represents b
 
   pub count_follows : (capacity : ℕ) → ByRule capacity StandingMarks (marks_standing x) mem
   count_follows capacity = told capacity StandingMarks _ refl (count_is m.marks x.set.bits mem.marks h.marks) refl
+
+  pub free_follows : (capacity free : ℕ) → free ≡ free_of capacity m.line → ByRule capacity Free (changes_free x free) mem
+  free_follows capacity free e = told capacity Free _ refl e refl
 
   -- 58
 

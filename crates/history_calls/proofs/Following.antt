@@ -11,7 +11,6 @@ use Rattle.history.specs.Machine.{Machine}
 use Rattle.machine.specs.Rules.{effected, Rule}
 use Rattle.commands.specs.Refusals.{refusal_code}
 use Rattle.commands.specs.declared.refusal.Refusal.{Refusal}
-use Rattle.commands.specs.declared.refusal.Refusal.TheVariants.{UnknownKind, NumberOutside, NumberInUse, NoVertex, NoEdge, NoType, NoReading, OtherList, SameTwice, NoRoom, NoMark, MarkStands, MarkGone, AtTheEnd, NoSide, NothingHeard, NoPriceList, NoName, NameUnknown, NoBench, NoStore}
 use Rattle.history_calls.specs.declared.Store.{Store}
 use Rattle.history_calls.specs.declared.Called.{Called}
 use Rattle.history_calls.specs.Memory.{Memory}
@@ -43,24 +42,4 @@ follows_by r m b mem e f = subst (λ (z : Called). Follows r m b z mem) (sym e) 
 
 -- a refusal has a code
 pub refusal_not_0 : (r : Refusal) → refusal_code r ≢ 0
-refusal_not_0 UnknownKind e = absurd (omega (arith, e))
-refusal_not_0 NumberOutside e = absurd (omega (arith, e))
-refusal_not_0 NumberInUse e = absurd (omega (arith, e))
-refusal_not_0 NoVertex e = absurd (omega (arith, e))
-refusal_not_0 NoEdge e = absurd (omega (arith, e))
-refusal_not_0 NoType e = absurd (omega (arith, e))
-refusal_not_0 NoReading e = absurd (omega (arith, e))
-refusal_not_0 OtherList e = absurd (omega (arith, e))
-refusal_not_0 SameTwice e = absurd (omega (arith, e))
-refusal_not_0 NoRoom e = absurd (omega (arith, e))
-refusal_not_0 NoMark e = absurd (omega (arith, e))
-refusal_not_0 MarkStands e = absurd (omega (arith, e))
-refusal_not_0 MarkGone e = absurd (omega (arith, e))
-refusal_not_0 AtTheEnd e = absurd (omega (arith, e))
-refusal_not_0 NoSide e = absurd (omega (arith, e))
-refusal_not_0 NothingHeard e = absurd (omega (arith, e))
-refusal_not_0 NoPriceList e = absurd (omega (arith, e))
-refusal_not_0 NoName e = absurd (omega (arith, e))
-refusal_not_0 NameUnknown e = absurd (omega (arith, e))
-refusal_not_0 NoBench e = absurd (omega (arith, e))
-refusal_not_0 NoStore e = absurd (omega (arith, e))
+refusal_not_0 r e = grind (arith, e)

@@ -1,5 +1,6 @@
 // Each part in turn, over scratch of their own: deg has 1 + its ends so far for a vertex, own the vertex of an
-// oriented word.
+// oriented word. The two are lent apart: a field of a struct that is lent as `&mut`, handed on as a slice that is read, keeps
+// no clause on its elements.
 ghost use Rattle.std.specs.Prelude.{◌≡◌, ◌+◌, ◌-◌, ◌*◌, ◌^◌, ◌≤◌, ◌<◌, ℕ, length, get_or, drop, Ok};
 ghost use Rattle.graph.specs.Limits.{most_vertices, most_edges};
 ghost use Rattle.image_check.specs.Checks.{bounds, part_limits};
@@ -11,7 +12,7 @@ ghost use Rattle.image_check.specs.Scratch.{Sizes, parts, Ran};
 use crate::BadImage;
 use crate::records::{good_fields, good_vertex, numbered};
 use graph::{MOST_EDGES, MOST_VERTICES};
-use image::layout::{EDGE, VERTEX};
+use image::layout::{EDGE, HEADER, VERTEX};
 use lists::get;
 use lists::words::put;
 
@@ -45,122 +46,45 @@ pub struct Parts<'p> {
     ghost sizes: { Sizes size vertices.now edges.now incidences.now },
 }
 
-/// Vertex records of size words: marks each number with 1. Refuses the first word that cannot follow.
-fn vertices(
-    part: &[u32],
-    size: usize,
-    deg: &mut [u32],
-    cap: u32,
-    types: u32,
-) -> Result<(), BadImage>
-    requires size { (3 ≤ size) × (size ≤ 4) }
-    requires few { length part.now ≤ 4 * most_vertices }
-    requires room { cap < length deg.old }
-    ensures verdict { (count : ℕ) → size * count ≡ length part.now
-        → result ≡ vertex_run size (part_limits cap types) deg.old count part.now 6 }
-    ensures below { NoneAbove 1 deg.old → NoneAbove 1 deg.new }
-    ensures marks { (count : ℕ) → size * count ≡ length part.now → result ≡ Ok tt
-        → deg.new ≡ vertex_marks size deg.old count part.now }
-{
-    for (i, record) in part.chunks_exact(size).enumerate() {
-        let number = record[0] as usize;
-        let good = good_vertex(cap, types, get(deg, number) == 0, record[0], record[1]);
-        if good < 3 {
-            return Err(BadImage::Record(6 + (size * i) as u32 + good));
-        }
-        deg[number] = 1;
-    }
-    Ok(())
-}
-
 /// How many words of an edge record are sound.
-fn edge_good(record: &[u32], deg: &[u32], own: &[u32], cap: u32, types: u32) -> u32
-    requires six { length record.now ≡ 6 }
-    requires room { 2 * cap < length own.now }
-    ensures { result ≡ edge_good (part_limits cap types) deg.now own.now record.now }
+fn edge_good(edge: &[u32], deg: &[u32], own: &[u32], limits: Limits) -> u32
+    requires six { length edge.now ≡ 6 }
+    requires room { 2 * limits.edges < length own.now }
+    ensures { result ≡ edge_good (part_limits limits.edges limits.types) deg.now own.now edge.now }
 {
-    let number = record[0];
-    if !numbered(cap, number) {
+    let number = edge[0];
+    if !numbered(limits.edges, number) {
         return 0;
     }
     if own[2 * number as usize] != 0 {
         return 0;
     }
-    if get(deg, record[1] as usize) == 0 {
+    if get(deg, edge[1] as usize) == 0 {
         return 1;
     }
-    if get(deg, record[2] as usize) == 0 {
+    if get(deg, edge[2] as usize) == 0 {
         return 2;
     }
-    good_fields(types, record[3], record[4], record[5])
+    good_fields(limits.types, edge[3], edge[4], edge[5])
 }
 
 /// Counts both ends of an edge record, and enters its two words with their vertices.
-fn enter(record: &[u32], deg: &mut [u32], own: &mut [u32])
-    requires six { length record.now ≡ 6 }
-    requires number { 2 * get_or record.now 0 0 + 1 < length own.old }
-    requires alpha { get_or record.now 1 0 < length deg.old }
-    requires omega { get_or record.now 2 0 < length deg.old }
+fn enter(edge: &[u32], deg: &mut [u32], own: &mut [u32])
+    requires six { length edge.now ≡ 6 }
+    requires number { 2 * get_or edge.now 0 0 + 1 < length own.old }
+    requires alpha { get_or edge.now 1 0 < length deg.old }
+    requires omega { get_or edge.now 2 0 < length deg.old }
     requires fits { NoneAbove (2 ^ 32 - 3) deg.old }
-    ensures ends { deg.new ≡ edge_ends record.now 0 deg.old }
-    ensures owners { own.new ≡ edge_owned record.now 0 own.old }
+    ensures ends { deg.new ≡ edge_ends edge.now 0 deg.old }
+    ensures owners { own.new ≡ edge_owned edge.now 0 own.old }
 {
-    let alpha = record[1];
-    let omega = record[2];
+    let alpha = edge[1];
+    let omega = edge[2];
     deg[alpha as usize] += 1;
     deg[omega as usize] += 1;
-    let word = 2 * record[0] as usize;
+    let word = 2 * edge[0] as usize;
     own[word] = alpha;
     own[word + 1] = omega;
-}
-
-/// Edge records, from the offset `from` on: counts their ends and enters their words. Refuses the first word that cannot
-/// follow.
-fn edges(
-    part: &[u32],
-    from: u32,
-    deg: &mut [u32],
-    own: &mut [u32],
-    cap: u32,
-    types: u32,
-) -> Result<(), BadImage>
-    requires few { length part.now ≤ 6 * most_edges }
-    requires near { from ≤ 6 + 4 * most_vertices }
-    requires room { 2 * cap + 1 < length own.old }
-    requires marked { NoneAbove 1 deg.old }
-    ensures verdict { (count : ℕ) → 6 * count ≡ length part.now
-        → result ≡ edge_run (part_limits cap types) deg.old own.old count part.now from }
-    ensures ends { (count : ℕ) → 6 * count ≡ length part.now → result ≡ Ok tt
-        → deg.new ≡ edge_degrees deg.old count part.now }
-    ensures owners { (count : ℕ) → 6 * count ≡ length part.now → result ≡ Ok tt
-        → own.new ≡ edge_owners own.old count part.now }
-{
-    for (i, record) in part.chunks_exact(EDGE).enumerate() {
-        let good = edge_good(record, deg, own, cap, types);
-        if good < 6 {
-            return Err(BadImage::Record(from + (EDGE * i) as u32 + good));
-        }
-        enter(record, deg, own);
-    }
-    Ok(())
-}
-
-/// The degrees of vertex records of size words, where they have one: deg has 1 more than each.
-fn degrees(part: &[u32], size: usize, deg: &[u32]) -> Result<(), BadImage>
-    requires size { (3 ≤ size) × (size ≤ 4) }
-    requires few { length part.now ≤ 4 * most_vertices }
-    ensures { (count : ℕ) → size * count ≡ length part.now → result ≡ degree_run size deg.now count part.now 6 }
-{
-    if size < VERTEX {
-        return Ok(());
-    }
-    for (i, record) in part.chunks_exact(VERTEX).enumerate() {
-        let ends = get(deg, record[0] as usize).saturating_sub(1);
-        if record[3] != ends {
-            return Err(BadImage::Record(6 + (VERTEX * i) as u32 + 3));
-        }
-    }
-    Ok(())
 }
 
 /// How many of the d words from at on are v's. Each word found is taken from v.
@@ -180,38 +104,98 @@ fn list(part: &[u32], at: usize, d: u32, v: u32, own: &mut [u32]) -> u32
     most as u32
 }
 
-/// The lists of vertex records of size words, from the offset `from` on. Refuses the first word that is not the vertex's,
-/// and a word behind the last list.
-fn incidences(
-    vs: &[u32],
-    size: usize,
-    part: &[u32],
-    from: u32,
-    deg: &[u32],
-    own: &mut [u32],
-) -> Result<(), BadImage>
-    requires size { (3 ≤ size) × (size ≤ 4) }
-    requires few { length part.now ≤ 2 * most_edges }
-    requires near { from ≤ 6 + 4 * most_vertices + 6 * most_edges }
-    ensures { (count : ℕ) → size * count ≡ length vs.now
-        → result ≡ incidence_run size deg.now own.old count vs.now part.now from }
-{
-    let mut at = 0;
-    for record in vs.chunks_exact(size) {
-        let degree = get(deg, record[0] as usize).saturating_sub(1);
-        let good = list(part, at, degree, record[0], own);
-        if good < degree {
-            return Err(BadImage::Incidence(from + at as u32 + good));
-        }
-        at += degree as usize;
-    }
-    if at < part.len() {
-        return Err(BadImage::Incidence(from + at as u32));
-    }
-    Ok(())
-}
-
 impl<'p> Parts<'p> {
+    /// The vertex records: marks each number with 1. Refuses the first word that cannot follow.
+    fn check_vertices(&self, limits: Limits, deg: &mut [u32]) -> Result<(), BadImage>
+        requires room { limits.vertices < length deg.old }
+        ensures verdict { (count : ℕ) → self.now.size * count ≡ length self.now.vertices.now
+            → result ≡ vertex_run self.now.size (part_limits limits.vertices limits.types) deg.old count self.now.vertices.now 6 }
+        ensures below { NoneAbove 1 deg.old → NoneAbove 1 deg.new }
+        ensures marks { (count : ℕ) → self.now.size * count ≡ length self.now.vertices.now → result ≡ Ok tt
+            → deg.new ≡ vertex_marks self.now.size deg.old count self.now.vertices.now }
+    {
+        for (i, record) in self.vertices.chunks_exact(self.size).enumerate() {
+            let number = record[0] as usize;
+            let good = good_vertex(
+                limits.vertices,
+                limits.types,
+                get(deg, number) == 0,
+                record[0],
+                record[1],
+            );
+            if good < 3 {
+                let at = HEADER + self.size * i;
+                return Err(BadImage::Record(at as u32 + good));
+            }
+            deg[number] = 1;
+        }
+        Ok(())
+    }
+
+    /// The edge records: counts their ends and enters their words. Refuses the first word that cannot follow.
+    fn check_edges(&self, limits: Limits, deg: &mut [u32], own: &mut [u32]) -> Result<(), BadImage>
+        requires room { 2 * limits.edges + 1 < length own.old }
+        requires marked { NoneAbove 1 deg.old }
+        ensures verdict { (count : ℕ) → 6 * count ≡ length self.now.edges.now
+            → result ≡ edge_run (part_limits limits.edges limits.types) deg.old own.old count self.now.edges.now
+            (6 + length self.now.vertices.now) }
+        ensures ends { (count : ℕ) → 6 * count ≡ length self.now.edges.now → result ≡ Ok tt
+            → deg.new ≡ edge_degrees deg.old count self.now.edges.now }
+        ensures owners { (count : ℕ) → 6 * count ≡ length self.now.edges.now → result ≡ Ok tt
+            → own.new ≡ edge_owners own.old count self.now.edges.now }
+    {
+        for (i, record) in self.edges.chunks_exact(EDGE).enumerate() {
+            let good = edge_good(record, deg, own, limits);
+            if good < 6 {
+                let first = HEADER + self.vertices.len() + EDGE * i;
+                return Err(BadImage::Record(first as u32 + good));
+            }
+            enter(record, deg, own);
+        }
+        Ok(())
+    }
+
+    /// The degrees of the vertex records, where they have one: deg has 1 more than each.
+    fn check_degrees(&self, deg: &[u32]) -> Result<(), BadImage>
+        ensures { (count : ℕ) → self.now.size * count ≡ length self.now.vertices.now
+            → result ≡ degree_run self.now.size deg.now count self.now.vertices.now 6 }
+    {
+        if self.size < VERTEX {
+            return Ok(());
+        }
+        for (i, record) in self.vertices.chunks_exact(VERTEX).enumerate() {
+            let ends = get(deg, record[0] as usize).saturating_sub(1);
+            if record[3] != ends {
+                let at = HEADER + VERTEX * i;
+                return Err(BadImage::Record(at as u32 + 3));
+            }
+        }
+        Ok(())
+    }
+
+    /// The lists of the vertex records. Refuses the first word that is not the vertex's, and a word behind the last list.
+    fn check_lists(&self, deg: &[u32], own: &mut [u32]) -> Result<(), BadImage>
+        ensures { (count : ℕ) → self.now.size * count ≡ length self.now.vertices.now
+            → result ≡ incidence_run self.now.size deg.now own.old count self.now.vertices.now self.now.incidences.now
+            (6 + length self.now.vertices.now + length self.now.edges.now) }
+    {
+        let mut at = 0;
+        for record in self.vertices.chunks_exact(self.size) {
+            let degree = get(deg, record[0] as usize).saturating_sub(1);
+            let good = list(self.incidences, at, degree, record[0], own);
+            if good < degree {
+                let bad = HEADER + self.vertices.len() + self.edges.len() + at;
+                return Err(BadImage::Incidence(bad as u32 + good));
+            }
+            at += degree as usize;
+        }
+        if at < self.incidences.len() {
+            let bad = HEADER + self.vertices.len() + self.edges.len() + at;
+            return Err(BadImage::Incidence(bad as u32));
+        }
+        Ok(())
+    }
+
     /// The four passes; deg comes with 0 alone, and so does own where the verdict is to be that of the words.
     fn in_turn(&self, limits: Limits, deg: &mut [u32], own: &mut [u32]) -> Result<(), BadImage>
         requires vertices { limits.vertices < length deg.old }
@@ -221,26 +205,10 @@ impl<'p> Parts<'p> {
             → result ≡ scratch_run deg.old own.old (bounds limits.vertices limits.edges limits.types)
             (parts self.now.size v e self.now.vertices.now self.now.edges.now self.now.incidences.now) }
     {
-        vertices(self.vertices, self.size, deg, limits.vertices, limits.types)?;
-        let behind = 6 + self.vertices.len();
-        edges(
-            self.edges,
-            behind as u32,
-            deg,
-            own,
-            limits.edges,
-            limits.types,
-        )?;
-        degrees(self.vertices, self.size, deg)?;
-        let end = behind + self.edges.len();
-        incidences(
-            self.vertices,
-            self.size,
-            self.incidences,
-            end as u32,
-            deg,
-            own,
-        )
+        self.check_vertices(limits, deg)?;
+        self.check_edges(limits, deg, own)?;
+        self.check_degrees(deg)?;
+        self.check_lists(deg, own)
     }
 
     /// The four passes over scratch for numbers below V and oriented words below E.

@@ -1,4 +1,5 @@
-// One record: how many of its words are sound.
+// One record: how many of its words are sound. A number and no Result: it is what `passed` counts, from which the laws on the
+// first bad word tell its offset.
 ghost use Rattle.std.specs.Prelude.{◌≡◌, true, [], ◌∷◌, ◌==◌};
 ghost use Rattle.lists.specs.Choice.{◌⇒◌else◌, within};
 ghost use Rattle.graph.specs.Graph.{is_reading};

@@ -22,10 +22,8 @@ use Rattle.graph.specs.Edits.{attach}
 use Rattle.graph.proofs.Orders.{key_find}
 use Rattle.graph.proofs.Moves.{attach_last}
 use Rattle.image.specs.Image.{incidences_of, load}
-use Rattle.linked_lists.specs.declared.Ends.{Ends}
-use Rattle.linked_lists.specs.Links.{table_insert, ends_insert, CanAppend}
-use Rattle.graph_tables.specs.Tables.{State, state, incidence_links, vertex_list_ends, vertex_ends, put_ends, vlast, wthis, VertexRowIn, HalfRowIn, state_attach, CanAttach}
-use Rattle.graph_tables.proofs.Steps.{attached}
+use Rattle.linked_lists.specs.Links.{CanAppend}
+use Rattle.graph_tables.specs.Tables.{State, incidence_links, vertex_list_ends, vertex_ends, vlast, wthis, VertexRowIn, HalfRowIn, state_attach, CanAttach}
 use Rattle.graph_tables.specs.Holds.{Core}
 use Rattle.graph_tables.proofs.Frames.{valid_i, row_v}
 use Rattle.graph_tables.proofs.Refines.{word_in}
@@ -250,17 +248,3 @@ module _ (words vertices₀ edges₀ : List ℕ) (k : CanLoad words vertices₀ 
   turn_next s' e =
       fill_next (λ x. x ∷ []) (WCore (load words)) (concat_map incidences_of (load words).vseq) part s at t 1 refl s'
       (subst (λ (r : State). WCore (load words) r (t.past ++ t.here ∷ [])) (sym e) (next_here (load words) (given words vertices₀ edges₀ k).formed part s at t))
-
--- ---- for callers: the steps of `word`
-
-module _ (w : ℕ) (s : State) {v : ℕ} {o : Ends} (e : v ≡ wthis s.edges w) (f : o ≡ vertex_ends s.vertices v) where
-  pub word_can : CanWord w s → CanAppend incidence_links s.edges o w
-  word_can c = rw (f, e) c.back
-
-  pub word_did : {r : Ends} {vertices' edges' : List ℕ} → (edges' ≡ table_insert incidence_links s.edges o o.last w) × (r ≡ ends_insert incidence_links s.edges o o.last w)
-      → vertices' ≡ put_ends v r s.vertices →
-      state s.head vertices' edges' ≡ state_add_word w s
-  unfolding state_add_word
-  word_did b c =
-      attached s.head s.vertices s.edges v o.last w f b c
-      ∙ ap₂ (λ (x y : ℕ). state_attach x y w s) e (ap (λ (x : Ends). x.last) f ∙ ap (vlast s.vertices) e)

@@ -11,7 +11,7 @@ use Rattle.lists.proofs.Picks.{is_yes, is_zero}
 use Rattle.lists.proofs.Places.{last_in, ins_last}
 use Rattle.linked_lists.specs.declared.LinkLayout.{LinkLayout}
 use Rattle.linked_lists.specs.declared.Ends.{Ends}
-use Rattle.linked_lists.specs.Links.{ValidLayout, Held, table_insert, ends_insert, CanAppend}
+use Rattle.linked_lists.specs.Links.{ValidLayout, Held, CanAppend}
 use Rattle.linked_lists.proofs.Counted.{ordered}
 use Rattle.graph.specs.Graph.{Vertex, Edge, Graph, vertex_number, edge_number, reading_kind, decimetres, reading_of, IsWords}
 use Rattle.graph.specs.WellFormed.{Bounds, Ordered, WellFormed, VertexIn, EdgeIn, Within}
@@ -21,10 +21,8 @@ use Rattle.image.specs.Image.{vertex_record, edge_record, record_size, load}
 use Rattle.image.proofs.Sizes.{size_range, record_size_lem}
 use Rattle.image.proofs.RecordWords.{record_length}
 use Rattle.graph_tables.specs.declared.Head.{Head}
-use Rattle.graph_tables.specs.Tables.{State, state, vertex_links, edge_links, vertex_list_ends, edge_list_ends, VertexRowIn, EdgeRowIn, state_insert_vertex, CanInsertVertex, head_with_edges}
-use Rattle.graph_tables.specs.Tables.{with_edge_ends, table_edge_row}
-use Rattle.graph_tables.specs.Tables.{table_edge_this, state_place_edge, CanPlaceEdge}
-use Rattle.graph_tables.proofs.Steps.{edge_placed}
+use Rattle.graph_tables.specs.Tables.{State, state, vertex_links, edge_links, vertex_list_ends, edge_list_ends, VertexRowIn, EdgeRowIn, state_insert_vertex, CanInsertVertex}
+use Rattle.graph_tables.specs.Tables.{state_place_edge, CanPlaceEdge}
 use Rattle.graph_tables.specs.Holds.{Core}
 use Rattle.graph_tables.specs.Capacities.{Sized}
 use Rattle.graph_tables.proofs.Keys.{keys_count, keys_last}
@@ -233,17 +231,6 @@ module _ (words vertices₀ edges₀ : List ℕ) (k : CanLoad words vertices₀ 
         (next_edge k.bounds (load words) f.formed f.within (most_edges words vertices₀ edges₀ k) vs part (state h vertices edges) at
         (sized_by words vertices₀ edges₀ k h vertices edges p q) t)
         )
-
--- ---- for callers: the step of `edge`
-
-pub edge_did : (part : List ℕ) (at : ℕ) (h : Head) (vertices edges : List ℕ) {t₁ t₂ t₃ : List ℕ} {o : Ends} →
-    (t₁ ≡ table_insert edge_links edges (edge_list_ends h) h.elast (get_or part at 0)) × (o ≡ ends_insert edge_links edges (edge_list_ends h) h.elast (get_or part at 0)) →
-    t₂ ≡ table_edge_row (get_or part at 0) 1 (get_or part (at + 3) 0) (reading_of (get_or part (at + 4) 0) (get_or part (at + 5) 0)) t₁ →
-    t₃ ≡ table_edge_this (get_or part at 0) (get_or part (at + 1) 0) (get_or part (at + 2) 0) t₂ →
-    state (head_with_edges (h.edges + 1) (with_edge_ends o h)) vertices t₃ ≡ state_add_edge part at (state h vertices edges)
-unfolding state_add_edge
-edge_did part at h vertices edges p q r = edge_placed h vertices edges (get_or part at 0) (get_or part (at + 1) 0) (get_or part (at + 2) 0) (get_or part (at + 3) 0)
-    (reading_of (get_or part (at + 4) 0) (get_or part (at + 5) 0)) h.elast p q r
 
 -- ---- for callers: a record that is read as a chunk of the part
 

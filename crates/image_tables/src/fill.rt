@@ -12,31 +12,31 @@ use graph_tables::rows::{put_ends, put_fields, put_this};
 use graph_tables::{Head, Tables};
 use image::layout::{EDGE, record_size};
 
-// Puts the vertex whose record this is last in Vseq, with an empty list.
+// Puts the vertex with these fields last in Vseq, with an empty list.
 #[inline(always)]
 #[tactic(auto, unfolding(crate::specs::Filling::state_add_vertex))]
-fn vertex(tables: &mut Tables<'_>, head: Head, record: &[u32]) -> Head
-    requires words { 3 ≤ length record.now }
-    requires can { CanInsertVertex (get_or record.now 0 0) head.vlast (state_of head tables.old) }
-    ensures added { state_of result tables.new ≡ state_add_vertex record.now 0 (state_of head tables.old) }
+fn vertex(tables: &mut Tables<'_>, head: Head, fields: &[u32]) -> Head
+    requires words { 3 ≤ length fields.now }
+    requires can { CanInsertVertex (get_or fields.now 0 0) head.vlast (state_of head tables.old) }
+    ensures added { state_of result tables.new ≡ state_add_vertex fields.now 0 (state_of head tables.old) }
     ensures same_loan { SameLoan tables.old tables.new }
 {
-    tables.insert_vertex(head, record[0], record[1], record[2], head.vlast)
+    tables.insert_vertex(head, fields[0], fields[1], fields[2], head.vlast)
 }
 
-// Puts the edge whose record this is last in Eseq, without its words in the lists.
+// Puts the edge with these fields last in Eseq, without its words in the lists.
 #[inline(always)]
 #[tactic(auto, unfolding(crate::specs::Filling::state_add_edge, graph_tables::specs::Tables::state_place_edge))]
-fn edge(tables: &mut Tables<'_>, head: Head, record: &[u32]) -> Head
-    requires words { length record.now ≡ 6 }
-    requires can { CanEdge record.now 0 (state_of head tables.old) }
-    ensures added { state_of result tables.new ≡ state_add_edge record.now 0 (state_of head tables.old) }
+fn edge(tables: &mut Tables<'_>, head: Head, fields: &[u32]) -> Head
+    requires words { length fields.now ≡ 6 }
+    requires can { CanEdge fields.now 0 (state_of head tables.old) }
+    ensures added { state_of result tables.new ≡ state_add_edge fields.now 0 (state_of head tables.old) }
     ensures same_loan { SameLoan tables.old tables.new }
 {
-    let number = record[0];
+    let number = fields[0];
     let ends = EDGE_LINKS.append(tables.edges, head.edge_ends(), number);
-    put_fields(tables.edges, number, record[3], record[4], record[5]);
-    put_this(tables.edges, number, record[1], record[2]);
+    put_fields(tables.edges, number, fields[3], fields[4], fields[5]);
+    put_this(tables.edges, number, fields[1], fields[2]);
     Head {
         edges: head.edges + 1,
         ..head.with_edge_ends(ends)

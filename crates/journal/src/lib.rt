@@ -1,14 +1,14 @@
 // The journal's rows: twelve words each, of which ten are an edit, one is the cost of the edit's step, and one, in a
 // step's first row, the bench that made it.
-// A caller has room for the row, or rows that the run wrote.
+// A caller has room for the row, or rows that the run wrote. It hands the journal and the number of a row on as two
+// parameters: it asks one thing of a row, and a row as a type of its own would be made for that one call.
 #![tactic(auto)]
 
 ghost use Rattle.std.specs.Prelude.{◌≡◌, [], ◌∷◌, ◌+◌, ◌*◌, ◌≤◌, length, set};
 ghost use Rattle.graph.specs.Edits.{inverse};
 ghost use Rattle.journal.specs.Rows.{edit_of, turned, edit_at, store_from, row_at, step_at, bench_at, signed};
 
-use graph::Edit;
-use graph_tables::rows::reading_of;
+use graph::{Edit, Reading};
 
 pub mod kinds; // which edit a row is
 pub mod room; // the room for the next row
@@ -28,13 +28,13 @@ fn decode(words: &[u32], back: bool) -> Edit
             Edit::RemoveVertex(words[1], words[2], words[3], words[4])
         }
         (kinds::INSERT_EDGE, false) | (kinds::REMOVE_EDGE, true) => {
-            let reading = reading_of(words[5], words[6]);
+            let reading = Reading::from_words(words[5], words[6]);
             Edit::InsertEdge(
                 words[1], words[2], words[3], words[4], reading, words[7], words[8], words[9],
             )
         }
         (kinds::REMOVE_EDGE, false) | (kinds::INSERT_EDGE, true) => {
-            let reading = reading_of(words[5], words[6]);
+            let reading = Reading::from_words(words[5], words[6]);
             Edit::RemoveEdge(
                 words[1], words[2], words[3], words[4], reading, words[7], words[8], words[9],
             )
@@ -46,17 +46,13 @@ fn decode(words: &[u32], back: bool) -> Edit
             words[1], words[4], words[5], words[2], words[3],
         ),
         (kinds::SET_EDGE, false) => {
-            let (old, new) = (
-                reading_of(words[3], words[4]),
-                reading_of(words[6], words[7]),
-            );
+            let old = Reading::from_words(words[3], words[4]);
+            let new = Reading::from_words(words[6], words[7]);
             Edit::SetEdge(words[1], words[2], old, words[5], new)
         }
         (kinds::SET_EDGE, true) => {
-            let (new, old) = (
-                reading_of(words[3], words[4]),
-                reading_of(words[6], words[7]),
-            );
+            let new = Reading::from_words(words[3], words[4]);
+            let old = Reading::from_words(words[6], words[7]);
             Edit::SetEdge(words[1], words[5], old, words[2], new)
         }
         (kinds::MOVE_VERTEX, false) => Edit::MoveVertex(words[1], words[2], words[3]),

@@ -86,7 +86,7 @@ fn spaces(out: &mut [u8], at: usize, count: usize) -> usize
     end
 }
 
-// A number, right-aligned.
+// A number, right-aligned. No twin of the text's digits: it is padded from the left as it is written.
 fn column(out: &mut [u8], at: usize, width: usize, n: u32) -> usize
     requires { at + width ≤ length out.old }
     ensures { Stored (column width n) at out.old out.new result }

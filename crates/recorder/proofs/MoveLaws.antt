@@ -2,7 +2,6 @@
 use Prim.Native.Nat.{ℕ, ◌/◌, ◌≤◌, ◌<◌}
 use mathlib.Core.Path.{◌≡◌, refl, sym, ap, subst, ◌∙◌}
 use mathlib.Core.Bool.{Bool, true, false}
-use mathlib.Core.Logic.{◌≢◌}
 use mathlib.Core.List.{List}
 use native.Mathlib.Omega.{arith}
 use lib.ListN.{length, get_or}
@@ -10,7 +9,10 @@ use Rattle.graph.specs.Graph.{Graph}
 use Rattle.graph.specs.WellFormed.{Bounds}
 use Rattle.history.specs.Machine.{Machine, graph_at, placed, distance}
 use Rattle.image.specs.Image.{load}
+use Rattle.std.specs.Prelude.{Ok, Err}
 use Rattle.commands.specs.declared.HistoryCall.{HistoryCall}
+use Rattle.commands.specs.declared.refusal.Refusal.{Refusal}
+use Rattle.commands.specs.Refusals.{refusal_code}
 use Rattle.machine.specs.Calls.{Parameters, bounds_in}
 use Rattle.machine.specs.Rules.{history_rule}
 use Rattle.graph_tables.specs.declared.Head.{Head}
@@ -23,13 +25,12 @@ use Rattle.timeline.specs.JournalRows.{shifted, Reach}
 use Rattle.timeline.specs.Steps.{Journal}
 use Rattle.timeline.proofs.Steps.{steps_short}
 use Rattle.history_calls.specs.declared.Store.{Store}
-use Rattle.history_calls.specs.declared.Way.{Way}
 use Rattle.history_calls.specs.Memory.{Memory, memory, tables_of}
 use Rattle.history_calls.specs.Represents.{Represents, Follows}
-use Rattle.history_calls.specs.Outcomes.{done, Leads, way_of}
+use Rattle.history_calls.specs.Outcomes.{done, Leads, Way, way_of}
+use Rattle.history_calls.proofs.Following.{refusal_not_0}
 use Rattle.history_calls.proofs.Ways.{way_refused, way_reach, way_done}
 use Rattle.marks.specs.Marked.{mark_words}
-use Rattle.copies.specs.declared.Target.{Target}
 use Rattle.copies.specs.Copies.{stretch}
 use Rattle.copies.specs.Recording.{Covers, Led, copy_words, CanReload}
 use Rattle.copies.proofs.CopyLaws.{can_reload, reloaded}
@@ -51,27 +52,24 @@ move_asks b x mem m h = (h.marks.room, omega (arith, h.journal.place, h.journal.
 -- ---- a move that is refused
 
 pub move_refused : (b : Bounds) (x : Store) (mem : Memory) (m : Machine) → Represents b x mem m → (capacity : ℕ) (call : HistoryCall) → Leads call
-    → (t : Target) → Led x mem.marks call t → t.code ≢ 0 → Follows (history_rule capacity call) m b (done x t.code 0) mem
-move_refused b x mem m h capacity call leads t to n =
-    subst (λ (k : ℕ). Follows (history_rule capacity call) m b (done x k 0) mem) (sym to.coded)
-    (way_refused b x mem m h capacity call leads (way_of x mem.marks call) refl (λ z. n (to.coded ∙ z)))
+    → (refusal : Refusal) → Led x mem.marks call (Err refusal) → Follows (history_rule capacity call) m b (done x (refusal_code refusal) 0) mem
+move_refused b x mem m h capacity call leads refusal to =
+    subst (λ (k : ℕ). Follows (history_rule capacity call) m b (done x k 0) mem) to
+    (way_refused b x mem m h capacity call leads (way_of x mem.marks call) refl (λ z. refusal_not_0 refusal (sym to ∙ z)))
 
 -- ---- a move
 
 module _ (w : Parameters) (x : Store) (vertices edges journal marks : List ℕ) (m : Machine) (start lent copies numbers used : List ℕ) (gs : List Graph) (n size : ℕ)
     (h : Represents (bounds_in w) x (memory vertices edges journal marks) m) (f : Covers w start lent copies numbers used gs n m) (z : size ≡ stretch w)
-    (short : length journal < 240012) (call : HistoryCall) (leads : Leads call) (t : Target) (to : Led x marks call t) (ok : t.code ≡ 0) where
+    (short : length journal < 240012) (call : HistoryCall) (leads : Leads call) (p : ℕ) (to : Led x marks call (Ok p)) where
   abbrev way : Way
   way = way_of x marks call
 
   abbrev from : ℕ
   from = x.current.position.place
 
-  abbrev p : ℕ
-  p = t.place
-
   fine : way.code ≡ 0
-  fine = sym to.coded ∙ ok
+  fine = to.0
 
   few : x.current.position.steps ≤ 20000
   few = omega (arith, steps_short (bounds_in w) x.current.position _ journal m.line h.journal)
@@ -80,7 +78,7 @@ module _ (w : Parameters) (x : Store) (vertices edges journal marks : List ℕ) 
   led = way_reach (bounds_in w) x (memory vertices edges journal marks) m h 0 call leads way refl fine
 
   at : p ≡ shifted way.back way.steps from
-  at = to.ended ok
+  at = to.1
 
   steps_are : distance from p ≡ way.steps
   steps_are = ap (distance from) at ∙ reach_steps way.back way.steps from x.current.position.steps led

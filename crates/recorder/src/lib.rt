@@ -26,19 +26,19 @@ ghost use Rattle.recorder.specs.Outcomes.{Untouched, MeetsDemand1, MeetsDemand2}
 ghost use Rattle.lists.specs.Slices.{slice};
 
 use commands::{Answer, HistoryCall};
-use copies::{PLACES, Role, changes_in, copies_after, leads_to, reload, role_of};
+use copies::{PLACES, Places, Role, changes_in, copies_after, leads_to, reload, role_of};
 use engine::begin::begin;
 use engine::calls::one;
+use engine::list_refusal::ListRefusal;
 use engine::refusals::refusal;
 use engine::run::RunResult;
-use history_calls::{Called, Store, stay};
+use history_calls::{Called, Store};
 use image::layout::length as image_length;
 use image_tables::save;
 use marks::between;
-use timeline::lent::moved;
 use type_rows::closure;
 
-// The store, the number of copies, and the answer to a call.
+/// The store, the number of copies, and the answer to a call.
 #[derive(Clone, Copy, Debug, PartialEq, Eq)]
 pub struct Progress {
     pub store: Store,
@@ -56,41 +56,30 @@ fn go_by_copy(
     marks: &[u32],
     copies: &[u32],
     size: usize,
-    numbers: &[usize; PLACES],
-    used: &[u32; PLACES],
+    places: &Places,
     call: HistoryCall,
 ) -> Called
     requires leads { Leads call × (length journal.now < 240012) }
     requires by_index { (w : Parameters) × (m : Machine) × (lent : List ℕ) × (gs : List Graph) × (n : ℕ)
         × Represents (bounds_in w) store (memory vertices.old edges.old journal.now marks.now) m
-        × Covers w start.now lent copies.now numbers.now used.now gs n m × (size ≡ stretch w) }
+        × Covers w start.now lent copies.now places.now.numbers places.now.used gs n m × (size ≡ stretch w) }
     ensures { (w : Parameters) → (m : Machine) → (lent : List ℕ) → (gs : List Graph) → (n : ℕ)
         → Represents (bounds_in w) store (memory vertices.old edges.old journal.now marks.now) m
-        → Covers w start.now lent copies.now numbers.now used.now gs n m
+        → Covers w start.now lent copies.now places.now.numbers places.now.used gs n m
         → size ≡ stretch w → (capacity : ℕ) → Follows (history_rule capacity call) m (bounds_in w) result
         (memory vertices.new edges.new journal.now marks.now) }
 {
-    let to = leads_to(store, marks, call);
-    if to.code != 0 {
-        return stay(store, to.code, 0);
-    }
-    let steps = between(store.current.position.place, to.place);
-    let p = to.place as usize;
-    let k = numbers[p];
-    let u = used[p];
-    let head = reload(start, copies, size, k, vertices, edges);
-    let current = moved(store.current, head, to.place, u);
-    Called {
-        store: Store {
-            current,
-            set: store.set,
-            bench: store.bench,
-        },
-        answer: Answer {
-            code: 0,
-            number: steps,
-        },
-    }
+    let place = match leads_to(store, marks, call) {
+        Ok(place) => place,
+        Err(refusal) => return store.answer(Err(refusal)),
+    };
+    let copy = places.numbers[place as usize];
+    let head = reload(start, copies, size, copy, vertices, edges);
+    let mut after = store;
+    after
+        .current
+        .move_to(head, place, places.used[place as usize]);
+    after.answer(Ok(between(store.current.position.place, place)))
 }
 
 // Any call: a move by its copy, every other by the main engine.
@@ -106,23 +95,22 @@ fn performed(
     call: &[u32],
     copies: &[u32],
     size: usize,
-    numbers: &[usize; PLACES],
-    used: &[u32; PLACES],
+    places: &Places,
     role: Role,
 ) -> Called
     requires call_len { (length call.now ≡ 5) × (role ≡ role_of (command_of (call_at call.now))) }
     requires can_record { CanRecord store start.now vertices.old edges.old journal.old marks.old closed.now types copies.now size
-        numbers.now used.now }
+        places.now.numbers places.now.used }
     ensures { (w : Parameters) → (m : Machine) → (lent : List ℕ) → (gs : List Graph) → (n : ℕ)
         → Running w store (memory vertices.old edges.old journal.old marks.old) closed.now types m
-        → Covers w start.now lent copies.now numbers.now used.now gs n m
+        → Covers w start.now lent copies.now places.now.numbers places.now.used gs n m
         → size ≡ stretch w
         → Answered w w.changes m (command_of (call_at call.now)) result (memory vertices.new edges.new journal.new marks.new)
         closed.now types }
 {
     match role {
-        Role::Move(h) => go_by_copy(
-            store, start, vertices, edges, journal, marks, copies, size, numbers, used, h,
+        Role::Move(move_call) => go_by_copy(
+            store, start, vertices, edges, journal, marks, copies, size, places, move_call,
         ),
         _ => one(store, vertices, edges, journal, marks, closed, types, call),
     }
@@ -142,47 +130,43 @@ fn record_call(
     call: &[u32],
     copies: &mut [u32],
     size: usize,
-    numbers: &mut [usize; PLACES],
-    used: &mut [u32; PLACES],
+    places: &mut Places,
 ) -> Progress
     requires call_len { (length call.now ≡ 5) × HasStretch call.now size count (length copies.old) }
     requires can_add { CanAdd store start.now vertices.old edges.old journal.old marks.old closed.now types copies.old size
-        numbers.old used.old count }
+        places.old.numbers places.old.used count }
     ensures { (w : Parameters) → (m : Machine) → (lent : List ℕ) → (gs : List Graph)
         → Running w store (memory vertices.old edges.old journal.old marks.old) closed.now types m
-        → Covers w start.now lent copies.old numbers.old used.old gs count m
+        → Covers w start.now lent copies.old places.old.numbers places.old.used gs count m
         → size ≡ stretch w
         → Answered w w.changes m (command_of (call_at call.now)) (called_by result)
         (memory vertices.new edges.new journal.new marks.new) closed.now types
-        × Covers w start.now lent copies.new numbers.new used.new
+        × Covers w start.now lent copies.new places.new.numbers places.new.used
         (gs ++ graph_made w m (command_of (call_at call.now))) result.count
         (step_to w m (command_of (call_at call.now))) }
 {
     let role = role_of(call);
-    let p = store.current.position.place;
+    let place = store.current.position.place;
     let done = performed(
-        store, start, vertices, edges, journal, marks, closed, types, call, copies, size, numbers,
-        used, role,
-    );
-    let y = done.store;
-    let answer = done.answer;
-    let n = copies_after(
+        store, start, vertices, edges, journal, marks, closed, types, call, copies, size, places,
         role,
-        answer.number,
-        p,
-        y.current,
+    );
+    let count = copies_after(
+        role,
+        done.answer.number,
+        place,
+        done.store.current,
         vertices,
         edges,
         copies,
         size,
-        numbers,
-        used,
+        places,
         count,
     );
     Progress {
-        store: y,
-        count: n,
-        answer,
+        store: done.store,
+        count,
+        answer: done.answer,
     }
 }
 
@@ -200,27 +184,24 @@ fn record_all(
     answers: &mut [u32],
     copies: &mut [u32],
     size: usize,
-    numbers: &mut [usize; PLACES],
-    used: &mut [u32; PLACES],
+    places: &mut Places,
 ) -> Store
-    requires can_begin { CanBegin store start.now vertices.old edges.old journal.old marks.old closed.now types copies.old size numbers.old used.old }
+    requires can_begin { CanBegin store start.now vertices.old edges.old journal.old marks.old closed.now types copies.old size places.old.numbers places.old.used }
     requires calls_in_bounds { (2 * (length calls.now / 5) ≤ length answers.old)
         × (size * changes_in (calls_of calls.now) ≤ length copies.old) }
     ensures { (w : Parameters) → (m : Machine)
         → Running w store (memory vertices.old edges.old journal.old marks.old) closed.now types m
-        → Covers w start.now copies.old copies.old numbers.old
-        used.old [] 0 m → size ≡ stretch w
+        → Covers w start.now copies.old copies.old places.old.numbers
+        places.old.used [] 0 m → size ≡ stretch w
         → AfterCalls w w.changes m (calls_of calls.now) result (memory vertices.new edges.new journal.new marks.new)
         closed.now types answers.old answers.new
         × (copies.new ≡ recorded (stretch w) (step_graphs w m (calls_of calls.now))
         copies.old) }
 {
-    let n = calls.len() / 5;
     let mut y = store;
     let mut count = 0;
-    let mut k = 0;
-    while k < n {
-        let f = record_call(
+    for k in 0..calls.len() / 5 {
+        let made = record_call(
             y,
             count,
             start,
@@ -233,14 +214,12 @@ fn record_all(
             &calls[5 * k..5 * k + 5],
             copies,
             size,
-            numbers,
-            used,
+            places,
         );
-        y = f.store;
-        count = f.count;
-        answers[2 * k] = f.answer.code;
-        answers[2 * k + 1] = f.answer.number;
-        k += 1;
+        y = made.store;
+        count = made.count;
+        answers[2 * k] = made.answer.code;
+        answers[2 * k + 1] = made.answer.number;
     }
     y
 }
@@ -269,12 +248,14 @@ fn accepted(
 {
     let closed = closure(rows);
     let types = rows.len() as u32;
-    let x = begin(start, vertices, edges);
+    let begun = begin(start, vertices, edges);
     let mut marks = [0u32; marks::WORDS];
-    let mut numbers = [0usize; PLACES];
-    let mut used = [0u32; PLACES];
-    let y = record_all(
-        x,
+    let mut places = Places {
+        numbers: [0; PLACES],
+        used: [0; PLACES],
+    };
+    let after = record_all(
+        begun,
         start,
         vertices,
         edges,
@@ -286,11 +267,9 @@ fn accepted(
         answers,
         copies,
         size,
-        &mut numbers,
-        &mut used,
+        &mut places,
     );
-    let last = y.current.head;
-    let words = save(last, vertices, edges, image);
+    let words = save(after.current.head, vertices, edges, image);
     RunResult {
         code: 0,
         done: calls.len() / 5,
@@ -298,8 +277,8 @@ fn accepted(
     }
 }
 
-// The result, the answers, the end image and the copies are those of the specification, whatever is lent, and all but
-// the copies are the main engine's. A refused list writes nowhere; else what tables and journal hold is left open.
+/// The result, the answers, the end image and the copies are those of the specification, whatever is lent, and all but
+/// the copies are the main engine's. A refused list writes nowhere; else what tables and journal hold is left open.
 pub fn record_run(
     start: &[u32],
     rows: &[u64],
@@ -324,7 +303,7 @@ pub fn record_run(
     ensures meets_demand3 { MeetsDemand3 (lent start.now rows.now calls.now vertices.old edges.old journal.old answers.old image.old)
         (run_result result answers.new image.new) }
 {
-    let refused = refusal(
+    if let Err(refused) = refusal(
         start,
         rows,
         calls.len(),
@@ -333,24 +312,12 @@ pub fn record_run(
         journal.len(),
         answers.len(),
         image.len(),
-    );
-    if refused.code != 0 {
-        return RunResult {
-            code: refused.code,
-            done: refused.number as usize,
-            words: 0,
-        };
+    ) {
+        return RunResult::from(refused);
     }
-    let v = (vertices.len() / 8) as u32;
-    let e = (edges.len() / 12) as u32;
-    let size = image_length(v, e);
-    let changes = changes_in(calls);
-    if copies.len() / size < changes {
-        return RunResult {
-            code: 113,
-            done: 0,
-            words: 0,
-        };
+    let size = image_length((vertices.len() / 8) as u32, (edges.len() / 12) as u32);
+    if copies.len() / size < changes_in(calls) {
+        return RunResult::from(ListRefusal::ShortCopies);
     }
     accepted(
         start, rows, calls, vertices, edges, journal, answers, image, copies, size,

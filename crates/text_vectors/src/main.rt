@@ -24,12 +24,10 @@ fn all_sevens(words: &[u32]) -> bool {
 
 // 1 2 3 4 5 1 2 3 4 5 ..
 fn counts(words: &[u32]) -> bool {
-    for (i, &word) in words.iter().enumerate() {
-        if word as usize != i % 5 + 1 {
-            return false;
-        }
-    }
-    true
+    words
+        .iter()
+        .enumerate()
+        .all(|(i, &word)| word as usize == i % 5 + 1)
 }
 
 // The bytes of line, again and again.
@@ -37,18 +35,15 @@ fn repeat(text: &mut [u8], line: &[u8]) {
     if line.is_empty() {
         return;
     }
-    for i in 0..text.len() {
-        text[i] = line[i % line.len()];
+    for (i, byte) in text.iter_mut().enumerate() {
+        *byte = line[i % line.len()];
     }
 }
 
 fn read_as(bytes: &[u8], calls: &mut [u32; 5000], want: &[u32]) -> bool {
-    match text::read(bytes, calls) {
-        Ok(count) => {
-            count == want.len() && calls.starts_with(want) && all_sevens(&calls[want.len()..])
-        }
-        Err(_) => false,
-    }
+    text::read(bytes, calls) == Ok(want.len())
+        && calls.starts_with(want)
+        && all_sevens(&calls[want.len()..])
 }
 
 fn lines_as(bytes: &[u8], calls: &mut [u32; 5000]) -> bool {

@@ -2,3 +2,4 @@ pub mod JournalRowLaws
 pub mod Steps
 pub mod Going
 pub mod Counting
+pub mod Cells

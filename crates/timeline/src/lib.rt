@@ -2,21 +2,19 @@
 // A caller has tables and journal that stand for a timeline.
 #![tactic(auto)]
 
-use graph_tables::{Head, Tables};
-
-pub mod lent; // the record before and after, for the crates that do not lend it yet
-
 ghost use Rattle.std.specs.Prelude.{◌≡◌, true, false, ◌&&◌, List, ℕ, ◌+◌, ◌-◌, ◌^◌, ◌<◌, ◌≤◌, leb, ltb, length, take, drop, ◌==◌};
 ghost use Rattle.lists.specs.Choice.{to_bit};
 ghost use Rattle.graph.specs.Graph.{Graph};
 ghost use Rattle.graph.specs.WellFormed.{Bounds, Within};
 ghost use Rattle.history.specs.Machine.{Step, Timeline, begun, placed, onward, made_by};
-ghost use Rattle.graph_tables.specs.Tables.{State, state, state_of, SameLoan};
+ghost use Rattle.graph_tables.specs.Tables.{State, state_of, SameLoan};
 ghost use Rattle.graph_tables.specs.Capacities.{Sized};
 ghost use Rattle.graph_tables.specs.Holds.{Holds};
 ghost use Rattle.timeline.specs.Current.{no_steps, after_step, at_place};
 ghost use Rattle.timeline.specs.JournalRows.{shifted, Reach, crossed, JournalRows};
 ghost use Rattle.timeline.specs.Steps.{rows_to, Journal, Behind, Unfinished, Advances, Aims};
+
+use graph_tables::{Head, Tables};
 
 /// The place p, the number of steps m, and the rows of steps 1 to p.
 #[derive(Clone, Copy, Debug, Default, PartialEq, Eq)]
@@ -172,44 +170,6 @@ pub fn go<const BACK: bool>(
     there
 }
 
-/// So many steps back. A caller has so many behind it. Which words of the tables hold the graph there is left open.
-pub fn back(
-    current: Current,
-    vertices: &mut [u32],
-    edges: &mut [u32],
-    journal: &[u32],
-    steps: u32,
-) -> Current
-    requires reach { Reach true steps current.position.place current.position.steps }
-    requires journal { (b : Bounds) × (l : Timeline)
-        × Journal b current.position (state current.head vertices.old edges.old) journal.now l }
-    ensures { (b : Bounds) → (l : Timeline)
-        → Journal b current.position (state current.head vertices.old edges.old) journal.now l
-        → Journal b result.position (state result.head vertices.new edges.new) journal.now
-        (placed (shifted true steps l.place) l) }
-{
-    go::<true>(&mut Tables { vertices, edges }, current, journal, steps)
-}
-
-/// So many steps on, as back does.
-pub fn on(
-    current: Current,
-    vertices: &mut [u32],
-    edges: &mut [u32],
-    journal: &[u32],
-    steps: u32,
-) -> Current
-    requires reach { Reach false steps current.position.place current.position.steps }
-    requires journal { (b : Bounds) × (l : Timeline)
-        × Journal b current.position (state current.head vertices.old edges.old) journal.now l }
-    ensures { (b : Bounds) → (l : Timeline)
-        → Journal b current.position (state current.head vertices.old edges.old) journal.now l
-        → Journal b result.position (state result.head vertices.new edges.new) journal.now
-        (placed (shifted false steps l.place) l) }
-{
-    go::<false>(&mut Tables { vertices, edges }, current, journal, steps)
-}
-
 // The rows behind the place so many steps on.
 fn rows_on(journal: &[u32], used: u32, steps: u32) -> u32
     requires { (g : Graph) × (ss : List Step) × (p : ℕ) × Behind journal.now g ss p used
@@ -221,7 +181,7 @@ fn rows_on(journal: &[u32], used: u32, steps: u32) -> u32
         end: used,
         left: steps,
     };
-    while ahead.left != 0 {
+    for _ in 0..steps {
         ahead = ahead.next(journal, ahead.end, false);
     }
     ahead.end

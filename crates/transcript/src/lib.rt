@@ -10,7 +10,7 @@ use engine::run::run;
 use resume_text::read_input;
 use text::Unreadable;
 
-// The text of a run: its answers and its image; of a refused list its code and the number beside it.
+// The text of a run, on fixed room, as nothing here has a heap: its answers and its image; of a refused list its code and the number beside it.
 // Capacities 200, 800, 1,000; types 0 to 4, with 2 and 3 below 1.
 fn respond(start: &[u32], calls: &[u32], out: &mut [u8; 100000]) -> usize
     requires { (length calls.now % 5 ≡ 0) × (length calls.now ≤ 5000) × (length start.now ≤ 200000) }
@@ -33,6 +33,7 @@ fn respond(start: &[u32], calls: &[u32], out: &mut [u8; 100000]) -> usize
         &mut answers,
         &mut image,
     );
+    // A run answers in the words that C is given: a code, and two numbers in either case.
     if ran.code != 0 {
         return text::write_refused(ran.code, ran.done as u32, out);
     }

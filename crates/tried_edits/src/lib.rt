@@ -1,7 +1,8 @@
 // An edit tried: nothing is written where its old and its new agree, it is refused where there is no room for its row,
 // else it is written down as one row, a step of cost 1, and carried out.
-// Each edit has its own function and hands its row on as words: an edit by value would be matched once for its row and
-// once for the tables, and a reading built from its two words and taken apart again.
+// Each edit has a function of its own, which hands the edit on as words. One function for an edit by value is no plainer:
+// kinds 4, 6 and 8 would build a reading from its two words, and take it apart again for the row and for the table. Nor
+// is one that takes the edit as a closure: what stands here of an edit would be said of any closure's calls.
 #![tactic(auto, using(crate::proofs::Tries::tries))]
 
 ghost use Rattle.std.specs.Prelude.{◌≡◌, ◌≢◌, ◌+◌, ◌*◌, ◌^◌, ◌<◌, set, OnOk, OnErr, Err};
@@ -160,18 +161,18 @@ pub fn remove_edge(
     head: Head,
     room: &mut Room<'_>,
     n: u32,
-    w: RemovedEdge,
+    removed: RemovedEdge,
 ) -> Result<Made, Refusal>
     requires number { n < 2 ^ 31 }
-    requires can { CanRemoveEdge n w.alpha w.omega (state_of head tables.old) }
-    requires words { IsWords w.kind w.decimetres }
-    ensures tries { Tries (removal_of n w) (attempt_of head tables.old room.old)
+    requires can { CanRemoveEdge n removed.alpha removed.omega (state_of head tables.old) }
+    requires words { IsWords removed.kind removed.decimetres }
+    ensures tries { Tries (removal_of n removed) (attempt_of head tables.old room.old)
         (outcome_of head result tables.new room.new.journal.now) }
     ensures same_loan { SameLoan tables.old tables.new }
     ensures same_room { SameRoom room.old room.new }
 {
-    put_step(room, w.row_words(n))?;
-    let head = tables.remove_edge(head, n, w.alpha, w.omega);
+    put_step(room, removed.row_words(n))?;
+    let head = tables.remove_edge(head, n, removed.alpha, removed.omega);
     Ok(Made { head, cost: 1 })
 }
 
@@ -278,7 +279,8 @@ pub fn move_vertex(
     Ok(Made { head, cost: 1 })
 }
 
-/// Edge n, from after p to after q.
+/// Edge n, from after p to after q. It is not one function with move_vertex: that would be told by a flag which table,
+/// which list and which kind of row it is, and its clause would be two.
 #[inline(always)]
 pub fn move_edge(
     tables: &mut Tables<'_>,

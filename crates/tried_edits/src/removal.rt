@@ -50,16 +50,16 @@ pub fn removed_edge(tables: &Tables<'_>, n: u32) -> RemovedEdge
     requires { (n < 2 ^ 31) × EdgeRowIn tables.now.edges.now n }
     ensures { result ≡ removed_edge tables.now.edges.now n }
 {
-    let w = tables.edge_fields(n);
+    let fields = tables.edge_fields(n);
     let before = tables.half_field(2 * n, HALF_PREV);
     let into = tables.half_field(2 * n + 1, HALF_PREV);
     let out = if before == 2 * n + 1 { into } else { before };
     RemovedEdge {
         alpha: tables.half_field(2 * n, HALF_THIS),
         omega: tables.half_field(2 * n + 1, HALF_THIS),
-        sort: w.sort,
-        kind: w.kind,
-        decimetres: w.decimetres,
+        sort: fields.sort,
+        kind: fields.kind,
+        decimetres: fields.decimetres,
         order: tables.edge_field(n, EDGE_PREV),
         out,
         into,

@@ -40,6 +40,9 @@ fn has_bit(word: u64, t: usize) -> bool
     (word >> t) % 2 == 1
 }
 
+// Three steps of `closure`, for rows that are good. A struct of such rows would be made there and live in these alone.
+// The words are written by index: what `iter_mut` lends leaves no clause on the elements afterwards.
+
 /// The words of the declared relation, with every type below itself and below 0.
 fn direct_words(rows: &[u64]) -> [u64; 64]
     requires { good_rows rows.now ≡ true }

@@ -4,6 +4,7 @@ use Rattle.lists.specs.Choice.{◌⇒◌else◌}
 use Rattle.lists.specs.Lists.{All}
 use Rattle.graph.specs.declared.Edit.{Edit}
 use Rattle.graph.specs.declared.Change.{Change}
+use Rattle.graph.specs.declared.Change.TheVariants.{DeleteVertex}
 use Rattle.graph.specs.Graph.{Graph}
 use Rattle.graph.specs.WellFormed.{Bounds}
 use Rattle.graph.specs.Changes.{changed, cost, Allowed}
@@ -12,10 +13,15 @@ use Rattle.graph.specs.Plans.{edits_of, apply_all, AppliesAll}
 use Rattle.history.specs.Machine.{Timeline, present_in}
 use Rattle.graph_tables.specs.Tables.{State, vfirst}
 use Rattle.graph_tables.specs.Holds.{Holds}
+use Rattle.graph_tables.specs.Capacities.{Sized}
 use Rattle.tried_edits.specs.Plans.{plan_remove_vertex, plan_remove_edge}
 use Rattle.journal.specs.Rows.{costing}
 use Rattle.timeline.specs.declared.Position.{Position}
 use Rattle.timeline.specs.Steps.{Open}
+
+-- the tables hold a graph within bounds that has the vertex
+abbrev pub Deletable : State → ℕ → Type 0
+Deletable s a = (b : Bounds) × (g : Graph) × Sized b s × Holds s g × Allowed b g (DeleteVertex a)
 
 -- what is left of a vertex's deletion begins with the first edge at it, or is the vertex
 abbrev pub next_edit : State → ℕ → Edit

@@ -1,4 +1,5 @@
 // Kind 2, the deletion of a vertex: codes, rows and tables.
+// Journal and row are two parameters here: the rows of a step go on from one another, and a room is for one row.
 #![tactic(auto)]
 
 ghost use Rattle.std.specs.Prelude.{◌≡◌, ◌+◌, ◌*◌, ◌≤◌, length};
@@ -15,7 +16,7 @@ ghost use Rattle.journal.specs.Rows.{costing};
 ghost use Rattle.journal.specs.Written.{Written};
 ghost use Rattle.tried_edits.specs.Plans.{plan_remove_vertex, plan_remove_edge};
 ghost use Rattle.timeline.specs.Steps.{Journal};
-ghost use Rattle.vertex_deletion.specs.Making.{next_edit, step_start, stage, Making};
+ghost use Rattle.vertex_deletion.specs.Making.{Deletable, next_edit, step_start, stage, Making};
 ghost use Rattle.vertex_deletion.specs.Deleting.{Deletes};
 ghost use Rattle.tried_edits.specs.Tried.{outcome_of};
 
@@ -30,8 +31,7 @@ use tried_edits::removal::removed_edge;
 
 // What the deletion of vertex a, which is there, costs: 1, and one more for each distinct edge at it.
 fn cost_of(tables: &Tables<'_>, a: u32) -> u32
-    requires { (head : Head) × (b : Bounds) × (g : Graph) × Sized b (state_of head tables.now)
-        × Holds (state_of head tables.now) g × Allowed b g (Change.DeleteVertex a) }
+    requires { (head : Head) × Deletable (state_of head tables.now) a }
     ensures { (head : Head) → (b : Bounds) → (g : Graph) → Holds (state_of head tables.now) g
         → Allowed b g (Change.DeleteVertex a) → result ≡ cost (Change.DeleteVertex a) g }
 {
@@ -97,8 +97,7 @@ fn next_row(
     a: u32,
 ) -> Head
     requires room { 12 * row + 12 ≤ length journal.old }
-    requires holds { (b : Bounds) × (g : Graph) × Sized b (state_of head tables.old)
-        × Holds (state_of head tables.old) g × Allowed b g (Change.DeleteVertex a) }
+    requires holds { Deletable (state_of head tables.old) a }
     ensures made { Written (next_edit (state_of head tables.old) a) (costing cost) row
         (state_of head tables.old) journal.old (state_of result tables.new) journal.new }
     ensures same_loan { SameLoan tables.old tables.new }

@@ -3,3 +3,4 @@ pub mod Walkable
 pub mod DistinctSums
 pub mod Counts
 pub mod Degrees
+pub mod ByHand

@@ -14,6 +14,7 @@ pub fn read_whole<R: Read>(reader: &mut R, bytes: &mut [u8]) -> Result<usize, us
     ensures whole { IfOk result (λ n. n < length bytes.new → IsAtEnd (R.remaining reader.new)) }
 {
     let mut count = 0;
+    // A read gives as many bytes as it likes: no `for` counts them.
     while count < bytes.len() {
         let Ok(n) = reader.read(&mut bytes[count..]) else {
             return Err(count);

@@ -4,59 +4,40 @@ use Rattle.history_calls.proofs.Following.{follows_by}
 use Rattle.recorder.proofs.MoveLaws.{move_asks, move_refused, move_in, move_loads, move_done}
 use Rattle.recorder.proofs.go_by_copy.Goals as goal
 
-pub leads_to-to-requires : goal.leads_to-to-requires
-leads_to-to-requires c =
-    let s = c in
-    let p = s.requires.by_index in
+pub leads_to-requires : goal.leads_to-requires
+leads_to-requires c =
+    let p = c.requires.by_index in
     let k = move_asks (bounds_in p.0) _ _ p.1 p.5 in
-    (s.requires.leads.0, k.0, k.1)
+    (c.requires.leads.0, k.0, k.1)
 
-pub returns-then-to-ne0 : goal.returns-then-to-ne0
-returns-then-to-ne0 c =
-    let s = c in
-    let a = s.args in
+pub returns-in-Err : goal.returns-in-Err
+returns-in-Err c =
+    let a = c.args in
     λ w m lent gs n h f e capacity.
-    follows_by _ m (bounds_in w) _ c.stay.ensures
-    (move_refused (bounds_in w) a.store (memory a.vertices.now a.edges.now a.journal.now a.marks.now) m h capacity a.call s.requires.leads.0
-    c.leads_to-to.result c.leads_to-to.ensures c.if-to-ne0.true)
+    follows_by _ m (bounds_in w) _ c.answer.ensures
+    (move_refused (bounds_in w) a.store (memory a.vertices.now a.edges.now a.journal.now a.marks.now) m h capacity a.call c.requires.leads.0 _ c.in-Err.ensures)
 
-pub bounds-numbers-p : goal.bounds-numbers-p
-bounds-numbers-p c =
-    let s = c in
-    let a = s.args in
-    let p = s.requires.by_index in
-    move_in p.0 a.store a.vertices.now a.edges.now a.journal.now a.marks.now p.1 a.start.now p.2 a.copies.now a.numbers.now a.used.now p.3
-    p.4 a.size p.5 p.6 p.7 s.requires.leads.1 a.call s.requires.leads.0 c.leads_to-to.result
-    c.leads_to-to.ensures c.if-to-ne0.false
+pub bounds-places-place : goal.bounds-places-place
+bounds-places-place c =
+    let p = c.requires.by_index in
+    move_in p.0 _ _ _ _ _ p.1 _ p.2 _ _ _ p.3 p.4 _ p.5 p.6 p.7 c.requires.leads.1 _ c.requires.leads.0 _ c.in-Ok.ensures
 
-pub bounds-used-p : goal.bounds-used-p
-bounds-used-p c =
-    let s = c in
-    let a = s.args in
-    let p = s.requires.by_index in
-    move_in p.0 a.store a.vertices.now a.edges.now a.journal.now a.marks.now p.1 a.start.now p.2 a.copies.now a.numbers.now a.used.now p.3
-    p.4 a.size p.5 p.6 p.7 s.requires.leads.1 a.call s.requires.leads.0 c.leads_to-to.result
-    c.leads_to-to.ensures c.if-to-ne0.false
+pub bounds-places-place-2 : goal.bounds-places-place-2
+bounds-places-place-2 c =
+    let p = c.requires.by_index in
+    move_in p.0 _ _ _ _ _ p.1 _ p.2 _ _ _ p.3 p.4 _ p.5 p.6 p.7 c.requires.leads.1 _ c.requires.leads.0 _ c.in-Ok.ensures
 
 pub reload-head-requires : goal.reload-head-requires
 reload-head-requires c =
-    let s = c in
-    let a = s.args in
-    let p = s.requires.by_index in
-    move_loads p.0 a.store a.vertices.now a.edges.now a.journal.now a.marks.now p.1 a.start.now p.2 a.copies.now a.numbers.now a.used.now p.3
-    p.4 a.size p.5 p.6 p.7 s.requires.leads.1 a.call s.requires.leads.0 c.leads_to-to.result
-    c.leads_to-to.ensures c.if-to-ne0.false
+    let p = c.requires.by_index in
+    move_loads p.0 _ _ _ _ _ p.1 _ p.2 _ _ _ p.3 p.4 _ p.5 p.6 p.7 c.requires.leads.1 _ c.requires.leads.0 _ c.in-Ok.ensures
 
 pub returns : goal.returns
 returns c =
-    let s = c in
-    let a = s.args in
+    let a = c.args in
     let r = c.reload-head in
-    λ w m lent gs n h f e.
-    move_done w a.store a.vertices.now a.edges.now a.journal.now a.marks.now m a.start.now lent a.copies.now a.numbers.now a.used.now gs n a.size h f e
-    s.requires.leads.1 a.call s.requires.leads.0 c.leads_to-to.result
-    c.leads_to-to.ensures
-    c.if-to-ne0.false
-    r.result _ _ r.auto.vertices r.auto.edges r.ensures c.moved-current.result c.moved-current.ensures
-    c.between-steps.result
-    c.between-steps.ensures
+    λ w m lent gs n h f e capacity.
+    follows_by _ m (bounds_in w) _ c.answer-2.ensures
+    (move_done w a.store a.vertices.now a.edges.now a.journal.now a.marks.now m a.start.now lent a.copies.now a.places.now.numbers a.places.now.used gs n a.size h f e
+    c.requires.leads.1 a.call c.requires.leads.0 _ c.in-Ok.ensures
+    r.result _ _ r.auto.vertices r.auto.edges r.ensures c.move_to.new.self c.move_to.ensures c.between.result c.between.ensures capacity)

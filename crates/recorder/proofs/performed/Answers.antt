@@ -25,7 +25,7 @@ returns-in-Move c =
     λ w m lent gs n r f e.
     answered_as w m _ _ _ _ _ _ k.0
     (recall_answers w m _ _ _ _ r w.changes _
-    (never_far w m _ _ _ _ r _ refl (history_call c.in-Move.h)) _ _ refl
+    (never_far w m _ _ _ _ r _ refl (history_call c.in-Move.move_call)) _ _ refl
     (c.go_by_copy.ensures w m lent gs n r.represents f e w.changes))
 
 pub returns-in_default : goal.returns-in_default

@@ -1,5 +1,5 @@
 use Prim.Native.Nat.{◌<◌}
-use mathlib.Core.Path.{◌≡◌, refl, ◌∙◌}
+use mathlib.Core.Path.{refl, ◌∙◌}
 use native.Mathlib.Omega.{arith}
 use lib.ListN.{length}
 use Rattle.history.specs.Machine.{present}
@@ -8,49 +8,34 @@ use Rattle.commands.specs.Commands.{command_of}
 use Rattle.machine.specs.Calls.{bounds_in}
 use Rattle.machine.specs.Machine.{step_to}
 use Rattle.history_calls.proofs.Present.{holds_present}
-use Rattle.copies.specs.Recording.{role_of, count_after, copies_after, used_after, numbers_after}
+use Rattle.copies.specs.Recording.{count_after, copies_after, used_after, numbers_after}
 use Rattle.recorder.proofs.CoverLaws.{covers_as, covers_next}
 use Rattle.recorder.proofs.ListLaws.{few_places, can_take, room_for}
 use Rattle.recorder.proofs.record_call.Goals as goal
 
--- the role is that of the call
-role_is : (c : goal.After-performed-arg-4-1) → c.role_of-role.result ≡ role_of (command_of (call_at c.args.call.now))
-role_is c = c.role_of-role.ensures
-
-role_is_at_After_copies_after_arg_4_1 : (c : goal.After-copies_after-arg-4-1) → c.role_of-role.result ≡ role_of (command_of (call_at c.args.call.now))
-role_is_at_After_copies_after_arg_4_1 c = c.role_of-role.ensures
-
-role_is_at_After_slice_known_10_1 : (c : goal.After-slice_known-10-1) → c.role_of-role.result ≡ role_of (command_of (call_at c.args.call.now))
-role_is_at_After_slice_known_10_1 c = c.role_of-role.ensures
-
 pub performed-done-requires : goal.performed-done-requires
 performed-done-requires c =
-    let s = c in
-    let p = s.requires.can_add in record { call_len = (s.requires.call_len.0, role_is c); can_record = (p.0, p.1, p.2, p.3, s.args.count, p.4, p.5, p.6) }
+    let p = c.requires.can_add in
+    record { call_len = (c.requires.call_len.0, c.role_of-role.ensures); can_record = (p.0, p.1, p.2, p.3, c.args.count, p.4, p.5, p.6) }
 
-pub copies_after-n-requires : goal.copies_after-n-requires
-copies_after-n-requires c =
-    let s = c in
-    let a = s.args in
-    let p = s.requires.can_add in
+pub copies_after-count-requires : goal.copies_after-count-requires
+copies_after-count-requires c =
+    let a = c.args in
+    let p = c.requires.can_add in
     let d = c.performed-done in
     let r = d.ensures p.0 p.1 p.2 p.3 a.count p.4 p.5 p.6 in
     let short : length a.copies.now < 18446744073709551615 = omega arith in (
       few_places p.0 a.store _ _ _ p.1 p.4,
       λ t. can_take p.0 d.result.store _ _ _ _ r.after a.call.now d.result.answer.number a.size a.count
-          (length a.copies.now) p.6 short s.requires.call_len.1
-          (rw (← role_is_at_After_copies_after_arg_4_1
-          c) t),
+          (length a.copies.now) p.6 short c.requires.call_len.1 (rw (← c.role_of-role.ensures) t),
     )
 
 pub returns : goal.returns
 returns c =
-    let s = c in
-    let a = s.args in
+    let a = c.args in
     let d = c.performed-done in
-    let g = c.copies_after-n in
-    let sc = role_is_at_After_slice_known_10_1
-    c in
+    let g = c.copies_after-count in
+    let role = c.role_of-role.ensures in
     let cmd = command_of (call_at a.call.now) in
     let k = d.result.answer.number in
     let q = d.result.store.current.position in
@@ -59,12 +44,12 @@ returns c =
     let G = present (step_to w m cmd) in (
       A,
       covers_as w a.start.now lent
-          (g.ensures.3 G (holds_present (bounds_in w) _ _ _ A.after.represents) ∙ (λ i. copies_after (sc i) k (e i) a.count G a.copies.now))
-          (g.ensures.1 ∙ (λ i. numbers_after (sc i) k a.store.current.position.place q.place a.count a.numbers.now))
-          (g.ensures.2 ∙ (λ i. used_after (sc i) k q.place q.used a.used.now))
+          (g.ensures.3 G (holds_present (bounds_in w) _ _ _ A.after.represents) ∙ (λ i. copies_after (role i) k (e i) a.count G a.copies.now))
+          (g.ensures.1 ∙ (λ i. numbers_after (role i) k a.store.current.position.place q.place a.count a.places.now.numbers))
+          (g.ensures.2 ∙ (λ i. used_after (role i) k q.place q.used a.places.now.used))
           refl
-          (g.ensures.0 ∙ (λ i. count_after (sc i) k a.count))
+          (g.ensures.0 ∙ (λ i. count_after (role i) k a.count))
           refl
-          (covers_next w a.start.now lent a.copies.now a.numbers.now a.used.now gs a.count m a.store _ _ _ r f d.result _ cmd A
-          (λ t. room_for w a.call.now k a.size a.count (length a.copies.now) e s.requires.call_len.1 t)),
+          (covers_next w a.start.now lent a.copies.now a.places.now.numbers a.places.now.used gs a.count m a.store _ _ _ r f d.result _ cmd A
+          (λ t. room_for w a.call.now k a.size a.count (length a.copies.now) e c.requires.call_len.1 t)),
     )

@@ -19,7 +19,8 @@ fn words_of(line: &[u8], words: &mut [u32]) -> usize {
     count
 }
 
-/// What the lines so far say. Of start, rows and calls so many words are in use, and of the last end image.
+/// What the lines so far say, in lent words, as there is no heap. Of start, rows and calls so many words are in use, and
+/// of the last end image.
 #[derive(Drop)]
 struct Setting<'a> {
     lengths: Lengths,

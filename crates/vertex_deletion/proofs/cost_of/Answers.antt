@@ -6,14 +6,14 @@ use Rattle.vertex_deletion.proofs.cost_of.Goals as goal
 pub count_edges-requires : goal.count_edges-requires
 count_edges-requires c =
     let a = c.args in
-    let p = c.requires in
-    can_count p.1 (state_of p.0 a.tables.now) p.3 p.2 p.4 a.a p.5
+    let p = c.requires.1 in
+    can_count p.0 (state_of c.requires.0 a.tables.now) p.2 p.1 p.3 a.a p.4
 
 pub overflow_add-result : goal.overflow_add-result
 overflow_add-result c =
     let a = c.args in
-    let p = c.requires in
-    omega (arith, count_short p.1 (state_of p.0 a.tables.now) p.3 p.2 p.4 a.a p.5 _ c.count_edges.ensures)
+    let p = c.requires.1 in
+    omega (arith, count_short p.0 (state_of c.requires.0 a.tables.now) p.2 p.1 p.3 a.a p.4 _ c.count_edges.ensures)
 
 pub returns : goal.returns
 returns c =

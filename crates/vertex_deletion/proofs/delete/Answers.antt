@@ -15,14 +15,8 @@ cost_of-cost-requires c =
     let j = a.current.position in
     let s = state_of a.current.head a.tables.now in
     let t = a.journal.now in
-    let p = c.requires in (
-      a.current.head,
-      p.0,
-      _,
-      p.2.rows.sized,
-      holds_current p.0 j s t p.1 p.2,
-      allowed a.vertex a.free j s t _ c.find_vertex.ensures _ c.in-Found.is p.0 p.1 p.2,
-    )
+    let p = c.requires in
+    (a.current.head, (p.0, _, p.2.rows.sized, holds_current p.0 j s t p.1 p.2, allowed a.vertex a.free j s t _ c.find_vertex.ensures _ c.in-Found.is p.0 p.1 p.2))
 
 pub returns-then-free-cost-clause-made : goal.returns-then-free-cost-clause-made
 returns-then-free-cost-clause-made c =

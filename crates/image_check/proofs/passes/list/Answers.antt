@@ -1,7 +1,6 @@
-use Prim.Native.Nat.{◌+◌, ◌-◌}
+use Prim.Native.Nat.{◌+◌}
 use mathlib.Core.Path.{◌≡◌, sym, ◌∙◌}
 use native.Mathlib.Omega.{arith}
-use lib.ListN.{length, drop}
 use Rattle.image_check.proofs.Turns.{list_miss, list_hit, list_owners_lem, list_over}
 use Rattle.image_check.proofs.passes.list.Goals as goal
 
