@@ -34,5 +34,5 @@ pub rows_end : (ws : List ℕ) → length ws < 6 → all_rows ws ≡ []
 unfolding edges_from
 rows_end ws h = let k : length ws / 6 ≡ 0 = omega arith in rw k refl
 
-pub rows_length : (ws : List ℕ) → length (all_rows ws) ≡ 25 * (length ws / 6)
-rows_length ws = omega (arith, each_length (edges_from (length ws / 6) ws), from_length (length ws / 6) ws)
+pub all_rows_length : (ws : List ℕ) → length (all_rows ws) ≡ 25 * (length ws / 6)
+all_rows_length ws = omega (arith, each_length (edges_from (length ws / 6) ws), from_length (length ws / 6) ws)

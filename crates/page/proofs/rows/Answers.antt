@@ -5,7 +5,7 @@ use Rattle.std.proofs.Common.{rules}
 use Rattle.decimal.proofs.Stores.{stored_left}
 use Rattle.page.specs.Rows.{edge_read}
 use Rattle.page.proofs.RowLaws.{row_length}
-use Rattle.page.proofs.Turns.{rows_turn, rows_end, rows_count, rows_length}
+use Rattle.page.proofs.Turns.{rows_turn, rows_end, rows_count, all_rows_length}
 use Rattle.page.proofs.rows.Goals as goal
 
 pub loop-edge-init : goal.loop-edge-init
@@ -38,6 +38,6 @@ returns c =
     let h = c.in-None.ensures.steps.1.0 in
     let e = rows_end l.edge-iterator.rest.now (omega (arith, h, l.invariant.0)) in
     record {
-      place = omega (arith, h, l.invariant.0, l.invariant.2, rows_length c.args.records.now);
+      place = omega (arith, h, l.invariant.0, l.invariant.2, all_rows_length c.args.records.now);
       stores = sym (ap (sets l.out l.at) e) ∙ l.invariant.3;
     }
