@@ -1,7 +1,7 @@
 // A change as a call: its codes, the step that it is, its bench, and the marks that it cuts.
-// A caller has a store and lent words that stand for a machine with so many types; any change may be asked for. What is
-// free stands beside the journal, and the words of the marks beside their set: the next row and the set are in the
-// store, which is handed on by value, and what it is lent is made one with them only where an edit is tried.
+// A caller has a store and lent words that stand for a machine with so many types; any change may be asked for. Journal
+// and free rows, marks and their words stay parameters, as no plainer: row and set are in the store, which goes by value,
+// so a struct of what is lent would be made for one call each.
 #![tactic(auto)]
 
 ghost use Rattle.std.specs.Prelude.{◌≡◌, ℕ, ◌+◌, ◌*◌, ◌^◌, ◌≤◌, ◌<◌, length};

@@ -88,7 +88,7 @@ fn check_number(capacity: usize, n: u32) -> Result<(), Refusal>
     refuse_if(n == 0 || capacity < n as usize, Refusal::NumberOutside)
 }
 
-// Code 7: kind and decimetres of a reading.
+// Code 7: kind and decimetres of a reading, as the words of the call, which may be any.
 #[inline(always)]
 fn check_reading(k: u32, d: u32) -> Result<(), Refusal>
     ensures { code_if_refused result ≡ reading_code k d }

@@ -13,7 +13,7 @@ use crate::refusal::Refusal;
 use graph::{Change, SingleChange};
 use lists::get;
 
-// Kinds 17 to 22, 49 to 51 and 56 to 59; a name is two words.
+/// Kinds 17 to 22, 49 to 51 and 56 to 59; a name is two words.
 #[derive(Clone, Copy, Debug, PartialEq, Eq)]
 pub enum HistoryCall {
     SetMark(u32),
@@ -31,7 +31,7 @@ pub enum HistoryCall {
     MadeBy(u32, u32, u32),
 }
 
-// Kinds 30 to 48 and 52.
+/// Kinds 30 to 48 and 52.
 #[derive(Clone, Copy, Debug, PartialEq, Eq)]
 pub enum Question {
     FirstVertex,
@@ -56,15 +56,15 @@ pub enum Question {
     Below(u32, u32),
 }
 
-// Kinds 53 and 54; the third word of a grade is its price list.
+/// Kinds 53 and 54; the third word of a grade is its price list.
 #[derive(Clone, Copy, Debug, PartialEq, Eq)]
 pub enum PriceCall {
     Range(u32, u32),
     Grade(u32, u32, u32),
 }
 
-// A call by what answers it: a change, a history call, a question, a call of the price list, or a kind that is not
-// named.
+/// A call by what answers it: a change, a history call, a question, a call of the price list, or a kind that is not
+/// named.
 #[derive(Clone, Copy, Debug, PartialEq, Eq)]
 pub enum Command {
     Alter(Change),
@@ -74,7 +74,8 @@ pub enum Command {
     Unknown,
 }
 
-// What a call is answered by: code 0 and a number, or the code of a refusal and 0.
+/// What a call is answered by: code 0 and a number, or the code of a refusal and 0: the two words that C is given, made
+/// of a `Result` by `From`.
 #[derive(Clone, Copy, Debug, PartialEq, Eq)]
 pub struct Answer {
     pub code: u32,
@@ -142,7 +143,8 @@ fn command_of(k: u32, a: u32, b: u32, c: u32, d: u32) -> Command
     }
 }
 
-// The command of one call's five words, which are a part of the list of calls. Words that are not there are 0.
+/// The command of one call's five words, which are a part of the list of calls. Words that are not there are 0, so that
+/// no pattern of five words serves.
 pub fn decode(words: &[u32]) -> Command
     ensures { result ≡ command_of (call_at words.now) }
 {
@@ -154,14 +156,14 @@ pub fn decode(words: &[u32]) -> Command
     command_of(k, a, b, c, d)
 }
 
-// The answer of an accepted call.
+/// The answer of an accepted call.
 pub fn accepted(number: u32) -> Answer
     ensures { result ≡ accepts number }
 {
     Answer { code: 0, number }
 }
 
-// The answer of a refused call.
+/// The answer of a refused call, of any code: what may not change, as pages name it so.
 pub fn refused(code: u32) -> Answer
     ensures { result ≡ refuses code }
 {

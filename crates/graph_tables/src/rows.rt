@@ -77,7 +77,8 @@ impl<'t> Tables<'t> {
     }
 }
 
-// Saving is lent the two tables to read alone, and so has no `Tables`: these read from one table.
+// These read from one table: image_tables::save, which may not ask for more, is lent the two to read alone and so has no
+// `Tables`.
 
 /// Word `field` of the row of vertex v.
 #[inline(always)]
@@ -174,8 +175,8 @@ pub fn put_edge(edges: &mut [u32], e: u32, live: u32, sort: u32, reading: Readin
     edges[at + EDGE_DECIMETRES] = reading.decimetres();
 }
 
-/// Makes e live, with its type and reading. The two words of a reading are written as they stand, so that no branch asks
-/// for its kind.
+/// Makes e live, with its type and reading. The two words of a reading are written as they stand: a reading
+/// between two tables stays two words (DECISIONS 19).
 #[inline(always)]
 #[tactic(auto, unfolding(crate::specs::Tables::table_edge_row))]
 pub fn put_fields(edges: &mut [u32], e: u32, sort: u32, kind: u32, heard: u32)

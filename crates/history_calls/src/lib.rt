@@ -98,8 +98,8 @@ impl Store {
         }
     }
 
-    /// The same store. It says nothing that `Copy` does not, and is built word by word so that the compiler keeps the
-    /// words in registers (see graph_tables::same).
+    /// The same store, built word by word, so that the compiler keeps the words in registers (tried as a copy, and slower:
+    /// DECISIONS 71; see graph_tables::same).
     #[inline(always)]
     pub fn same(self) -> Store
         ensures { result ≡ self }
@@ -120,7 +120,8 @@ impl Store {
         }
     }
 
-    /// After a call that changes nothing and has this answer, as the two words that a question's answer is.
+    /// After a call that changes nothing and has this answer, as the two words that a question's answer is (C's words:
+    /// DECISIONS 71).
     #[inline(always)]
     pub fn stay(self, code: u32, number: u32) -> Called
         ensures { result ≡ done self code number }
@@ -231,7 +232,7 @@ impl Store {
         }
     }
 
-    /// Any history call, where so many changes are free. A refused one leaves every lent word; else those of the tables
+    /// Any history call, where so many changes are free. Tables, journal and marks stay three: the journal is read alone. A refused one leaves every lent word; else those of the tables
     /// and marks are left open, but for the machine that they stand for.
     #[inline(always)]
     pub fn perform(

@@ -1,4 +1,5 @@
-// Which edit a row is: its word 0.
+// Which edit a row is: its word 0. Numbers and no enum, which is no plainer: the word of a row may be any, and every other
+// is a word moved (edit_of of specs/Rows).
 pub const INSERT_VERTEX: u32 = 1;
 
 pub const REMOVE_VERTEX: u32 = 2;

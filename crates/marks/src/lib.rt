@@ -203,8 +203,8 @@ impl MarkSet {
         ensures by_index { (ms : ℕ → MarkPlace) → Marked ms self.bits words.now
             → Marked (cut_marks p ms) result.bits words.now }
     {
-        // The marks above a, still to be looked at, are the digits of `left`. A `for` over the marks would look at those
-        // that do not stand too: from one that stands the next is found by counting zeros.
+        // The marks above a, still to be looked at, are the digits of `left`: from one that stands the next is found by
+        // counting zeros. A `for` over all marks was tried, and took 3.1 times the C by hand where one stood (DECISIONS 46).
         let mut set = self;
         let mut left = self.bits;
         let mut a: u32 = 0;

@@ -79,7 +79,7 @@ impl Ahead {
     }
 
     // The step that u rows behind are in; at its end, the next one. A step's first row and its last have its cost. What
-    // goes on is built word by word: a pair that is passed through whole is moved as one word and split again.
+    // goes on is built word by word: a pair that is passed through whole is moved as one word and split again (DECISIONS 61, 164).
     #[inline(always)]
     fn next(self, journal: &[u32], u: u32, back: bool) -> Ahead
         requires { (g : Graph) × (ss : List Step) × (q : ℕ) × Unfinished u self × Aims journal.now g ss back q u self }

@@ -42,8 +42,8 @@ impl RemovedEdge {
     }
 }
 
-/// These words of edge n, read off its row. Its ends are read by its two words, whose places are read too: with ends
-/// from the start of the row every question takes more instructions.
+/// These words of edge n, read off its row. Its ends are read by its two words, whose places are read too: tried with
+/// ends from the start of the row, questions took 1 in 100 more instructions (DECISIONS 179).
 #[inline(always)]
 #[tactic(auto, unfolding(lists::specs::Choice::if_equal))]
 pub fn removed_edge(tables: &Tables<'_>, n: u32) -> RemovedEdge

@@ -1,4 +1,4 @@
-// Is a before b: a walk along one list from a on.
+// Is a before b: a walk along one list from a on. Three of one line each: one function would be told the list.
 // A caller has tables that hold a graph, and names that are in it.
 ghost use Rattle.std.specs.Prelude.{◌≡◌};
 ghost use Rattle.lists.specs.Lists.{before};
