@@ -53,7 +53,7 @@ fn reading_to(tables: &Tables<'_>, b: u32, w: u32) -> Reading
     }
 }
 
-// One way from a to b: a walk along the list of a by a cursor.
+// One way from a to b: a walk along the list of a by a cursor, and so a `while` (see walks::cursor).
 fn one_way(tables: &Tables<'_>, a: u32, b: u32) -> Reading
     requires { CanWalk tables.now.vertices.now tables.now.edges.now a }
     ensures { result ≡ way_at tables.now.vertices.now tables.now.edges.now a b }
