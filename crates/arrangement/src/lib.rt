@@ -16,6 +16,7 @@ use image::by_name::Part;
 use image::layout::{EDGE, record_size};
 use image_check::{BadImage, check_saved};
 use lists::get;
+use lists::words::put;
 
 /// Why there are no calls for an order.
 #[derive(Clone, Copy, Debug, PartialEq, Eq)]
@@ -100,15 +101,6 @@ fn look(items: &[u8], i: usize) -> u8
     items.get(i).copied().unwrap_or(0)
 }
 
-/// A write past the end is nothing.
-fn put(items: &mut [u8], i: usize, value: u8)
-    ensures { items.new ≡ set items.old i value }
-{
-    if i < items.len() {
-        items[i] = value;
-    }
-}
-
 // ---- the items
 
 /// Marks the numbers of records of size words.
@@ -151,7 +143,8 @@ fn mark_words(part: &[u32], vertex: u32, items: &mut [u8]) -> usize
     found
 }
 
-/// Whether one of the records of size words has the number.
+/// Whether one of the records of size words has the number. A `for`: with `any` the law on one turn would stand in a
+/// closure's clause, no plainer.
 fn has_number(part: &[u32], size: usize, number: u32) -> bool
     requires { 3 ≤ size }
     ensures { (count : ℕ) → size * count ≡ length part.now → result ≡ member number (numbers_in size count part.now) }
@@ -166,7 +159,8 @@ fn has_number(part: &[u32], size: usize, number: u32) -> bool
 
 // ---- the wanted words
 
-/// Whether each wanted word in turn is marked; it is then no more.
+/// Whether each wanted word in turn is marked; it is then no more. What a turn finds depends on those before it, so `all`
+/// is no plainer.
 fn take_off(wanted: &[u32], items: &mut [u8]) -> bool
     ensures { result ≡ taken wanted.now items.old }
 {

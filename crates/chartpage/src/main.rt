@@ -4,8 +4,9 @@
 use printout::print_image;
 use whole_input::read_whole;
 
-// The three programs have these lines each: one function of theirs would take the answer as a closure, and so require
-// that it may be called, where no function above the run requires anything.
+// The three programs have these lines each, which is no plainer as one: a function of theirs would take the answer as a
+// closure and require that it may be called, and nothing above the run requires anything (tests/contracts); a trait for
+// the answer would have an impl in each, as long as these lines.
 // One byte more than is read, so a longer input is seen to be too long. A write that fails is not told.
 fn main(rt: HostRuntime) {
     let mut input = [0u8; 400001];

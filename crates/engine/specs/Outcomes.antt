@@ -4,8 +4,6 @@ use Rattle.machine.specs.Demand.{Demand3}
 use Rattle.machine.specs.Demands.{Demand1}
 use Rattle.machine.specs.Run.{Lent, AfterRun, list_refusal}
 use Rattle.engine.specs.declared.run.RunResult.{RunResult}
-use Rattle.engine.specs.declared.list_refusal.ListRefusal.{ListRefusal}
-use Rattle.engine.specs.Refusals.{list_code, list_offset}
 use Rattle.lists.specs.Slices.{Slice}
 
 -- REFERENCE 9.1
@@ -24,10 +22,6 @@ lent start rows calls vertices edges journal answers image = record {
 -- REFERENCE 9.4, with the two slices that a run writes
 abbrev pub run_result : RunResult → List ℕ → List ℕ → AfterRun
 run_result r answers image = record { code = r.code; done = r.done; words = r.words; answers = answers; end = image }
-
--- what a refused list returns
-abbrev pub refused_result : ListRefusal → RunResult
-refused_result r = record { code = list_code r; done = list_offset r; words = 0 }
 
 -- ---- for contracts
 

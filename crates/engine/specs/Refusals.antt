@@ -1,4 +1,5 @@
 -- The refusals of a list, from the start's words, the type rows and the lengths of all that is lent.
+use Rattle.engine.specs.declared.run.RunResult.{RunResult}
 use Rattle.std.specs.Prelude.{ℕ, ◌*◌, ◌/◌, ◌%◌, ◌≡◌, Bool, not, ◌&&◌, List, ltb, length, ◌==◌, ⊤, Result, Ok, Err}
 use Rattle.lists.specs.Choice.{◌⇒◌else◌, within}
 use Rattle.graph.specs.Limits.{most_vertices, most_edges, most_changes}
@@ -86,3 +87,7 @@ pub record Lends (l : Lent) (start rows : List ℕ) (calls vertices edges journa
   pub journal_is : l.change_table ≡ journal
   pub answers_are : length l.answers ≡ answers
   pub image_is : length l.end ≡ image
+
+-- what a refused list returns
+abbrev pub refused_result : ListRefusal → RunResult
+refused_result r = record { code = list_code r; done = list_offset r; words = 0 }

@@ -1,5 +1,5 @@
-// The refusals of a list: the first test in turn that it does not pass. Nothing is written. Runs of one store, of
-// several, recorded ones and reductions each have steps of their own: what they share are these tests.
+// The refusals of a list: the first test in turn that it does not pass. Nothing is written. A run of several
+// stores has these tests too, in an order of its own and by other lengths (list_refusal, stores_refusal): no plainer as one.
 ghost use Rattle.std.specs.Prelude.{◌≡◌};
 ghost use Rattle.lists.specs.Choice.{within};
 ghost use Rattle.machine.specs.Run.{Lent, list_refusal, list_number};

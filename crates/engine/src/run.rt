@@ -2,7 +2,8 @@
 ghost use Rattle.std.specs.Prelude.{◌≡◌};
 ghost use Rattle.machine.specs.Demands.{Demand2};
 ghost use Rattle.machine.specs.Run.{list_refusal, accepted as accepted_of, run as run_of};
-ghost use Rattle.engine.specs.Outcomes.{lent, run_result, refused_result, Untouched, MeetsDemand1, MeetsDemand3};
+ghost use Rattle.engine.specs.Outcomes.{lent, run_result, Untouched, MeetsDemand1, MeetsDemand3};
+ghost use Rattle.engine.specs.Refusals.{refused_result};
 ghost use Rattle.lists.specs.Slices.{slice};
 
 use crate::begin::begin;

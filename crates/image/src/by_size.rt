@@ -1,6 +1,6 @@
 // Where the parts of an image begin, by the words of a vertex record: saved words and old ones alike.
-// A caller has counts that are words, and a size that `record_size` gave. The three functions are public and take them as
-// numbers, each its own; a struct of them would stand at each call in place of the call.
+// A caller has counts that are words, and a size that `record_size` gave. The three functions are public and named
+// in pages: a struct would ask callers for more than numbers, which may not change.
 ghost use Rattle.std.specs.Prelude.{◌≡◌, ◌+◌, ◌*◌, ◌≤◌, ◌<◌, ◌^◌};
 ghost use Rattle.image.specs.Image.{edge_offset, incidence_offset, length_as};
 

@@ -51,7 +51,7 @@ impl BadImage {
 
 /// Whether the words are those that some graph within the capacities and types saves as. A refusal says what is bad.
 /// Capacities above the limits of a run are checked as these: the scratch of the check is made for them. So they come as
-/// numbers, and `Limits` holds what is left of them.
+/// numbers, of which any may be asked (what may not change), and `Limits` holds what is left of them.
 pub fn check(words: &[u32], vertices: u32, edges: u32, types: u32) -> Result<(), BadImage>
     ensures { result ≡ verdict (checked vertices edges types) words.now }
 {

@@ -1,5 +1,5 @@
 // The recorder: a saved copy of the graph after every step. Undo, redo and going to a mark load the copy of the place,
-// and no edit is undone; every other call is the main engine's.
+// and no edit is undone; every other call is the main engine's. A recorded run is lent the slices of a run, as C lends them.
 #![tactic(auto)]
 
 ghost use Rattle.std.specs.Prelude.{◌≡◌, List, [], ◌++◌, ℕ, ◌*◌, ◌/◌, ◌≤◌, ◌<◌, length};

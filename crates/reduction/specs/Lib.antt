@@ -1,3 +1,4 @@
 pub mod Reduction
 pub mod Trials
 pub mod Outcomes
+pub mod Refused

@@ -7,8 +7,6 @@ use Rattle.image.specs.Image.{load}
 use Rattle.commands.specs.Calls.{Call, calls_of}
 use Rattle.machine.specs.Run.{Lent, parameters_of, list_refusal, list_number}
 use Rattle.engine.specs.Outcomes.{Same}
-use Rattle.engine.specs.declared.list_refusal.ListRefusal.{ListRefusal}
-use Rattle.engine.specs.Refusals.{list_code, list_offset}
 use Rattle.reduction.specs.declared.Reduction.{Reduction}
 use Rattle.reduction.specs.Reduction.{Reduced, reduced, Least}
 use Rattle.reduction.specs.Trials.{last_code, calls_at, Numbered}
@@ -48,10 +46,6 @@ pub record AfterReduction : Type 0 where
 
 abbrev pub after_reduction : Reduction → List ℕ → AfterReduction
 after_reduction r list = record { code = r.code; kept = r.kept; runs = r.runs; list = list }
-
--- of a list that is refused
-abbrev pub refused_reduction : ListRefusal → Reduction
-refused_reduction r = record { code = list_code r; kept = list_offset r; runs = 0 }
 
 unfoldable pub reduction : Lent → List ℕ → AfterReduction
 unfolding reduction_refusal list_number reduced

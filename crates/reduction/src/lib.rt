@@ -14,7 +14,8 @@ ghost use Rattle.engine.specs.Running.{Running, Runs};
 ghost use Rattle.engine.specs.Outcomes.{lent};
 ghost use Rattle.reduction.specs.Reduction.{reduced as reduced_of};
 ghost use Rattle.reduction.specs.Trials.{last_of, last_code, calls_at, left_out, Numbered, CanTry, Ready};
-ghost use Rattle.reduction.specs.Outcomes.{words_of, too_long, after_reduction, reduction, refused_reduction};
+ghost use Rattle.reduction.specs.Outcomes.{words_of, too_long, after_reduction, reduction};
+ghost use Rattle.reduction.specs.Refused.{refused_reduction};
 ghost use Rattle.reduction.specs.Outcomes.{Untouched, IsLeast, Searched};
 ghost use Rattle.lists.specs.Slices.{slice};
 

@@ -17,8 +17,8 @@ fn is_store(number: u32, stores: usize) -> bool
     (1..=stores).contains(&(number as usize))
 }
 
-/// The place of a store among them; the first where there is no such store. Not an Option: a call of a store that is not
-/// there goes the same way through the loop, and `answer` refuses it.
+/// The place of a store among them; the first where there is no such store. Not an Option, which is no plainer: `None`
+/// would be a second arm that refuses the call and goes on as this one does.
 fn slot(number: u32, stores: usize) -> usize
     requires { 1 ≤ stores }
     ensures value { result ≡ slot_of number stores }

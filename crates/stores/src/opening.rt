@@ -8,7 +8,7 @@ use history_calls::Store;
 use store_calls::serving::MOST_STORES;
 
 /// Loads the start images in turn, each into its parts of v and e words. What the parts hold besides, and the stores
-//// that are not there, are left open; the words behind the parts stay.
+/// that are not there, are left open; the words behind the parts stay.
 pub fn open_all(
     start: &[u32],
     vertices: &mut [u32],

@@ -1,4 +1,5 @@
 // The refusals of a list of several stores: the first test in turn that it does not pass. Nothing is written.
+// The lengths come one by one, as those of a run of one store do: C's eight slices.
 ghost use Rattle.std.specs.Prelude.{◌≡◌, ◌≤◌, ◌<◌, ◌^◌, Err};
 ghost use Rattle.graph.specs.Limits.{most_vertices, most_edges};
 ghost use Rattle.image_check.specs.Checks.{bounds, bad_code};

@@ -40,7 +40,8 @@ fn has_bit(word: u64, t: usize) -> bool
     (word >> t) % 2 == 1
 }
 
-// Three steps of `closure`, for rows that are good. A struct of such rows would be made there and live in these alone.
+// Three steps of `closure`, for rows that are good. A struct of such rows is no plainer: its making would ask the same
+// fact once more, and each of the three would read its field for `rows`.
 // The words are written by index: what `iter_mut` lends leaves no clause on the elements afterwards.
 
 /// The words of the declared relation, with every type below itself and below 0.
