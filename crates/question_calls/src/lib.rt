@@ -30,6 +30,9 @@ use walks::Side;
 use walks::counting::degree;
 use walks::orders::{edge_before, vertex_before, word_before};
 
+// What asks for vertices and what asks for edges stay apart: table, refusal and words of a row differ, in functions of two
+// and three lines, so that one over a trait is no plainer.
+
 // Where the row of vertex a starts.
 #[inline(always)]
 fn vertex_row(tables: &Tables<'_>, a: u32) -> Result<usize, Refusal>
