@@ -113,16 +113,16 @@ pub struct Places {
     pub into: u32,
 }
 
-/// What a look-up of a number returns: where its row starts, or that the graph does not have it. Not an `Option`: a rule
-/// of the project has a look-up say what it found, and its callers leave by `let .. else` with a code of their own.
+/// What a look-up of a number returns: where its row starts, or that the graph does not have it. Not an `Option`: what
+/// may not change (DECISIONS 71, TRACE: a look-up says Found or Missing, and its callers leave by `let .. else`).
 #[derive(Clone, Copy, Debug, PartialEq, Eq)]
 pub enum Lookup {
     Found(usize),
     Missing,
 }
 
-/// The same head, built word by word. The compiler keeps the words of a record that is built so in registers; one that
-/// is passed through whole, it copies in memory.
+/// The same head, built word by word. What may not change: DECISIONS 19 names it, since the
+/// compiler keeps the words of a record that is built so in registers.
 pub fn same(head: Head) -> Head
     ensures { result ≡ head }
 {
