@@ -8,7 +8,7 @@ use crate::{EdgeRecord, Head, Places, Tables};
 use graph::Edit;
 
 impl<'t> Tables<'t> {
-    /// Carries an edit out. It is compiled into each of the two loops that replay.
+    /// Carries an edit out. It is inlined into each of the two loops that replay.
     #[inline(always)]
     pub fn apply(&mut self, head: Head, edit: Edit) -> Head
         requires { Can edit (state_of head self.old) }

@@ -16,9 +16,8 @@ pub mod edges; // edges put in, taken out, set and moved
 pub mod edits; // the nine edits
 pub mod lookups; // is a number in the graph
 
-/// The lent tables. Nothing outside them is written. The head goes by value beside them, as a rule of the project has it,
-/// and is lent to two functions alone. Every method is inlined: one that is called apart reads two pointers and two
-/// lengths anew after each store, and undos take 83 in 100 more (tried).
+/// The lent tables. Nothing outside them is written, and the head is a record of its own. Every method is inlined: one
+/// that is called apart reads two pointers and two lengths anew after each store, and undos take 83 in 100 more.
 #[derive(Drop)]
 pub struct Tables<'t> {
     pub vertices: &'t mut [u32],
@@ -114,16 +113,16 @@ pub struct Places {
     pub into: u32,
 }
 
-/// What a look-up of a number returns: where its row starts, or that the graph does not have it. Not an `Option`: the
-/// project's law has a look-up say `Found` or `Missing`, left by `let .. else` (DECISIONS 71).
+/// What a look-up of a number returns: where its row starts, or that the graph does not have it. Not an `Option`: what
+/// may not change (DECISIONS 71, TRACE: a look-up says Found or Missing, and its callers leave by `let .. else`).
 #[derive(Clone, Copy, Debug, PartialEq, Eq)]
 pub enum Lookup {
     Found(usize),
     Missing,
 }
 
-/// The same head, built word by word. The compiler keeps the words of a record that is built so in registers; one that
-/// is passed through whole, it copies in memory (tried, and slower: DECISIONS 19, 71).
+/// The same head, built word by word. What may not change: DECISIONS 19 names it, since the
+/// compiler keeps the words of a record that is built so in registers.
 pub fn same(head: Head) -> Head
     ensures { result ≡ head }
 {

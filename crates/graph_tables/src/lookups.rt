@@ -24,13 +24,37 @@ fn find<const WORDS: usize, const LIVE: usize>(table: &[u32], n: u32) -> Lookup
     }
 }
 
+/// Where v's row starts.
+#[inline(always)]
+pub fn find_vertex(vertices: &[u32], v: u32) -> Lookup
+    ensures { result ≡ lookup_vertex vertices.now v }
+{
+    find::<VERTEX_WORDS, VERTEX_LIVE>(vertices, v)
+}
+
+/// Where e's row starts.
+#[inline(always)]
+pub fn find_edge(edges: &[u32], e: u32) -> Lookup
+    ensures { result ≡ lookup_edge edges.now e }
+{
+    find::<EDGE_WORDS, EDGE_LIVE>(edges, e)
+}
+
+/// Where the row of word w's edge starts: an oriented word stands for its edge (REFERENCE 2.4).
+#[inline(always)]
+pub fn find_word(edges: &[u32], w: u32) -> Lookup
+    ensures { result ≡ lookup_edge edges.now (w / 2) }
+{
+    find_edge(edges, w / 2)
+}
+
 impl<'t> Tables<'t> {
     /// Where v's row starts.
     #[inline(always)]
     pub fn find_vertex(&self, v: u32) -> Lookup
         ensures { result ≡ lookup_vertex self.now.vertices.now v }
     {
-        find::<VERTEX_WORDS, VERTEX_LIVE>(self.vertices, v)
+        find_vertex(self.vertices, v)
     }
 
     /// Where e's row starts.
@@ -38,14 +62,14 @@ impl<'t> Tables<'t> {
     pub fn find_edge(&self, e: u32) -> Lookup
         ensures { result ≡ lookup_edge self.now.edges.now e }
     {
-        find::<EDGE_WORDS, EDGE_LIVE>(self.edges, e)
+        find_edge(self.edges, e)
     }
 
-    /// Where the row of word w's edge starts: an oriented word stands for its edge (REFERENCE 2.4).
+    /// Where the row of word w's edge starts.
     #[inline(always)]
     pub fn find_word(&self, w: u32) -> Lookup
         ensures { result ≡ lookup_edge self.now.edges.now (w / 2) }
     {
-        self.find_edge(w / 2)
+        find_word(self.edges, w)
     }
 }

@@ -43,7 +43,7 @@ impl<'t> Tables<'t> {
         requires field { field < 6 }
         ensures { result ≡ half_field field self.now.edges.now w }
     {
-        self.edges[half_row(w) + field]
+        half_field(self.edges, w, field)
     }
 
     /// The ends of v's incidence list.
@@ -70,15 +70,12 @@ impl<'t> Tables<'t> {
         requires { EdgeRowIn self.now.edges.now e }
         ensures { result ≡ reading_at self.now.edges.now e }
     {
-        Reading::from_words(
-            self.edge_field(e, EDGE_KIND),
-            self.edge_field(e, EDGE_DECIMETRES),
-        )
+        reading_at(self.edges, e)
     }
 }
 
-// These read from one table: image_tables::save, which may not ask for more, is lent the two to read alone and so has no
-// `Tables`.
+// Of one table, lent to read alone: what may not change, since docs/ name them so; and `image_tables::save` is lent its
+// two tables to read.
 
 /// Word `field` of the row of vertex v.
 #[inline(always)]
@@ -96,6 +93,27 @@ pub fn edge_field(edges: &[u32], e: u32, field: usize) -> u32
     ensures { result ≡ edge_field field edges.now e }
 {
     edges[edge_row(e) + field]
+}
+
+/// Word `field` of the half of oriented word w.
+#[inline(always)]
+pub fn half_field(edges: &[u32], w: u32, field: usize) -> u32
+    requires { HalfRowIn edges.now w × (field < 6) }
+    ensures { result ≡ half_field field edges.now w }
+{
+    edges[half_row(w) + field]
+}
+
+/// The reading of edge e.
+#[inline(always)]
+pub fn reading_at(edges: &[u32], e: u32) -> Reading
+    requires { EdgeRowIn edges.now e }
+    ensures { result ≡ reading_at edges.now e }
+{
+    Reading::from_words(
+        edge_field(edges, e, EDGE_KIND),
+        edge_field(edges, e, EDGE_DECIMETRES),
+    )
 }
 
 /// The ends of v's incidence list.
@@ -175,8 +193,8 @@ pub fn put_edge(edges: &mut [u32], e: u32, live: u32, sort: u32, reading: Readin
     edges[at + EDGE_DECIMETRES] = reading.decimetres();
 }
 
-/// Makes e live, with its type and reading. The two words of a reading are written as they stand: a reading
-/// between two tables stays two words (DECISIONS 19).
+/// Makes e live, with its type and reading. The two words of a reading are written as they stand, so that no branch asks
+/// for its kind (DECISIONS 19, 92).
 #[inline(always)]
 #[tactic(auto, unfolding(crate::specs::Tables::table_edge_row))]
 pub fn put_fields(edges: &mut [u32], e: u32, sort: u32, kind: u32, heard: u32)

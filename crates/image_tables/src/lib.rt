@@ -44,7 +44,7 @@ pub fn load_tables(tables: &mut Tables<'_>, words: &[u32]) -> Head
     head
 }
 
-/// The same, of tables that are lent apart: what may not change, since pages name it so.
+/// The same, of tables that are lent apart, as callers that hold slices have it (what may not change).
 pub fn load(words: &[u32], vertices: &mut [u32], edges: &mut [u32]) -> Head
     requires { CanLoad words.now vertices.old edges.old }
     ensures { Holds (state result vertices.new edges.new) (load_of words.now) }

@@ -1,8 +1,8 @@
 // Doubly linked lists threaded through a lent table of words. Node 0 is no node: it stands for the ends of a list.
 // A caller has a table that holds the list: a walk along links that are not a list need not end. So a walk is a `while`:
 // an iterator has to end by itself.
-// That a layout is valid is asked in clauses and is no field of it, which is no plainer: its three values are constants, so
-// each would hold a proof beside two numbers, and the laws, which speak of any layout, would ask for it as they do now.
+// That a layout is valid is asked in six clauses and is no field of it, which is no plainer: a proof would stand beside
+// the two numbers of each constant and of each definition of one, and the laws, which speak of any layout, would ask on.
 #![tactic(auto)]
 
 ghost use Rattle.std.specs.Prelude.{◌≡◌, ◌+◌, ◌<◌, ◌^◌, length, ◌==◌};

@@ -100,9 +100,9 @@ pub class_same : (t : ℕ) → t ≤ 63 → t % 64 ≡ t
 class_same t h = omega arith
 
 -- no word is on a side that has another number
-pub side_none : (in_class : ℕ → Bool) (c : ℕ) (vertices edges : List ℕ) (v : ℕ) → 2 < c → 0 ≡ degree_at in_class c vertices edges v
+pub side_beyond : (in_class : ℕ → Bool) (c : ℕ) (vertices edges : List ℕ) (v : ℕ) → 2 < c → 0 ≡ degree_at in_class c vertices edges v
 unfolding degree_at
-side_none in_class c vertices edges v h =
+side_beyond in_class c vertices edges v h =
     none_kept (λ w. in_class (etype edges (w / 2)) && on_side c w) (nodes incidence_links edges (vertex_ends vertices v)) (λ w. out (in_class (etype edges (w / 2))) w)
   where
     off : (w : ℕ) → on_side c w ≡ false

@@ -23,6 +23,9 @@ fn is_counted(tables: &Tables<'_>, w: u32) -> bool
     w % 2 == 0 || tables.half_field(w - 1, HALF_THIS) != tables.half_field(w, HALF_THIS)
 }
 
+// Two walks count, by another test each: one over a closure is no plainer, since its clause would say of every word that
+// it has its edge's row, and add the test's own.
+
 /// How many distinct edges are at vertex v: a walk along its list.
 pub fn count_edges(tables: &Tables<'_>, v: u32) -> u32
     requires { CanWalk tables.now.vertices.now tables.now.edges.now v }
@@ -48,8 +51,7 @@ fn in_degree(words: &[u64; 64], tables: &Tables<'_>, w: u32, t: u32, side: Side)
     side.has(w) && sort < 64 && (words[sort as usize] >> (t % 64)) % 2 == 1
 }
 
-// The degree on a side, of a class modulo 64: a cursor goes along the list, from its first word on. One loop with
-// count_edges, over a closure, is no plainer: each sum is its own definition, which the closure's clause would have to say.
+// The degree on a side, of a class modulo 64: a cursor goes along the list, from its first word on.
 fn degree_from(words: &[u64; 64], tables: &Tables<'_>, v: u32, t: u32, side: Side) -> u32
     requires { CanWalk tables.now.vertices.now tables.now.edges.now v }
     ensures { result ≡ degree_at (λ s. bit_of words.now s (t % 64)) (side_number side)
@@ -64,9 +66,9 @@ fn degree_from(words: &[u64; 64], tables: &Tables<'_>, v: u32, t: u32, side: Sid
     n
 }
 
-/// The degree of vertex v in class t on the side c, 0 where no side has that number: a walk along its list. c stays a
-/// number, of which any may be asked: what may not change, as TRACE 5.4 names it. Type s is in
-/// class t where bit t of word s is set; so it is where s is below t, if the words are a closure.
+/// The degree of vertex v in class t on the side c, 0 where no side has that number: a walk along its list. Type s is in
+/// class t where bit t of word s is set; so it is where s is below t, if the words are a closure. c stays a number, which
+/// may not change: TRACE 5.4 names this, and any number may be asked for.
 pub fn degree(words: &[u64; 64], tables: &Tables<'_>, v: u32, t: u32, c: u32) -> u32
     requires { CanWalk tables.now.vertices.now tables.now.edges.now v }
     ensures value { result ≡ degree_at (λ s. bit_of words.now s t) c tables.now.vertices.now tables.now.edges.now v }
