@@ -16,7 +16,7 @@ pub loop-number-preserved : goal.loop-number-preserved
 loop-number-preserved c =
     let a = c.args in
     let l = c.loop-number in
-    taken_turn a.wanted.now l.items l.number-index (get_or a.wanted.now l.number-index 0) (omega arith) refl c.look.result c.put.new.items c.look.ensures
+    taken_turn a.wanted.now l.items l.number-index (get_or a.wanted.now l.number-index 0) (omega arith) refl c.look.result c.put.new.list c.look.ensures
     c.if-look-ne1.false c.put.ensures
     ∙ l.invariant
 

@@ -1,6 +1,0 @@
-use mathlib.Core.Path.{sym}
-use lib.Seq.{set_out}
-use Rattle.arrangement.proofs.put.Goals as goal
-
-pub returns-else-i-items : goal.returns-else-i-items
-returns-else-i-items c = sym (set_out _ _ _ c.if-i-items.false)
