@@ -18,7 +18,9 @@ ghost use Rattle.change_codes.specs.Refusals.{vertices_code, edges_code, words_c
 
 use commands::refusal::Refusal;
 use graph_tables::fields::{EDGE_WORDS, HALF_THIS, VERTEX_WORDS};
-use graph_tables::{Lookup, Tables};
+use graph_tables::lookups::{find_edge, find_vertex, find_word};
+use graph_tables::rows::half_field;
+use graph_tables::{Lookup, TablesView};
 
 // Refused with this, where it applies.
 #[inline(always)]
@@ -30,12 +32,12 @@ fn refuse_if(applies: bool, refusal: Refusal) -> Result<(), Refusal>
 
 /// Code 4: a vertex that is named; kind 7 has no other.
 #[inline(always)]
-pub fn check_vertex(tables: &Tables<'_>, v: u32) -> Result<(), Refusal>
-    ensures value { code_if_refused result ≡ vertex_code (lookup_vertex tables.now.vertices.now v) }
-    ensures of_graph { (g : Graph) → HoldsV tables.now.vertices.now g
+pub fn check_vertex(vertices: &[u32], v: u32) -> Result<(), Refusal>
+    ensures value { code_if_refused result ≡ vertex_code (lookup_vertex vertices.now v) }
+    ensures of_graph { (g : Graph) → HoldsV vertices.now g
         → code_if_refused result ≡ (lacks_vertex g v ⇒ 4 else 0) }
 {
-    let Lookup::Found(_) = tables.find_vertex(v) else {
+    let Lookup::Found(_) = find_vertex(vertices, v) else {
         return Err(Refusal::NoVertex);
     };
     Ok(())
@@ -43,12 +45,12 @@ pub fn check_vertex(tables: &Tables<'_>, v: u32) -> Result<(), Refusal>
 
 /// Code 5: an edge that is named; kind 4 has no other.
 #[inline(always)]
-pub fn check_edge(tables: &Tables<'_>, e: u32) -> Result<(), Refusal>
-    ensures value { code_if_refused result ≡ edge_code (lookup_edge tables.now.edges.now e) }
-    ensures of_graph { (g : Graph) → HoldsE tables.now.edges.now g
+pub fn check_edge(edges: &[u32], e: u32) -> Result<(), Refusal>
+    ensures value { code_if_refused result ≡ edge_code (lookup_edge edges.now e) }
+    ensures of_graph { (g : Graph) → HoldsE edges.now g
         → code_if_refused result ≡ (lacks_edge g e ⇒ 5 else 0) }
 {
-    let Lookup::Found(_) = tables.find_edge(e) else {
+    let Lookup::Found(_) = find_edge(edges, e) else {
         return Err(Refusal::NoEdge);
     };
     Ok(())
@@ -56,20 +58,40 @@ pub fn check_edge(tables: &Tables<'_>, e: u32) -> Result<(), Refusal>
 
 // Code 4: two vertices that are named.
 #[inline(always)]
-fn check_vertices(tables: &Tables<'_>, x: u32, y: u32) -> Result<(), Refusal>
-    ensures { code_if_refused result ≡ vertices_code tables.now.vertices.now x y }
+fn check_vertices(vertices: &[u32], x: u32, y: u32) -> Result<(), Refusal>
+    ensures { code_if_refused result ≡ vertices_code vertices.now x y }
 {
-    check_vertex(tables, x)?;
-    check_vertex(tables, y)
+    check_vertex(vertices, x)?;
+    check_vertex(vertices, y)
 }
 
 // Code 5: two edges that are named.
 #[inline(always)]
-fn check_edges(tables: &Tables<'_>, x: u32, y: u32) -> Result<(), Refusal>
-    ensures { code_if_refused result ≡ edges_code tables.now.edges.now x y }
+fn check_edges(edges: &[u32], x: u32, y: u32) -> Result<(), Refusal>
+    ensures { code_if_refused result ≡ edges_code edges.now x y }
 {
-    check_edge(tables, x)?;
-    check_edge(tables, y)
+    check_edge(edges, x)?;
+    check_edge(edges, y)
+}
+
+// Code 5: an oriented word that is named, whose edge has to be there.
+#[inline(always)]
+fn check_word(edges: &[u32], w: u32) -> Result<(), Refusal>
+    ensures { code_if_refused result ≡ edge_code (lookup_edge edges.now (w / 2)) }
+{
+    refuse_if(
+        matches!(find_word(edges, w), Lookup::Missing),
+        Refusal::NoEdge,
+    )
+}
+
+// Code 5: two words that are named.
+#[inline(always)]
+fn check_words(edges: &[u32], x: u32, y: u32) -> Result<(), Refusal>
+    ensures { code_if_refused result ≡ edges_code edges.now (x / 2) (y / 2) }
+{
+    check_word(edges, x)?;
+    check_word(edges, y)
 }
 
 // Code 6: a type that is named.
@@ -109,16 +131,16 @@ fn check_distinct(a: u32, b: u32) -> Result<(), Refusal>
 
 /// Kind 1: codes 2, 3, 6.
 #[inline(always)]
-pub fn create_vertex(tables: &Tables<'_>, types: u32, n: u32, t: u32) -> Result<(), Refusal>
+pub fn create_vertex(vertices: &[u32], types: u32, n: u32, t: u32) -> Result<(), Refusal>
     ensures value { code_if_refused result
-        ≡ first_code (number_code (length tables.now.vertices.now / 8) n)
-        (first_code (used_code (lookup_vertex tables.now.vertices.now n)) (type_code types t)) }
-    ensures of_graph { (g : Graph) → HoldsV tables.now.vertices.now g → code_if_refused result
-        ≡ (not (within 1 (length tables.now.vertices.now / 8) n) ⇒ 2 else has_vertex g n ⇒ 3 else
+        ≡ first_code (number_code (length vertices.now / 8) n)
+        (first_code (used_code (lookup_vertex vertices.now n)) (type_code types t)) }
+    ensures of_graph { (g : Graph) → HoldsV vertices.now g → code_if_refused result
+        ≡ (not (within 1 (length vertices.now / 8) n) ⇒ 2 else has_vertex g n ⇒ 3 else
         leb types t ⇒ 6 else 0) }
 {
-    check_number(tables.vertices.len() / VERTEX_WORDS, n)?;
-    let Lookup::Missing = tables.find_vertex(n) else {
+    check_number(vertices.len() / VERTEX_WORDS, n)?;
+    let Lookup::Missing = find_vertex(vertices, n) else {
         return Err(Refusal::NumberInUse);
     };
     check_type(types, t)
@@ -127,7 +149,7 @@ pub fn create_vertex(tables: &Tables<'_>, types: u32, n: u32, t: u32) -> Result<
 /// Kind 3: codes 2, 3, 4, 6.
 #[inline(always)]
 pub fn create_edge(
-    tables: &Tables<'_>,
+    tables: &TablesView<'_>,
     types: u32,
     n: u32,
     x: u32,
@@ -144,102 +166,102 @@ pub fn create_edge(
         (lacks_vertex g x || lacks_vertex g y) ⇒ 4 else leb types t ⇒ 6 else 0) }
 {
     check_number(tables.edges.len() / EDGE_WORDS, n)?;
-    let Lookup::Missing = tables.find_edge(n) else {
+    let Lookup::Missing = find_edge(tables.edges, n) else {
         return Err(Refusal::NumberInUse);
     };
-    check_vertices(tables, x, y)?;
+    check_vertices(tables.vertices, x, y)?;
     check_type(types, t)
 }
 
 /// Kind 5: codes 4, 6.
 #[inline(always)]
 #[tactic(auto, using(crate::proofs::Meanings::vertex_then))]
-pub fn retype_vertex(tables: &Tables<'_>, types: u32, n: u32, t: u32) -> Result<(), Refusal>
+pub fn retype_vertex(vertices: &[u32], types: u32, n: u32, t: u32) -> Result<(), Refusal>
     ensures value { code_if_refused result
-        ≡ first_code (vertex_code (lookup_vertex tables.now.vertices.now n)) (type_code types t) }
-    ensures of_graph { (g : Graph) → HoldsV tables.now.vertices.now g
+        ≡ first_code (vertex_code (lookup_vertex vertices.now n)) (type_code types t) }
+    ensures of_graph { (g : Graph) → HoldsV vertices.now g
         → code_if_refused result ≡ (lacks_vertex g n ⇒ 4 else leb types t ⇒ 6 else 0) }
 {
-    check_vertex(tables, n)?;
+    check_vertex(vertices, n)?;
     check_type(types, t)
 }
 
 /// Kind 6: codes 5, 6.
 #[inline(always)]
 #[tactic(auto, using(crate::proofs::Meanings::edge_then))]
-pub fn retype_edge(tables: &Tables<'_>, types: u32, n: u32, t: u32) -> Result<(), Refusal>
+pub fn retype_edge(edges: &[u32], types: u32, n: u32, t: u32) -> Result<(), Refusal>
     ensures value { code_if_refused result
-        ≡ first_code (edge_code (lookup_edge tables.now.edges.now n)) (type_code types t) }
-    ensures of_graph { (g : Graph) → HoldsE tables.now.edges.now g
+        ≡ first_code (edge_code (lookup_edge edges.now n)) (type_code types t) }
+    ensures of_graph { (g : Graph) → HoldsE edges.now g
         → code_if_refused result ≡ (lacks_edge g n ⇒ 5 else leb types t ⇒ 6 else 0) }
 {
-    check_edge(tables, n)?;
+    check_edge(edges, n)?;
     check_type(types, t)
 }
 
 /// Kind 8: codes 5, 7.
 #[inline(always)]
 #[tactic(auto, using(crate::proofs::Meanings::edge_then))]
-pub fn set_reading(tables: &Tables<'_>, n: u32, k: u32, d: u32) -> Result<(), Refusal>
+pub fn set_reading(edges: &[u32], n: u32, k: u32, d: u32) -> Result<(), Refusal>
     ensures value { code_if_refused result
-        ≡ first_code (edge_code (lookup_edge tables.now.edges.now n)) (reading_code k d) }
-    ensures of_graph { (g : Graph) → HoldsE tables.now.edges.now g
+        ≡ first_code (edge_code (lookup_edge edges.now n)) (reading_code k d) }
+    ensures of_graph { (g : Graph) → HoldsE edges.now g
         → code_if_refused result ≡ (lacks_edge g n ⇒ 5 else not (is_reading k d) ⇒ 7 else 0) }
 {
-    check_edge(tables, n)?;
+    check_edge(edges, n)?;
     check_reading(k, d)
 }
 
 /// Kinds 9 and 10: codes 4, 5.
 #[inline(always)]
 #[tactic(auto, using(crate::proofs::Meanings::set_end_means))]
-pub fn set_end(tables: &Tables<'_>, n: u32, v: u32) -> Result<(), Refusal>
+pub fn set_end(tables: &TablesView<'_>, n: u32, v: u32) -> Result<(), Refusal>
     ensures value { code_if_refused result
         ≡ first_code (vertex_code (lookup_vertex tables.now.vertices.now v))
         (edge_code (lookup_edge tables.now.edges.now n)) }
     ensures of_graph { (g : Graph) → HoldsVE tables.now.vertices.now tables.now.edges.now g
         → code_if_refused result ≡ (lacks_vertex g v ⇒ 4 else lacks_edge g n ⇒ 5 else 0) }
 {
-    check_vertex(tables, v)?;
-    check_edge(tables, n)
+    check_vertex(tables.vertices, v)?;
+    check_edge(tables.edges, n)
 }
 
 /// Kinds 11 and 12: codes 4, 9.
 #[inline(always)]
-pub fn order_vertices(tables: &Tables<'_>, x: u32, y: u32) -> Result<(), Refusal>
+pub fn order_vertices(vertices: &[u32], x: u32, y: u32) -> Result<(), Refusal>
     ensures value { code_if_refused result
-        ≡ first_code (vertices_code tables.now.vertices.now x y) (twice_code x y) }
-    ensures of_graph { (g : Graph) → HoldsV tables.now.vertices.now g → code_if_refused result
+        ≡ first_code (vertices_code vertices.now x y) (twice_code x y) }
+    ensures of_graph { (g : Graph) → HoldsV vertices.now g → code_if_refused result
         ≡ ((lacks_vertex g x || lacks_vertex g y) ⇒ 4 else (x == y) ⇒ 9 else 0) }
 {
-    check_vertices(tables, x, y)?;
+    check_vertices(vertices, x, y)?;
     check_distinct(x, y)
 }
 
 /// Kinds 13 and 14: codes 5, 9.
 #[inline(always)]
-pub fn order_edges(tables: &Tables<'_>, x: u32, y: u32) -> Result<(), Refusal>
+pub fn order_edges(edges: &[u32], x: u32, y: u32) -> Result<(), Refusal>
     ensures value { code_if_refused result
-        ≡ first_code (edges_code tables.now.edges.now x y) (twice_code x y) }
-    ensures of_graph { (g : Graph) → HoldsE tables.now.edges.now g → code_if_refused result
+        ≡ first_code (edges_code edges.now x y) (twice_code x y) }
+    ensures of_graph { (g : Graph) → HoldsE edges.now g → code_if_refused result
         ≡ ((lacks_edge g x || lacks_edge g y) ⇒ 5 else (x == y) ⇒ 9 else 0) }
 {
-    check_edges(tables, x, y)?;
+    check_edges(edges, x, y)?;
     check_distinct(x, y)
 }
 
 /// Kinds 15 and 16: codes 5, 8, 9.
 #[inline(always)]
-pub fn order_words(tables: &Tables<'_>, x: u32, y: u32) -> Result<(), Refusal>
+pub fn order_words(edges: &[u32], x: u32, y: u32) -> Result<(), Refusal>
     ensures value { code_if_refused result
-        ≡ first_code (words_code tables.now.edges.now x y) (twice_code x y) }
-    ensures of_graph { (g : Graph) → HoldsE tables.now.edges.now g → code_if_refused result
+        ≡ first_code (words_code edges.now x y) (twice_code x y) }
+    ensures of_graph { (g : Graph) → HoldsE edges.now g → code_if_refused result
         ≡ ((lacks_edge g (edge_of x) || lacks_edge g (edge_of y)) ⇒ 5 else
         not (chart.this g x == chart.this g y) ⇒ 8 else (x == y) ⇒ 9 else 0) }
 {
-    check_edges(tables, x / 2, y / 2)?;
+    check_words(edges, x, y)?;
     refuse_if(
-        tables.half_field(x, HALF_THIS) != tables.half_field(y, HALF_THIS),
+        half_field(edges, x, HALF_THIS) != half_field(edges, y, HALF_THIS),
         Refusal::OtherList,
     )?;
     check_distinct(x, y)

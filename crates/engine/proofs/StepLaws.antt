@@ -9,6 +9,8 @@ use borrow.Author.Tests.{ne_eqb}
 use native.Mathlib.Omega.{arith}
 use Rattle.lists.specs.Choice.{◌⇒◌else◌}
 use Rattle.graph.specs.declared.Change.{Change}
+use Rattle.graph_tables.specs.declared.Head.{Head}
+use Rattle.graph_tables.specs.Tables.{State, state}
 use Rattle.graph_tables.specs.Holds.{Holds}
 use Rattle.graph_tables.specs.Capacities.{Sized}
 use Rattle.history_calls.specs.declared.Store.{Store}
@@ -34,6 +36,11 @@ use Rattle.commands.specs.declared.Answer.{Answer}
 use Rattle.commands.specs.Answers.{answer_of}
 use Rattle.engine.specs.Running.{Setting, Running, allowing, Answered}
 use Rattle.machine.proofs.Families.{change_refusal, history_refusal, question_refusal, price_refusal}
+
+-- what is said of the state of the tables is said of that of a view of them
+pub seen : (P : State → Type 0) (h : Head) {vertices edges vs es : List ℕ} → vs ≡ vertices → es ≡ edges → P (state h vertices edges) → P (state h vs es)
+seen P h {edges = edges} {vs = vs} p q y =
+    subst (λ (l : List ℕ). P (state h vs l)) (sym q) (subst (λ (l : List ℕ). P (state h l edges)) (sym p) y)
 
 -- the capacities stand with the tables
 setting_of : (w : Parameters) (x : Store) (mem mem' : Memory) (closed : List ℕ) (types : ℕ) (m : Machine) → Setting w mem closed types →

@@ -1,6 +1,6 @@
 // The refusals of a list: the first test in turn that it does not pass. Nothing is written. A run of several
 // stores has these tests too, in an order of its own and by other lengths (list_refusal, stores_refusal): no plainer as one.
-ghost use Rattle.std.specs.Prelude.{◌≡◌};
+ghost use Rattle.std.specs.Prelude.{◌≡◌, ◌^◌, ◌<◌};
 ghost use Rattle.lists.specs.Choice.{within};
 ghost use Rattle.machine.specs.Run.{Lent, list_refusal, list_number};
 ghost use Rattle.engine.specs.Refusals.{in_limits, lengths_code, code_if_refused, number_if_refused, Lends};
@@ -60,9 +60,10 @@ pub fn refusal(
     answers: usize,
     image: usize,
 ) -> Result<(), ListRefusal>
-    ensures { (l : Lent)
+    ensures told { (l : Lent)
         → Lends l start.now rows.now calls vertices edges journal answers image
         → (code_if_refused result ≡ list_refusal l) × (number_if_refused result ≡ list_number l) }
+    ensures in_a_word { number_if_refused result < 2 ^ 32 }
 {
     check_lengths(calls, answers, vertices, edges, journal)?;
     if !are_good(rows) {

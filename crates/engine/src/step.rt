@@ -40,11 +40,11 @@ fn step_on(
             store.perform(tables, journal, marks, free, call)
         }
         Command::Ask(question) => {
-            let answer = reply(store.current.head, tables, closed, types, question);
+            let answer = reply(store.current.head, &tables.view(), closed, types, question);
             store.stay(answer.code, answer.number)
         }
         Command::Quote(call) => {
-            let answer = quote(tables, call);
+            let answer = quote(&tables.view(), call);
             store.stay(answer.code, answer.number)
         }
         Command::Unknown => store.answer(Err(Refusal::UnknownKind)),

@@ -9,6 +9,7 @@ use Rattle.lists.specs.Choice.{◌⇒◌else◌}
 use Rattle.graph.specs.Graph.{reading_kind, decimetres, reading_of}
 use Rattle.graph_tables.specs.declared.Head.{Head}
 use Rattle.graph_tables.specs.declared.Tables.{Tables}
+use Rattle.graph_tables.specs.declared.TablesView.{TablesView}
 use Rattle.graph_tables.specs.declared.EdgeFields.{EdgeFields}
 use Rattle.graph_tables.specs.declared.Lookup.{Lookup}
 use Rattle.graph_tables.specs.declared.Lookup.TheVariants.{Found, Missing}
@@ -120,6 +121,10 @@ state h vertices edges = record { head = h; vertices = vertices; edges = edges }
 -- the head, and what the lent tables hold
 abbrev pub state_of : Head → Tables → State
 state_of h t = state h t.vertices.now t.edges.now
+
+-- the same of tables that are lent to read
+abbrev pub view_state : Head → TablesView → State
+view_state h t = state h t.vertices.now t.edges.now
 
 -- the same two loans, of the same lengths: what is written by the one is read by who lent the other
 pub record SameLoan (old new : Tables) : Type 0 where

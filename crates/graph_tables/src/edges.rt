@@ -51,10 +51,10 @@ impl<'t> Tables<'t> {
         head.with_edge_ends(ends)
     }
 
-    // An edge's row and its place in Eseq, without its words in the lists.
+    /// An edge's row and its place in Eseq, without its words in the lists.
     #[tactic(auto, unfolding(crate::specs::Tables::state_place_edge))]
     #[inline(always)]
-    fn place_edge(&mut self, head: Head, edge: EdgeRecord, p: u32) -> Head
+    pub fn place_edge(&mut self, head: Head, edge: EdgeRecord, p: u32) -> Head
         requires { CanPlaceEdge edge.number p (state_of head self.old) }
         ensures placed { state_of result self.new ≡ state_place_edge edge.number edge.alpha edge.omega edge.sort
             edge.reading p (state_of head self.old) }

@@ -24,6 +24,27 @@ pub struct Tables<'t> {
     pub edges: &'t mut [u32],
 }
 
+/// The two tables, lent to read alone: whoever has two shared slices makes one of them, and `Tables::view` gives one.
+#[derive(Clone, Copy, Debug, PartialEq, Eq)]
+pub struct TablesView<'t> {
+    pub vertices: &'t [u32],
+    pub edges: &'t [u32],
+}
+
+impl<'t> Tables<'t> {
+    /// The tables, to read alone.
+    #[inline(always)]
+    pub fn view(&self) -> TablesView<'_>
+        ensures vertices { result.vertices.now ≡ self.now.vertices.now }
+        ensures edges { result.edges.now ≡ self.now.edges.now }
+    {
+        TablesView {
+            vertices: self.vertices,
+            edges: self.edges,
+        }
+    }
+}
+
 /// Ends of the two orders, and how many vertices and edges there are. Its six words stand by themselves: with an `Ends`
 /// of each order in it, changes and undos take 6 to 17 instructions in 100 more, since a pair of words is moved as one
 /// and split again (tried, misses the bar of speed).

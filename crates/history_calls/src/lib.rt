@@ -101,8 +101,8 @@ impl Store {
     /// The same store, built word by word, so that the compiler keeps the words in registers (tried as a copy, and slower:
     /// DECISIONS 71; see graph_tables::same).
     #[inline(always)]
-    pub fn same(self) -> Store
-        ensures { result ≡ self }
+    pub fn same(&self) -> Store
+        ensures { result ≡ self.now }
     {
         Store {
             current: Current {
@@ -123,8 +123,8 @@ impl Store {
     /// After a call that changes nothing and has this answer, as the two words that a question's answer is (C's words:
     /// DECISIONS 71).
     #[inline(always)]
-    pub fn stay(self, code: u32, number: u32) -> Called
-        ensures { result ≡ done self code number }
+    pub fn stay(&self, code: u32, number: u32) -> Called
+        ensures { result ≡ done self.now code number }
     {
         Called {
             store: self.same(),
@@ -134,8 +134,8 @@ impl Store {
 
     /// After a call of which this came.
     #[inline(always)]
-    pub fn answer(self, came: Result<u32, Refusal>) -> Called
-        ensures { result ≡ called self came }
+    pub fn answer(&self, came: Result<u32, Refusal>) -> Called
+        ensures { result ≡ called self.now came }
     {
         Called {
             store: self.same(),

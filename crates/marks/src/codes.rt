@@ -8,6 +8,21 @@ ghost use Rattle.marks.specs.Codes.{standing_code, new_code, both_code, name_cod
 use crate::{MarkSet, Name, is_mark};
 use commands::refusal::Refusal;
 
+/// The code of two marks that must stand, from the code of each: 11 of either, then 13 of the first, else that of the
+/// second. Of numbers, which may not change (TRACE 7.11 and 7.13 name it); `check_both` says it of two marks of a set.
+#[inline(always)]
+pub fn both_code(c: u32, d: u32) -> u32
+    ensures { result ≡ both_code c d }
+{
+    if c == 11 || d == 11 {
+        11
+    } else if c == 13 {
+        13
+    } else {
+        d
+    }
+}
+
 impl MarkSet {
     /// Mark a must stand.
     ///

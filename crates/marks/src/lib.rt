@@ -141,7 +141,7 @@ impl MarkSet {
         requires { length words.now ≡ mark_words }
         ensures { result ≡ mark_found (holder_in self.bits words.now but (name_of name)) }
     {
-        (1..MOST_MARKS + 1).find(|&a| a != but && self.bears(words, name, a))
+        (1..MOST_MARKS + 1).find(|&a| self.bears(words, name, a) && a != but)
     }
 
     /// Mark a is set (kind 17) at place p, with no name. Where a is no mark, nothing changes.

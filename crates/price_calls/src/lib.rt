@@ -7,7 +7,7 @@ mod grades; // grades.rt: the printed limits, and the grade of a range
 ghost use Rattle.std.specs.Prelude.{◌≡◌, ◌/◌};
 ghost use Rattle.graph.specs.Graph.{Graph};
 ghost use Rattle.graph_tables.specs.declared.Head.{Head};
-ghost use Rattle.graph_tables.specs.Tables.{EdgeRowIn, state_of};
+ghost use Rattle.graph_tables.specs.Tables.{EdgeRowIn, view_state};
 ghost use Rattle.graph.specs.WellFormed.{Bounds};
 ghost use Rattle.graph_tables.specs.Capacities.{Sized};
 ghost use Rattle.graph_tables.specs.Holds.{Holds};
@@ -25,7 +25,9 @@ use commands::{Answer, PriceCall};
 use grades::PriceList;
 use graph::Reading;
 use graph_tables::fields::HALF_THIS;
-use graph_tables::{Lookup, Tables};
+use graph_tables::lookups::find_vertex;
+use graph_tables::rows::{half_field, reading_at};
+use graph_tables::{Lookup, TablesView};
 use walks::cursor::Cursor;
 
 // A way after one reading more: the last that is not untested decides.
@@ -42,19 +44,19 @@ fn with_reading(way: Reading, reading: Reading) -> Reading
 // The reading of the edge of word w where it goes out to b, else untested.
 #[inline(always)]
 #[tactic(auto, unfolding(lists::specs::Choice::if_equal))]
-fn reading_to(tables: &Tables<'_>, b: u32, w: u32) -> Reading
+fn reading_to(tables: &TablesView<'_>, b: u32, w: u32) -> Reading
     requires { EdgeRowIn tables.now.edges.now (w / 2) }
     ensures { result ≡ reading_to tables.now.edges.now b w }
 {
-    if w % 2 == 0 && tables.half_field(w + 1, HALF_THIS) == b {
-        tables.reading_at(w / 2)
+    if w % 2 == 0 && half_field(tables.edges, w + 1, HALF_THIS) == b {
+        reading_at(tables.edges, w / 2)
     } else {
         Reading::Untested
     }
 }
 
 // One way from a to b: a walk along the list of a by a cursor, and so a `while` (see walks::cursor).
-fn one_way(tables: &Tables<'_>, a: u32, b: u32) -> Reading
+fn one_way(tables: &TablesView<'_>, a: u32, b: u32) -> Reading
     requires { CanWalk tables.now.vertices.now tables.now.edges.now a }
     ensures { result ≡ way_at tables.now.vertices.now tables.now.edges.now a b }
 {
@@ -80,7 +82,7 @@ fn both_ways(there: Reading, back: Reading) -> Result<u32, Refusal>
 
 // The two-way range of two vertices that are there.
 #[inline(always)]
-fn price_of(tables: &Tables<'_>, a: u32, b: u32) -> Result<u32, Refusal>
+fn price_of(tables: &TablesView<'_>, a: u32, b: u32) -> Result<u32, Refusal>
     requires there { CanWalk tables.now.vertices.now tables.now.edges.now a }
     requires back { CanWalk tables.now.vertices.now tables.now.edges.now b }
     ensures { answer_by result ≡ price_at tables.now.vertices.now tables.now.edges.now a b }
@@ -90,16 +92,16 @@ fn price_of(tables: &Tables<'_>, a: u32, b: u32) -> Result<u32, Refusal>
 
 // Kind 53: the two-way range of a and b.
 #[inline(always)]
-fn range(tables: &Tables<'_>, a: u32, b: u32) -> Result<u32, Refusal>
-    requires { (z : Bounds) × (head : Head) × (g : Graph) × Sized z (state_of head tables.now)
-        × Holds (state_of head tables.now) g }
-    ensures { (head : Head) → (g : Graph) → Holds (state_of head tables.now) g
+fn range(tables: &TablesView<'_>, a: u32, b: u32) -> Result<u32, Refusal>
+    requires { (z : Bounds) × (head : Head) × (g : Graph) × Sized z (view_state head tables.now)
+        × Holds (view_state head tables.now) g }
+    ensures { (head : Head) → (g : Graph) → Holds (view_state head tables.now) g
         → answer_by result ≡ answer_of (price_code g (price.Range a b)) (price_number g (price.Range a b)) }
 {
-    let Lookup::Found(_) = tables.find_vertex(a) else {
+    let Lookup::Found(_) = find_vertex(tables.vertices, a) else {
         return Err(Refusal::NoVertex);
     };
-    let Lookup::Found(_) = tables.find_vertex(b) else {
+    let Lookup::Found(_) = find_vertex(tables.vertices, b) else {
         return Err(Refusal::NoVertex);
     };
     price_of(tables, a, b)
@@ -107,10 +109,10 @@ fn range(tables: &Tables<'_>, a: u32, b: u32) -> Result<u32, Refusal>
 
 // Kind 54: the grade of a and b by price list c. That there is no such list comes behind what the range is refused by.
 #[inline(always)]
-fn grade(tables: &Tables<'_>, a: u32, b: u32, c: u32) -> Result<u32, Refusal>
-    requires { (z : Bounds) × (head : Head) × (g : Graph) × Sized z (state_of head tables.now)
-        × Holds (state_of head tables.now) g }
-    ensures { (head : Head) → (g : Graph) → Holds (state_of head tables.now) g
+fn grade(tables: &TablesView<'_>, a: u32, b: u32, c: u32) -> Result<u32, Refusal>
+    requires { (z : Bounds) × (head : Head) × (g : Graph) × Sized z (view_state head tables.now)
+        × Holds (view_state head tables.now) g }
+    ensures { (head : Head) → (g : Graph) → Holds (view_state head tables.now) g
         → answer_by result ≡ answer_of (price_code g (price.Grade a b c)) (price_number g (price.Grade a b c)) }
 {
     let decimetres = range(tables, a, b)?;
@@ -120,10 +122,10 @@ fn grade(tables: &Tables<'_>, a: u32, b: u32, c: u32) -> Result<u32, Refusal>
 
 // The number that a call of the price list asks for.
 #[inline(always)]
-fn number_of(tables: &Tables<'_>, call: PriceCall) -> Result<u32, Refusal>
-    requires { (z : Bounds) × (head : Head) × (g : Graph) × Sized z (state_of head tables.now)
-        × Holds (state_of head tables.now) g }
-    ensures { (head : Head) → (g : Graph) → Holds (state_of head tables.now) g
+fn number_of(tables: &TablesView<'_>, call: PriceCall) -> Result<u32, Refusal>
+    requires { (z : Bounds) × (head : Head) × (g : Graph) × Sized z (view_state head tables.now)
+        × Holds (view_state head tables.now) g }
+    ensures { (head : Head) → (g : Graph) → Holds (view_state head tables.now) g
         → answer_by result ≡ answer_of (price_code g call) (price_number g call) }
 {
     match call {
@@ -133,10 +135,10 @@ fn number_of(tables: &Tables<'_>, call: PriceCall) -> Result<u32, Refusal>
 }
 
 /// The answer to any call of the price list.
-pub fn quote(tables: &Tables<'_>, call: PriceCall) -> Answer
-    requires { (z : Bounds) × (head : Head) × (g : Graph) × Sized z (state_of head tables.now)
-        × Holds (state_of head tables.now) g }
-    ensures { (head : Head) → (g : Graph) → Holds (state_of head tables.now) g
+pub fn quote(tables: &TablesView<'_>, call: PriceCall) -> Answer
+    requires { (z : Bounds) × (head : Head) × (g : Graph) × Sized z (view_state head tables.now)
+        × Holds (view_state head tables.now) g }
+    ensures { (head : Head) → (g : Graph) → Holds (view_state head tables.now) g
         → result ≡ answer_of (price_code g call) (price_number g call) }
 {
     Answer::from(number_of(tables, call))

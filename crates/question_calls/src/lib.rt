@@ -8,7 +8,7 @@ ghost use Rattle.type_rows.specs.Rows.{good_rows};
 ghost use Rattle.type_rows.specs.Closure.{closure_words};
 ghost use Rattle.graph.specs.WellFormed.{Bounds};
 ghost use Rattle.graph_tables.specs.Capacities.{Sized};
-ghost use Rattle.graph_tables.specs.Tables.{state_of, lookup_vertex, lookup_edge};
+ghost use Rattle.graph_tables.specs.Tables.{view_state, lookup_vertex, lookup_edge};
 ghost use Rattle.graph_tables.specs.Holds.{Holds};
 ghost use Rattle.commands.specs.declared.Question.TheVariants as ask;
 ghost use Rattle.commands.specs.declared.refusal.Refusal.TheVariants as refusal;
@@ -24,7 +24,9 @@ use graph_tables::fields::{
     EDGE_ALPHA, EDGE_DECIMETRES, EDGE_KIND, EDGE_NEXT, EDGE_OMEGA, EDGE_TYPE, HALF_NEXT, HALF_THIS,
     VERTEX_FIRST, VERTEX_NEXT, VERTEX_TYPE, VERTEX_VALUE,
 };
-use graph_tables::{Head, Lookup, Tables};
+use graph_tables::lookups::{find_edge, find_vertex, find_word};
+use graph_tables::rows::half_field;
+use graph_tables::{Head, Lookup, TablesView};
 use type_rows::is_below;
 use walks::Side;
 use walks::counting::degree;
@@ -35,10 +37,10 @@ use walks::orders::{edge_before, vertex_before, word_before};
 
 // Where the row of vertex a starts.
 #[inline(always)]
-fn vertex_row(tables: &Tables<'_>, a: u32) -> Result<usize, Refusal>
+fn vertex_row(tables: &TablesView<'_>, a: u32) -> Result<usize, Refusal>
     ensures { result ≡ row_or refusal.NoVertex (lookup_vertex tables.now.vertices.now a) }
 {
-    let Lookup::Found(at) = tables.find_vertex(a) else {
+    let Lookup::Found(at) = find_vertex(tables.vertices, a) else {
         return Err(Refusal::NoVertex);
     };
     Ok(at)
@@ -46,10 +48,21 @@ fn vertex_row(tables: &Tables<'_>, a: u32) -> Result<usize, Refusal>
 
 // Where the row of edge a starts.
 #[inline(always)]
-fn edge_row(tables: &Tables<'_>, a: u32) -> Result<usize, Refusal>
+fn edge_row(tables: &TablesView<'_>, a: u32) -> Result<usize, Refusal>
     ensures { result ≡ row_or refusal.NoEdge (lookup_edge tables.now.edges.now a) }
 {
-    let Lookup::Found(at) = tables.find_edge(a) else {
+    let Lookup::Found(at) = find_edge(tables.edges, a) else {
+        return Err(Refusal::NoEdge);
+    };
+    Ok(at)
+}
+
+// Where the row of the edge of word w starts.
+#[inline(always)]
+fn word_row(tables: &TablesView<'_>, w: u32) -> Result<usize, Refusal>
+    ensures { result ≡ row_or refusal.NoEdge (lookup_edge tables.now.edges.now (w / 2)) }
+{
+    let Lookup::Found(at) = find_word(tables.edges, w) else {
         return Err(Refusal::NoEdge);
     };
     Ok(at)
@@ -57,7 +70,7 @@ fn edge_row(tables: &Tables<'_>, a: u32) -> Result<usize, Refusal>
 
 // A word of the row of vertex a.
 #[inline(always)]
-fn vertex_word(tables: &Tables<'_>, a: u32, field: usize) -> Result<u32, Refusal>
+fn vertex_word(tables: &TablesView<'_>, a: u32, field: usize) -> Result<u32, Refusal>
     requires { field < 8 }
     ensures { answer_by result ≡ vertex_word tables.now.vertices.now a field }
 {
@@ -67,7 +80,7 @@ fn vertex_word(tables: &Tables<'_>, a: u32, field: usize) -> Result<u32, Refusal
 
 // A word of the row of edge a.
 #[inline(always)]
-fn edge_word(tables: &Tables<'_>, a: u32, field: usize) -> Result<u32, Refusal>
+fn edge_word(tables: &TablesView<'_>, a: u32, field: usize) -> Result<u32, Refusal>
     requires { field < 12 }
     ensures { answer_by result ≡ edge_word tables.now.edges.now a field }
 {
@@ -77,7 +90,7 @@ fn edge_word(tables: &Tables<'_>, a: u32, field: usize) -> Result<u32, Refusal>
 
 // A word of the half of oriented word w.
 #[inline(always)]
-fn half_word(tables: &Tables<'_>, w: u32, field: usize) -> Result<u32, Refusal>
+fn half_word(tables: &TablesView<'_>, w: u32, field: usize) -> Result<u32, Refusal>
     requires { field < 6 }
     ensures { answer_by result ≡ half_word tables.now.edges.now w field }
 {
@@ -86,7 +99,7 @@ fn half_word(tables: &Tables<'_>, w: u32, field: usize) -> Result<u32, Refusal>
 
 // The vertex that the other half is seen from.
 #[inline(always)]
-fn that_word(tables: &Tables<'_>, w: u32) -> Result<u32, Refusal>
+fn that_word(tables: &TablesView<'_>, w: u32) -> Result<u32, Refusal>
     ensures { answer_by result ≡ that_word tables.now.edges.now w }
 {
     edge_word(tables, w / 2, EDGE_OMEGA - 6 * (w % 2) as usize)
@@ -94,38 +107,38 @@ fn that_word(tables: &Tables<'_>, w: u32) -> Result<u32, Refusal>
 
 // Kind 46.
 #[inline(always)]
-fn order_of_vertices(head: Head, tables: &Tables<'_>, a: u32, b: u32) -> Result<u32, Refusal>
-    requires { (g : Graph) × Holds (state_of head tables.now) g }
-    ensures { (g : Graph) → (n : ℕ) → (rows : List ℕ) → Holds (state_of head tables.now) g
+fn order_of_vertices(head: Head, tables: &TablesView<'_>, a: u32, b: u32) -> Result<u32, Refusal>
+    requires { (g : Graph) × Holds (view_state head tables.now) g }
+    ensures { (g : Graph) → (n : ℕ) → (rows : List ℕ) → Holds (view_state head tables.now) g
         → answer_by result ≡ answer_of (question_code n g (ask.VertexOrder a b)) (question_number rows g (ask.VertexOrder a b)) }
 {
     vertex_row(tables, a)?;
     vertex_row(tables, b)?;
-    Ok(u32::from(vertex_before(tables, head, a, b)))
+    Ok(u32::from(vertex_before(tables.vertices, head, a, b)))
 }
 
 // Kind 47.
 #[inline(always)]
-fn order_of_edges(head: Head, tables: &Tables<'_>, a: u32, b: u32) -> Result<u32, Refusal>
-    requires { (g : Graph) × Holds (state_of head tables.now) g }
-    ensures { (g : Graph) → (n : ℕ) → (rows : List ℕ) → Holds (state_of head tables.now) g
+fn order_of_edges(head: Head, tables: &TablesView<'_>, a: u32, b: u32) -> Result<u32, Refusal>
+    requires { (g : Graph) × Holds (view_state head tables.now) g }
+    ensures { (g : Graph) → (n : ℕ) → (rows : List ℕ) → Holds (view_state head tables.now) g
         → answer_by result ≡ answer_of (question_code n g (ask.EdgeOrder a b)) (question_number rows g (ask.EdgeOrder a b)) }
 {
     edge_row(tables, a)?;
     edge_row(tables, b)?;
-    Ok(u32::from(edge_before(tables, head, a, b)))
+    Ok(u32::from(edge_before(tables.edges, head, a, b)))
 }
 
 // Kind 48.
 #[inline(always)]
-fn order_of_words(tables: &Tables<'_>, a: u32, b: u32) -> Result<u32, Refusal>
-    requires { (head : Head) × (g : Graph) × Holds (state_of head tables.now) g }
-    ensures { (g : Graph) → (n : ℕ) → (rows : List ℕ) → (head : Head) → Holds (state_of head tables.now) g
+fn order_of_words(tables: &TablesView<'_>, a: u32, b: u32) -> Result<u32, Refusal>
+    requires { (head : Head) × (g : Graph) × Holds (view_state head tables.now) g }
+    ensures { (g : Graph) → (n : ℕ) → (rows : List ℕ) → (head : Head) → Holds (view_state head tables.now) g
         → answer_by result ≡ answer_of (question_code n g (ask.WordOrder a b)) (question_number rows g (ask.WordOrder a b)) }
 {
-    edge_row(tables, a / 2)?;
-    edge_row(tables, b / 2)?;
-    if tables.half_field(a, HALF_THIS) != tables.half_field(b, HALF_THIS) {
+    word_row(tables, a)?;
+    word_row(tables, b)?;
+    if half_field(tables.edges, a, HALF_THIS) != half_field(tables.edges, b, HALF_THIS) {
         return Err(Refusal::OtherList);
     }
     Ok(u32::from(word_before(tables, a, b)))
@@ -134,17 +147,17 @@ fn order_of_words(tables: &Tables<'_>, a: u32, b: u32) -> Result<u32, Refusal>
 // Kind 45.
 #[inline(always)]
 fn degree_of(
-    tables: &Tables<'_>,
+    tables: &TablesView<'_>,
     closed: &[u64; 64],
     types: u32,
     a: u32,
     t: u32,
     c: u32,
 ) -> Result<u32, Refusal>
-    requires { (b : Bounds) × (head : Head) × (g : Graph) × Sized b (state_of head tables.now)
-        × Holds (state_of head tables.now) g }
+    requires { (b : Bounds) × (head : Head) × (g : Graph) × Sized b (view_state head tables.now)
+        × Holds (view_state head tables.now) g }
     ensures { (g : Graph) → (rows : List ℕ) → (b : Bounds) → (head : Head)
-        → Sized b (state_of head tables.now) → Holds (state_of head tables.now) g → good_rows rows ≡ true
+        → Sized b (view_state head tables.now) → Holds (view_state head tables.now) g → good_rows rows ≡ true
         → closed.now ≡ closure_words rows
         → answer_by result ≡ answer_of (question_code types g (ask.Degree a t c)) (question_number rows g (ask.Degree a t c)) }
 {
@@ -174,15 +187,15 @@ fn below_of(closed: &[u64; 64], types: u32, s: u32, t: u32) -> Result<u32, Refus
 #[inline(always)]
 fn number_of(
     head: Head,
-    tables: &Tables<'_>,
+    tables: &TablesView<'_>,
     closed: &[u64; 64],
     types: u32,
     question: Question,
 ) -> Result<u32, Refusal>
-    requires sized { (b : Bounds) × (g : Graph) × Sized b (state_of head tables.now)
-        × Holds (state_of head tables.now) g }
-    ensures { (g : Graph) → (rows : List ℕ) → (b : Bounds) → Sized b (state_of head tables.now)
-        → Holds (state_of head tables.now) g → good_rows rows ≡ true → closed.now ≡ closure_words rows
+    requires sized { (b : Bounds) × (g : Graph) × Sized b (view_state head tables.now)
+        × Holds (view_state head tables.now) g }
+    ensures { (g : Graph) → (rows : List ℕ) → (b : Bounds) → Sized b (view_state head tables.now)
+        → Holds (view_state head tables.now) g → good_rows rows ≡ true → closed.now ≡ closure_words rows
         → answer_by result ≡ answer_of (question_code types g question) (question_number rows g question) }
 {
     match question {
@@ -212,16 +225,16 @@ fn number_of(
 /// The answer to a question; `types` is their number, `closed` the closure of some rows.
 pub fn reply(
     head: Head,
-    tables: &Tables<'_>,
+    tables: &TablesView<'_>,
     closed: &[u64; 64],
     types: u32,
     question: Question,
 ) -> Answer
-    requires sized { (b : Bounds) × (g : Graph) × Sized b (state_of head tables.now)
-        × Holds (state_of head tables.now) g }
+    requires sized { (b : Bounds) × (g : Graph) × Sized b (view_state head tables.now)
+        × Holds (view_state head tables.now) g }
     requires by_index { (rows : List ℕ) × (good_rows rows ≡ true) × (closed.now ≡ closure_words rows) }
-    ensures { (g : Graph) → (rows : List ℕ) → (b : Bounds) → Sized b (state_of head tables.now)
-        → Holds (state_of head tables.now) g → good_rows rows ≡ true → closed.now ≡ closure_words rows
+    ensures { (g : Graph) → (rows : List ℕ) → (b : Bounds) → Sized b (view_state head tables.now)
+        → Holds (view_state head tables.now) g → good_rows rows ≡ true → closed.now ≡ closure_words rows
         → result ≡ answer_of (question_code types g question) (question_number rows g question) }
 {
     Answer::from(number_of(head, tables, closed, types, question))

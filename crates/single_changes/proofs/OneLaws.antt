@@ -1,5 +1,5 @@
 -- A change that is refused, one that is tried, and what it takes to make it.
-use Rattle.std.specs.Prelude.{◌==◌, ⊤, Result, Ok, Err}
+use Rattle.std.specs.Prelude.{◌==◌, ⊤, Result, Ok, Err, List}
 use Prim.Native.Nat.{ℕ, ◌+◌, ◌*◌, ◌≤◌}
 use mathlib.Core.Path.{◌≡◌, refl, sym, ap, subst, ◌∙◌}
 use mathlib.Core.Logic.{◌≢◌}
@@ -21,7 +21,8 @@ use Rattle.graph.specs.Plans.{plan}
 use Rattle.graph.specs.Same.{idle}
 use Rattle.graph.proofs.Readings.{reading_words as length_calls}
 use Rattle.graph.proofs.PlanLaws.{plan_applies}
-use Rattle.graph_tables.specs.Tables.{State, vprev, eprev, wprev, wthis, vlast}
+use Rattle.graph_tables.specs.declared.Head.{Head}
+use Rattle.graph_tables.specs.Tables.{State, state, vprev, eprev, wprev, wthis, vlast}
 use Rattle.graph_tables.specs.Edits.{Can, Room}
 use Rattle.graph_tables.specs.Holds.{Holds}
 use Rattle.graph_tables.specs.Capacities.{Sized, bounds_of}
@@ -145,6 +146,14 @@ pub record Accepted (x : SingleChange) (types : ℕ) (a : Attempt) : Type 0 wher
   pub rows : CanPlan x a.state
   pub can : Can (state_plan x a.state) a.state
   pub words : ReadingWords x a.state
+
+-- a code read off a view of the tables is that of the tables
+pub seen : (x : SingleChange) (types : ℕ) (h : Head) {k : ℕ} {vertices edges vs es : List ℕ} → vs ≡ vertices → es ≡ edges
+    → ((g : Graph) → HoldsVE vs es g → k ≡ code_on x types (state h vs es) g)
+    → (g : Graph) → HoldsVE vertices edges g → k ≡ code_on x types (state h vertices edges) g
+seen x types h {k = k} {edges = edges} {vs = vs} p q e =
+    subst (λ (l : List ℕ). (g : Graph) → HoldsVE l edges g → k ≡ code_on x types (state h l edges) g) p
+    (subst (λ (l : List ℕ). (g : Graph) → HoldsVE vs l g → k ≡ code_on x types (state h vs l) g) q e)
 
 positive : (r : Refusal) → refusal_code r ≢ 0
 positive r e = grind (arith, e)

@@ -62,7 +62,7 @@ pub fn create_vertex(
     ensures same_loan { SameLoan tables.old tables.new }
     ensures same_room { SameRoom room.old room.new }
 {
-    change_codes::create_vertex(tables, types, n, sort)?;
+    change_codes::create_vertex(tables.view().vertices, types, n, sort)?;
     tried_edits::insert_vertex(
         tables,
         head,
@@ -91,7 +91,7 @@ pub fn create_edge(
     ensures same_loan { SameLoan tables.old tables.new }
     ensures same_room { SameRoom room.old room.new }
 {
-    change_codes::create_edge(tables, types, n, a, z, sort)?;
+    change_codes::create_edge(&tables.view(), types, n, a, z, sort)?;
     let out = tables.vertex_field(a, VERTEX_LAST);
     let last = tables.vertex_field(z, VERTEX_LAST);
     let into = if a == z { 2 * n } else { last };
@@ -117,8 +117,8 @@ pub fn delete_edge(
     ensures same_loan { SameLoan tables.old tables.new }
     ensures same_room { SameRoom room.old room.new }
 {
-    change_codes::check_edge(tables, n)?;
-    tried_edits::remove_edge(tables, head, room, n, removed_edge(tables, n))
+    change_codes::check_edge(tables.view().edges, n)?;
+    tried_edits::remove_edge(tables, head, room, n, removed_edge(tables.view().edges, n))
 }
 
 /// Kind 5: another type of a vertex.
@@ -137,7 +137,7 @@ pub fn retype_vertex(
     ensures same_loan { SameLoan tables.old tables.new }
     ensures same_room { SameRoom room.old room.new }
 {
-    change_codes::retype_vertex(tables, types, n, sort)?;
+    change_codes::retype_vertex(tables.view().vertices, types, n, sort)?;
     let old = vertex_words(tables, n);
     tried_edits::set_vertex(tables, head, room, n, old, VertexWords { sort, ..old })
 }
@@ -158,7 +158,7 @@ pub fn retype_edge(
     ensures same_loan { SameLoan tables.old tables.new }
     ensures same_room { SameRoom room.old room.new }
 {
-    change_codes::retype_edge(tables, types, n, sort)?;
+    change_codes::retype_edge(tables.view().edges, types, n, sort)?;
     let old = edge_words(tables, n);
     tried_edits::set_edge(tables, head, room, n, old, EdgeWords { sort, ..old })
 }
@@ -178,7 +178,7 @@ pub fn set_value(
     ensures same_loan { SameLoan tables.old tables.new }
     ensures same_room { SameRoom room.old room.new }
 {
-    change_codes::check_vertex(tables, n)?;
+    change_codes::check_vertex(tables.view().vertices, n)?;
     let old = vertex_words(tables, n);
     tried_edits::set_vertex(tables, head, room, n, old, VertexWords { value, ..old })
 }
@@ -199,7 +199,7 @@ pub fn set_reading(
     ensures same_loan { SameLoan tables.old tables.new }
     ensures same_room { SameRoom room.old room.new }
 {
-    change_codes::set_reading(tables, n, kind, decimetres)?;
+    change_codes::set_reading(tables.view().edges, n, kind, decimetres)?;
     let old = edge_words(tables, n);
     let new = EdgeWords {
         kind,

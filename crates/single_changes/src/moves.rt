@@ -62,7 +62,7 @@ pub fn set_end<const IN: bool>(
     ensures same_loan { SameLoan tables.old tables.new }
     ensures same_room { SameRoom room.old room.new }
 {
-    change_codes::set_end(tables, e, u)?;
+    change_codes::set_end(&tables.view(), e, u)?;
     let w = 2 * e + u32::from(IN);
     let old = word_place(tables, w);
     let new = WordPlace {
@@ -87,7 +87,7 @@ pub fn order_vertex<const AFTER: bool>(
     ensures same_loan { SameLoan tables.old tables.new }
     ensures same_room { SameRoom room.old room.new }
 {
-    change_codes::order_vertices(tables, a, b)?;
+    change_codes::order_vertices(tables.view().vertices, a, b)?;
     let old = tables.vertex_field(a, VERTEX_PREV);
     let new = place::<AFTER>(a, old, b, tables.vertex_field(b, VERTEX_PREV));
     tried_edits::move_vertex(tables, head, room, a, old, new)
@@ -108,7 +108,7 @@ pub fn order_edge<const AFTER: bool>(
     ensures same_loan { SameLoan tables.old tables.new }
     ensures same_room { SameRoom room.old room.new }
 {
-    change_codes::order_edges(tables, a, b)?;
+    change_codes::order_edges(tables.view().edges, a, b)?;
     let old = tables.edge_field(a, EDGE_PREV);
     let new = place::<AFTER>(a, old, b, tables.edge_field(b, EDGE_PREV));
     tried_edits::move_edge(tables, head, room, a, old, new)
@@ -129,7 +129,7 @@ pub fn order_word<const AFTER: bool>(
     ensures same_loan { SameLoan tables.old tables.new }
     ensures same_room { SameRoom room.old room.new }
 {
-    change_codes::order_words(tables, a, b)?;
+    change_codes::order_words(tables.view().edges, a, b)?;
     let old = word_place(tables, a);
     let new = WordPlace {
         after: place::<AFTER>(a, old.after, b, tables.half_field(b, HALF_PREV)),

@@ -3,8 +3,8 @@ ghost use Rattle.std.specs.Prelude.{◌≡◌, ◌^◌, ◌<◌, ◌∷◌, []};
 ghost use Rattle.graph_tables.specs.Tables.{EdgeRowIn};
 ghost use Rattle.tried_edits.specs.Plans.{removed_edge};
 
-use graph_tables::Tables;
 use graph_tables::fields::{EDGE_PREV, HALF_PREV, HALF_THIS};
+use graph_tables::rows::{edge_field, edge_fields, half_field};
 use journal::kinds;
 
 /// Ends, type, reading, and after which edge and which words it stands, the out word once the in word is gone.
@@ -46,21 +46,21 @@ impl RemovedEdge {
 /// ends from the start of the row, questions took 1 in 100 more instructions (DECISIONS 179).
 #[inline(always)]
 #[tactic(auto, unfolding(lists::specs::Choice::if_equal))]
-pub fn removed_edge(tables: &Tables<'_>, n: u32) -> RemovedEdge
-    requires { (n < 2 ^ 31) × EdgeRowIn tables.now.edges.now n }
-    ensures { result ≡ removed_edge tables.now.edges.now n }
+pub fn removed_edge(edges: &[u32], n: u32) -> RemovedEdge
+    requires { (n < 2 ^ 31) × EdgeRowIn edges.now n }
+    ensures { result ≡ removed_edge edges.now n }
 {
-    let fields = tables.edge_fields(n);
-    let before = tables.half_field(2 * n, HALF_PREV);
-    let into = tables.half_field(2 * n + 1, HALF_PREV);
+    let fields = edge_fields(edges, n);
+    let before = half_field(edges, 2 * n, HALF_PREV);
+    let into = half_field(edges, 2 * n + 1, HALF_PREV);
     let out = if before == 2 * n + 1 { into } else { before };
     RemovedEdge {
-        alpha: tables.half_field(2 * n, HALF_THIS),
-        omega: tables.half_field(2 * n + 1, HALF_THIS),
+        alpha: half_field(edges, 2 * n, HALF_THIS),
+        omega: half_field(edges, 2 * n + 1, HALF_THIS),
         sort: fields.sort,
         kind: fields.kind,
         decimetres: fields.decimetres,
-        order: tables.edge_field(n, EDGE_PREV),
+        order: edge_field(edges, n, EDGE_PREV),
         out,
         into,
     }

@@ -5,7 +5,7 @@ ghost use Rattle.std.specs.Prelude.{true, ◌≡◌, List, ℕ, ◌+◌, ◌/◌
 ghost use Rattle.std.specs.Int.Bits.{bit_or};
 ghost use Rattle.lists.specs.Choice.{◌⇒◌else◌};
 ghost use Rattle.type_rows.specs.Types.{below, below_by};
-ghost use Rattle.type_rows.specs.Rows.{good_rows, row_fits};
+ghost use Rattle.type_rows.specs.Rows.{good_rows, row_fits, rows_code};
 ghost use Rattle.type_rows.specs.Closure.{closure_rows, closure_words, closure_of, bit_of};
 
 /// Whether a row has no bit n or above. A shift by 64 is no shift of a word.
@@ -26,7 +26,8 @@ fn all_fit(rows: &[u64], n: usize) -> bool
 
 /// Whether the lent type rows are taken: 1 to 64 of them, and of n rows none has a bit at n or higher.
 pub fn are_good(rows: &[u64]) -> bool
-    ensures { result ≡ good_rows rows.now }
+    ensures value { result ≡ good_rows rows.now }
+    ensures coded { (result ⇒ 0 else 104) ≡ rows_code rows.now }
 {
     let n = rows.len();
     1 <= n && n <= 64 && all_fit(rows, n)

@@ -35,7 +35,7 @@ fn cost_of(tables: &Tables<'_>, a: u32) -> u32
     ensures { (head : Head) → (b : Bounds) → (g : Graph) → Holds (state_of head tables.now) g
         → Allowed b g (Change.DeleteVertex a) → result ≡ cost (Change.DeleteVertex a) g }
 {
-    walks::counting::count_edges(tables, a) + 1
+    walks::counting::count_edges(&tables.view(), a) + 1
 }
 
 // Takes edge n out, as one row of a step of this cost.
@@ -56,7 +56,7 @@ fn remove_edge(
         journal.old (state_of result tables.new) journal.new }
     ensures same_loan { SameLoan tables.old tables.new }
 {
-    let removed = removed_edge(tables, n);
+    let removed = removed_edge(tables.view().edges, n);
     put_row(journal, row, cost, removed.row_words(n));
     tables.remove_edge(head, n, removed.alpha, removed.omega)
 }

@@ -3,9 +3,9 @@
 ghost use Rattle.std.specs.Prelude.{◌≡◌};
 ghost use Rattle.graph_tables.specs.Tables.{HalfRowIn, VertexRowIn, vfirst, wnext};
 
-use graph_tables::Tables;
+use graph_tables::TablesView;
 use graph_tables::fields::VERTEX_FIRST;
-use graph_tables::rows::word_next;
+use graph_tables::rows::{vertex_field, word_next};
 
 /// The edge table, and the present oriented word; 0 after the last.
 #[derive(Clone, Copy, Debug, PartialEq, Eq)]
@@ -17,14 +17,14 @@ pub struct Cursor<'a> {
 impl<'a> Cursor<'a> {
     /// At the first word of v's list.
     #[inline(always)]
-    pub fn first(tables: &'a Tables<'_>, v: u32) -> Cursor<'a>
+    pub fn first(tables: &TablesView<'a>, v: u32) -> Cursor<'a>
         requires { VertexRowIn tables.now.vertices.now v }
         ensures edges { result.edges.now ≡ tables.now.edges.now }
         ensures word { result.word ≡ vfirst tables.now.vertices.now v }
     {
         Cursor {
             edges: tables.edges,
-            word: tables.vertex_field(v, VERTEX_FIRST),
+            word: vertex_field(tables.vertices, v, VERTEX_FIRST),
         }
     }
 

@@ -7,26 +7,27 @@ ghost use Rattle.graph_tables.specs.Tables.{VertexRowIn, HalfRowIn, vertex_links
 ghost use Rattle.graph_tables.specs.Tables.{vertex_list_ends, edge_list_ends, vertex_ends, wthis};
 
 use graph_tables::fields::{EDGE_LINKS, HALF_THIS, INCIDENCE_LINKS, VERTEX_LINKS};
-use graph_tables::{Head, Tables};
+use graph_tables::rows::{ends_of, half_field};
+use graph_tables::{Head, TablesView};
 
 /// Is vertex a before b in Vseq: a walk from a.
-pub fn vertex_before(tables: &Tables<'_>, head: Head, a: u32, b: u32) -> bool
-    requires { HeldAt vertex_links tables.now.vertices.now (vertex_list_ends head) a }
-    ensures { result ≡ before a b (nodes vertex_links tables.now.vertices.now (vertex_list_ends head)) }
+pub fn vertex_before(vertices: &[u32], head: Head, a: u32, b: u32) -> bool
+    requires { HeldAt vertex_links vertices.now (vertex_list_ends head) a }
+    ensures { result ≡ before a b (nodes vertex_links vertices.now (vertex_list_ends head)) }
 {
-    VERTEX_LINKS.before(tables.vertices, head.vertex_ends(), a, b)
+    VERTEX_LINKS.before(vertices, head.vertex_ends(), a, b)
 }
 
 /// Is edge a before b in Eseq: a walk from a.
-pub fn edge_before(tables: &Tables<'_>, head: Head, a: u32, b: u32) -> bool
-    requires { HeldAt edge_links tables.now.edges.now (edge_list_ends head) a }
-    ensures { result ≡ before a b (nodes edge_links tables.now.edges.now (edge_list_ends head)) }
+pub fn edge_before(edges: &[u32], head: Head, a: u32, b: u32) -> bool
+    requires { HeldAt edge_links edges.now (edge_list_ends head) a }
+    ensures { result ≡ before a b (nodes edge_links edges.now (edge_list_ends head)) }
 {
-    EDGE_LINKS.before(tables.edges, head.edge_ends(), a, b)
+    EDGE_LINKS.before(edges, head.edge_ends(), a, b)
 }
 
 /// Is word a before b in a's list: a walk from a.
-pub fn word_before(tables: &Tables<'_>, a: u32, b: u32) -> bool
+pub fn word_before(tables: &TablesView<'_>, a: u32, b: u32) -> bool
     requires half { HalfRowIn tables.now.edges.now a }
     requires row { VertexRowIn tables.now.vertices.now (wthis tables.now.edges.now a) }
     requires held { HeldAt incidence_links tables.now.edges.now
@@ -34,6 +35,6 @@ pub fn word_before(tables: &Tables<'_>, a: u32, b: u32) -> bool
     ensures { result ≡ before a b (nodes incidence_links tables.now.edges.now
         (vertex_ends tables.now.vertices.now (wthis tables.now.edges.now a))) }
 {
-    let v = tables.half_field(a, HALF_THIS);
-    INCIDENCE_LINKS.before(tables.edges, tables.ends_of(v), a, b)
+    let v = half_field(tables.edges, a, HALF_THIS);
+    INCIDENCE_LINKS.before(tables.edges, ends_of(tables.vertices, v), a, b)
 }

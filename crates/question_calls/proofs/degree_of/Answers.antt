@@ -6,7 +6,7 @@ use mathlib.Core.Path.{◌≡◌, sym, ap, ◌∙◌}
 use native.Mathlib.Omega.{arith}
 use borrow.Author.Tests.{le-leb, lt-leb, lt-ltb, le-ltb}
 use Rattle.graph.proofs.Numbers.{vertex_once}
-use Rattle.graph_tables.specs.Tables.{state_of}
+use Rattle.graph_tables.specs.Tables.{view_state}
 use Rattle.commands.specs.Answers.{accepts}
 use Rattle.walks.specs.Walks.{side_number, NumberOf}
 use Rattle.walks.specs.declared.Side.{Side}
@@ -51,7 +51,7 @@ returns-then-is_err c =
 pub degree-requires : goal.degree-requires
 degree-requires c =
     let p = c.requires in
-    can_walk p.0 (state_of p.1 c.args.tables.now) p.3 p.2 p.4 _
+    can_walk p.0 (view_state p.1 c.args.tables.now) p.3 p.2 p.4 _
     (vertex_once p.2 _ p.4.sound (vertex_stands _ _ _ c.vertex_row.ensures p.2 (_, (p.1, p.4)) _ c.in_ok-vertex_row.was))
 
 pub returns : goal.returns
@@ -59,4 +59,4 @@ returns c =
     λ g rows b head z h e i.
     let t = vertex_stands _ _ _ c.vertex_row.ensures g (_, (head, h)) _ c.in_ok-vertex_row.was in
     rw (t, lt-leb _ _ c.if-types-t.false, sym (sided c.args.c _ c.try_from.ensures) ∙ sym c.is_err.ensures.value ∙ c.if-is_err.false)
-    (ap accepts (c.degree.ensures.by_index rows e i ∙ degree_is b (state_of head c.args.tables.now) z g h _ (vertex_once g _ h.sound t) _ _))
+    (ap accepts (c.degree.ensures.by_index rows e i ∙ degree_is b (view_state head c.args.tables.now) z g h _ (vertex_once g _ h.sound t) _ _))

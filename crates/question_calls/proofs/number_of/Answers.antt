@@ -1,18 +1,18 @@
 use mathlib.Core.Path.{ap, ◌∙◌}
-use Rattle.graph_tables.specs.Tables.{state_of}
+use Rattle.graph_tables.specs.Tables.{view_state}
 use Rattle.commands.specs.Answers.{accepts}
 use Rattle.graph_tables.proofs.Answers.{first_vertex, first_edge}
 use Rattle.question_calls.proofs.AnswerLaws.{v_type, v_value, v_first, v_next, e_alpha, e_type, e_kind, e_omega, e_decimetres, e_next, w_next, w_this, w_that}
 use Rattle.question_calls.proofs.number_of.Goals as goal
 
 pub returns-in-FirstVertex : goal.returns-in-FirstVertex
-returns-in-FirstVertex c = λ g rows b z h e i. rw c.in-FirstVertex.is (ap accepts (first_vertex (state_of c.args.head c.args.tables.now) g h))
+returns-in-FirstVertex c = λ g rows b z h e i. rw c.in-FirstVertex.is (ap accepts (first_vertex (view_state c.args.head c.args.tables.now) g h))
 
 pub returns-in-NextVertex : goal.returns-in-NextVertex
 returns-in-NextVertex c = λ g rows b z h e i. rw c.in-NextVertex.is (c.vertex_word.ensures ∙ v_next _ g (_, (_, h)) _)
 
 pub returns-in-FirstEdge : goal.returns-in-FirstEdge
-returns-in-FirstEdge c = λ g rows b z h e i. rw c.in-FirstEdge.is (ap accepts (first_edge (state_of c.args.head c.args.tables.now) g h))
+returns-in-FirstEdge c = λ g rows b z h e i. rw c.in-FirstEdge.is (ap accepts (first_edge (view_state c.args.head c.args.tables.now) g h))
 
 pub returns-in-NextEdge : goal.returns-in-NextEdge
 returns-in-NextEdge c = λ g rows b z h e i. rw c.in-NextEdge.is (c.edge_word.ensures ∙ e_next _ g (_, (_, h)) _)

@@ -2,7 +2,7 @@ use Rattle.std.proofs.Common.{rules}
 use mathlib.Core.Path.{ap, ◌∙◌}
 use Rattle.lists.specs.Choice.{to_bit}
 use Rattle.graph.proofs.Numbers.{vertex_once}
-use Rattle.graph_tables.specs.Tables.{state_of}
+use Rattle.graph_tables.specs.Tables.{view_state}
 use Rattle.commands.specs.Answers.{accepts}
 use Rattle.graph_tables.proofs.Answers.{vertex_at, vertex_before}
 use Rattle.question_calls.proofs.Rows.{vertex_stands, vertex_exit}
@@ -23,7 +23,7 @@ returns-in_err-vertex_row-2 c =
 pub vertex_before-requires : goal.vertex_before-requires
 vertex_before-requires c =
     let p = c.requires in
-    vertex_at (state_of c.args.head c.args.tables.now) p.0 p.1 _
+    vertex_at (view_state c.args.head c.args.tables.now) p.0 p.1 _
     (vertex_once p.0 _ p.1.sound (vertex_stands _ _ _ c.vertex_row.ensures p.0 (_, (_, p.1)) _ c.in_ok-vertex_row.was))
 
 pub returns : goal.returns
@@ -34,4 +34,4 @@ returns c =
       vertex_stands _ _ _ c.vertex_row-2.ensures g (_, (_, h)) _ c.in_ok-vertex_row-2.was,
     )
     (ap accepts (search rules
-    ∙ ap to_bit (c.vertex_before.ensures ∙ vertex_before (state_of c.args.head c.args.tables.now) g h _ _)))
+    ∙ ap to_bit (c.vertex_before.ensures ∙ vertex_before (view_state c.args.head c.args.tables.now) g h _ _)))

@@ -25,7 +25,7 @@ given c =
 
 -- no run refuses it
 accepted : (c : In_default) → list_refusal (given c) ≡ 0
-accepted c = sym (c.refusal.ensures _ (lends _ _ _ _ _ _ _ _)).0 ∙ ap code_if_refused c.in_default.is
+accepted c = sym (c.refusal.ensures.told _ (lends _ _ _ _ _ _ _ _)).0 ∙ ap code_if_refused c.in_default.is
 
 -- are there too few stretches, by the size and the number that are computed
 too_few_by : (room : ℕ) {size size' changes changes' : ℕ} → size ≡ size' → changes ≡ changes' → ltb (room / size) changes ≡ ltb (room / size') changes'
@@ -35,7 +35,7 @@ pub returns-in-Err : goal.returns-in-Err
 returns-in-Err c =
     let a = c.args in
     let l = lent a.start.now a.rows.now a.calls.now a.vertices.now a.edges.now a.journal.now a.answers.now a.image.now in
-    let t = rw c.in-Err.is at (c.refusal.ensures l (lends _ _ _ _ _ _ _ _)) in
+    let t = rw c.in-Err.is at (c.refusal.ensures.told l (lends _ _ _ _ _ _ _ _)) in
     let n = code_positive c.in-Err.refused in
     let ran_as = run_refused l _ _ t.0 t.1 n in
     rw c.from.ensures record {

@@ -20,13 +20,13 @@ given c =
 
 -- no run refuses it
 accepted : (c : In_default) → list_refusal (given c) ≡ 0
-accepted c = sym (c.refusal.ensures _ (lends _ _ _ _ _ _ _ _)).0 ∙ ap code_if_refused c.in_default.is
+accepted c = sym (c.refusal.ensures.told _ (lends _ _ _ _ _ _ _ _)).0 ∙ ap code_if_refused c.in_default.is
 
 pub returns-in-Err : goal.returns-in-Err
 returns-in-Err c =
     let a = c.args in
     let l = lent a.start.now a.rows.now a.calls.now a.vertices.now a.edges.now a.journal.now a.answers.now a.image.now in
-    let t = rw c.in-Err.is at (c.refusal.ensures l (lends _ _ _ _ _ _ _ _)) in
+    let t = rw c.in-Err.is at (c.refusal.ensures.told l (lends _ _ _ _ _ _ _ _)) in
     let e = by_run l a.list.now _ _ t.0 t.1 (code_positive c.in-Err.refused) in
     rw c.from.ensures record { list_after = e; untouched = λ z y. (refl, refl, refl, refl); least = is_least l _ _ _ e }
 

@@ -21,22 +21,22 @@ found calls answers vertices edges journal types start z e =
     let l = capacities calls answers vertices edges journal z in
     e ∙ ap (λ (b : Bounds). verdict b start) (checked_same (vertices / 8) (edges / 12) types l.0 l.1)
 
-pub returns-in_err-check_lengths : goal.returns-in_err-check_lengths
-returns-in_err-check_lengths c =
+pub returns-in_err-check_lengths-clause-told : goal.returns-in_err-check_lengths-clause-told
+returns-in_err-check_lengths-clause-told c =
     let p = err_from_is_err_and c.from_residual.result c.from_residual.ensures.1 in
     let s = rw c.in_err-check_lengths.was at c.check_lengths.ensures in
     rw (p.1, p.2) λ l h. let r = lengths_refused l _ _ _ _ _ _ _ _ h _ s.0 (code_positive _) in (r.0, s.1 ∙ r.1)
 
-pub returns-then-not-are_good : goal.returns-then-not-are_good
-returns-then-not-are_good c =
+pub returns-then-not-are_good-clause-told : goal.returns-then-not-are_good-clause-told
+returns-then-not-are_good-clause-told c =
     let z = sym c.check_lengths.ensures.0 ∙ ap code_if_refused c.in_ok-check_lengths.was in
     λ l h. rows_refused l _ _ _ _ _ _ _ _ h z (search rules)
 
 pub overflow_cast-rows : goal.overflow_cast-rows
 overflow_cast-rows c = omega (arith, (good_facts c.args.rows.now (search rules)).few)
 
-pub returns-in_err-check : goal.returns-in_err-check
-returns-in_err-check c =
+pub returns-in_err-check-clause-told : goal.returns-in_err-check-clause-told
+returns-in_err-check-clause-told c =
     let a = c.args in
     let z = sym c.check_lengths.ensures.0 ∙ ap code_if_refused c.in_ok-check_lengths.was in
     let f = found a.calls a.answers a.vertices a.edges a.journal (length a.rows.now) a.start.now z (sym c.in_err-check.was ∙ c.check.ensures) in
@@ -46,15 +46,15 @@ returns-in_err-check c =
     let r = start_refused l _ _ _ _ _ _ _ _ h z (search rules) _ f (code_not_zero _) in
     (o.0 ∙ r.0, o.1 ∙ r.1)
 
-pub returns-then-image-length : goal.returns-then-image-length
-returns-then-image-length c =
+pub returns-then-image-length-clause-told : goal.returns-then-image-length-clause-told
+returns-then-image-length-clause-told c =
     let a = c.args in
     let z = sym c.check_lengths.ensures.0 ∙ ap code_if_refused c.in_ok-check_lengths.was in
     let f = found a.calls a.answers a.vertices a.edges a.journal (length a.rows.now) a.start.now z (sym c.in_ok-check.was ∙ c.check.ensures) in
     λ l h. image_refused l _ _ _ _ _ _ _ _ h z (search rules) _ f refl (omega (arith, c.if-image-length.true, c.length.ensures))
 
-pub returns : goal.returns
-returns c =
+pub returns-clause-told : goal.returns-clause-told
+returns-clause-told c =
     let a = c.args in
     let z = sym c.check_lengths.ensures.0 ∙ ap code_if_refused c.in_ok-check_lengths.was in
     let f = found a.calls a.answers a.vertices a.edges a.journal (length a.rows.now) a.start.now z (sym c.in_ok-check.was ∙ c.check.ensures) in

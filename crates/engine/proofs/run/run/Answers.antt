@@ -11,7 +11,7 @@ pub returns-in-Err : goal.returns-in-Err
 returns-in-Err c =
     let a = c.args in
     let l = lent a.start.now a.rows.now a.calls.now a.vertices.now a.edges.now a.journal.now a.answers.now a.image.now in
-    let t = rw c.in-Err.is at (c.refusal.ensures l (lends _ _ _ _ _ _ _ _)) in
+    let t = rw c.in-Err.is at (c.refusal.ensures.told l (lends _ _ _ _ _ _ _ _)) in
     let n = code_positive c.in-Err.refused in
     let ran_as = run_refused l _ _ t.0 t.1 n in
     rw c.from.ensures record {
@@ -23,13 +23,13 @@ returns-in-Err c =
     }
 
 pub accepted-requires : goal.accepted-requires
-accepted-requires c = sym (c.refusal.ensures _ (lends _ _ _ _ _ _ _ _)).0 ∙ ap code_if_refused c.in_default.is
+accepted-requires c = sym (c.refusal.ensures.told _ (lends _ _ _ _ _ _ _ _)).0 ∙ ap code_if_refused c.in_default.is
 
 pub returns : goal.returns
 returns c =
     let a = c.args in
     let l = lent a.start.now a.rows.now a.calls.now a.vertices.now a.edges.now a.journal.now a.answers.now a.image.now in
-    let e = sym (c.refusal.ensures l (lends _ _ _ _ _ _ _ _)).0 ∙ ap code_if_refused c.in_default.is in
+    let e = sym (c.refusal.ensures.told l (lends _ _ _ _ _ _ _ _)).0 ∙ ap code_if_refused c.in_default.is in
     let ran_as = run_accepted l _ e c.accepted.ensures in record {
       image_value = ran_as;
       untouched = λ n. absurd (n e);

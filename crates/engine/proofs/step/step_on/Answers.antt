@@ -3,7 +3,9 @@ use native.Mathlib.Omega.{arith}
 use Rattle.history.specs.Machine.{present}
 use Rattle.machine.specs.Calls.{bounds_in}
 use Rattle.history_calls.specs.declared.Called.{Called}
-use Rattle.engine.proofs.StepLaws.{holds, free_is, sized, answered_by, alter_answers, recall_answers, ask_answers, quote_answers, unknown_answers}
+use Rattle.graph_tables.specs.Holds.{Holds}
+use Rattle.graph_tables.specs.Capacities.{Sized}
+use Rattle.engine.proofs.StepLaws.{seen, holds, free_is, sized, answered_by, alter_answers, recall_answers, ask_answers, quote_answers, unknown_answers}
 use Rattle.engine.proofs.step.step_on.Goals as goal
 
 pub alter-requires : goal.alter-requires
@@ -16,14 +18,17 @@ perform-requires c = let p = c.requires.0 in (bounds_in p.0, p.1, p.2.represents
 
 pub reply-answer-requires : goal.reply-answer-requires
 reply-answer-requires c =
-    let s = c in
-    let p = s.requires.0 in record { sized = (bounds_in p.0, present p.1, sized p.0 p.1 _ _ _ _ p.2, holds p.0 p.1 _ _ _ _ p.2); by_index = (p.0.rows, p.2.setting.rows, p.2.setting.closed_rows) }
+    let p = c.requires.0 in
+    let h = c.args.store.current.head in
+    let v = c.view.ensures in
+    record { sized = (bounds_in p.0, present p.1, seen (Sized (bounds_in p.0)) h v.vertices v.edges (sized p.0 p.1 _ _ _ _ p.2), seen (λ s. Holds s (present p.1)) h v.vertices v.edges (holds p.0 p.1 _ _ _ _ p.2)); by_index = (p.0.rows, p.2.setting.rows, p.2.setting.closed_rows) }
 
 pub quote-answer-requires : goal.quote-answer-requires
 quote-answer-requires c =
-    let s = c in
-    let p = s.requires.0 in
-    (bounds_in p.0, _, present p.1, sized p.0 p.1 _ _ _ _ p.2, holds p.0 p.1 _ _ _ _ p.2)
+    let p = c.requires.0 in
+    let h = c.args.store.current.head in
+    let v = c.view-in-Quote.ensures in
+    (bounds_in p.0, h, present p.1, seen (Sized (bounds_in p.0)) h v.vertices v.edges (sized p.0 p.1 _ _ _ _ p.2), seen (λ s. Holds s (present p.1)) h v.vertices v.edges (holds p.0 p.1 _ _ _ _ p.2))
 
 pub returns-in-Alter : goal.returns-in-Alter
 returns-in-Alter c =
@@ -56,7 +61,8 @@ returns-in-Ask c =
           rw c.in-Ask.is
           (answered_by w n m _ _ _ _ c.stay.ensures
           (ask_answers w m _ _ _ _ h n _ c.reply-answer.result
-          (c.reply-answer.ensures (present m) w.rows (bounds_in w) (sized w m _ _ _ _ h) (holds w m _ _ _ _ h) h.setting.rows h.setting.closed_rows)));
+          (c.reply-answer.ensures (present m) w.rows (bounds_in w) (seen (Sized (bounds_in w)) c.args.store.current.head c.view.ensures.vertices c.view.ensures.edges (sized w m _ _ _ _ h))
+          (seen (λ s. Holds s (present m)) c.args.store.current.head c.view.ensures.vertices c.view.ensures.edges (holds w m _ _ _ _ h)) h.setting.rows h.setting.closed_rows)));
       leaves = λ z. (ap (λ (d : Called). d.store) c.stay.ensures, refl);
       same_loan = record { vertices = refl; edges = refl; vertices_length = refl; edges_length = refl };
     }
@@ -66,7 +72,7 @@ returns-in-Quote c =
     record {
       answers_near = λ w m h near. let n = c.args.capacity in
           rw c.in-Quote.is
-          (answered_by w n m _ _ _ _ c.stay-in-Quote.ensures (quote_answers w m _ _ _ _ h n _ c.quote-answer.result (c.quote-answer.ensures _ (present m) (holds w m _ _ _ _ h))));
+          (answered_by w n m _ _ _ _ c.stay-in-Quote.ensures (quote_answers w m _ _ _ _ h n _ c.quote-answer.result (c.quote-answer.ensures c.args.store.current.head (present m) (seen (λ s. Holds s (present m)) c.args.store.current.head c.view-in-Quote.ensures.vertices c.view-in-Quote.ensures.edges (holds w m _ _ _ _ h)))));
       leaves = λ z. (ap (λ (d : Called). d.store) c.stay-in-Quote.ensures, refl);
       same_loan = record { vertices = refl; edges = refl; vertices_length = refl; edges_length = refl };
     }

@@ -1,7 +1,7 @@
 use Rattle.graph.specs.declared.SingleChange.TheVariants.{CreateEdge}
 use Rattle.std.proofs.lemmas.Result.{err_from_is_err_and}
 use Rattle.tried_edits.specs.Tried.{attempt_of}
-use Rattle.single_changes.proofs.OneLaws.{Accepted, one_refused, accept, one_tried, can_make, tries_by, insert_edge_by}
+use Rattle.single_changes.proofs.OneLaws.{seen, Accepted, one_refused, accept, one_tried, can_make, tries_by, insert_edge_by}
 use Prim.Native.Nat.{ℕ, ◌*◌}
 use mathlib.Core.Path.{◌≡◌, sym, ap, ◌∙◌}
 use Rattle.graph_tables.specs.Tables.{vlast}
@@ -13,12 +13,12 @@ use Rattle.single_changes.proofs.kinds.create_edge.Goals.{In_ok-create_edge}
 use Rattle.single_changes.proofs.kinds.create_edge.Goals as goal
 
 accepted : (c : In_ok-create_edge) → let a = c.args in Accepted (CreateEdge a.n a.a a.z a.sort) a.types (attempt_of a.head a.tables.now a.room.now)
-accepted c = accept tt (λ g y. c.create_edge.ensures.of_graph g y) c.in_ok-create_edge.was c.requires
+accepted c = accept tt (seen (CreateEdge c.args.n c.args.a c.args.z c.args.sort) c.args.types c.args.head c.view.ensures.vertices c.view.ensures.edges (λ g y. c.create_edge.ensures.of_graph g y)) c.in_ok-create_edge.was c.requires
 
 pub returns-in_err-create_edge-clause-made : goal.returns-in_err-create_edge-clause-made
 returns-in_err-create_edge-clause-made c =
     let p = err_from_is_err_and c.from_residual.result c.from_residual.ensures.1 in
-    rw (p.1, p.2) (one_refused tt (λ g y. c.create_edge.ensures.of_graph g y) c.in_err-create_edge.was)
+    rw (p.1, p.2) (one_refused tt (seen (CreateEdge c.args.n c.args.a c.args.z c.args.sort) c.args.types c.args.head c.view.ensures.vertices c.view.ensures.edges (λ g y. c.create_edge.ensures.of_graph g y)) c.in_err-create_edge.was)
 
 pub vertex_field-out-requires-clause-row : goal.vertex_field-out-requires-clause-row
 vertex_field-out-requires-clause-row c = (accepted (goal.at.vertex_field-out-requires-clause-row c).In_ok-create_edge).rows.1

@@ -272,15 +272,15 @@ after_at_After_same_y c w s e f h₀ =
           (sym to);
     }
 
-rest_long_at_After_struct_known_1 : (c : goal.After-struct_known-1)
+rest_long_with_same_y : (c : goal.After-same-y)
     → length (take (6 * (length c.args.calls.now / 6) - 6 * c.loop-k.k)
     (drop (6 * c.loop-k.k) c.args.calls.now))
     ≡ 6 * (length c.args.calls.now / 6) - 6 * c.loop-k.k
-rest_long_at_After_struct_known_1 c = length-take-le _ (drop (6 * c.loop-k.k) c.args.calls.now)
+rest_long_with_same_y c = length-take-le _ (drop (6 * c.loop-k.k) c.args.calls.now)
     (rw (length-drop (6 * c.loop-k.k) c.args.calls.now) (omega (arith, c.loop-k-test)))
 
 -- how many calls were taken
-taken_in : (c : goal.After-struct_known-1) → (1 ≤ c.answer-done.result.calls)
+taken_in : (c : goal.After-same-y) → (1 ≤ c.answer-done.result.calls)
     × (c.loop-k.k + c.answer-done.result.calls ≤ length
     c.args.calls.now / 6)
 taken_in c = let t = c.answer-done.ensures.alike in (
@@ -288,17 +288,17 @@ taken_in c = let t = c.answer-done.ensures.alike in (
   omega (
     arith,
     t.there,
-    rest_long_at_After_struct_known_1 c,
+    rest_long_with_same_y c,
     c.loop-k-test,
   ),
 )
 
-facts_at_After_struct_known_1 : (c : goal.After-struct_known-1) → Facts c.args.v
+facts_with_same_y : (c : goal.After-same-y) → Facts c.args.v
     c.args.e c.args.t
     c.slot-i.result c.args.stores c.loop-k.vertices
     c.loop-k.edges c.loop-k.journal
     (store_at c.loop-k.all c.slot-i.result).current.position.used c.loop-k.room
-facts_at_After_struct_known_1 c =
+facts_with_same_y c =
     let a = c.args in
     let l = c.loop-k in
     let p = c.requires.serves in
@@ -322,7 +322,7 @@ facts_at_After_struct_known_1 c =
       words = part_short p.0 z l.all m _ _ S h;
     }
 
-one_store_at_After_struct_known_1 : (c : goal.After-struct_known-1)
+one_store_with_same_y : (c : goal.After-same-y)
     → OfStore
     (get_or c.args.calls.now
     (6 * c.loop-k.k) 0) (take c.answer-done.result.calls
@@ -332,7 +332,7 @@ one_store_at_After_struct_known_1 : (c : goal.After-struct_known-1)
     c.loop-k.k) (drop
     (6 * c.loop-k.k)
     c.args.calls.now))))
-one_store_at_After_struct_known_1 c =
+one_store_with_same_y c =
     let t = c.answer-done.ensures.alike in
     let ws = c.args.calls.now in
     let from = 6 * c.loop-k.k in
@@ -345,7 +345,7 @@ one_store_at_After_struct_known_1 c =
     ∙ get_or-take (6 * (length ws / 6) - from) (drop from ws) 0 0 (omega (arith, c.loop-k-test))
     ∙ get_or-drop from ws 0 0 ∙ ap (λ (m : ℕ). get_or ws m 0) zero_at)
 
-after_at_After_struct_known_1 : (c : goal.After-struct_known-1) (w : Parameters) (s : Stores)
+after_with_same_y : (c : goal.After-same-y) (w : Parameters) (s : Stores)
     → s.count
     ≡ c.args.stores
     → c.args.joint ≡ joint_room s
@@ -393,12 +393,12 @@ after_at_After_struct_known_1 : (c : goal.After-struct_known-1) (w : Parameters)
     c.loop-k.k) (drop
     (2 * c.loop-k.k)
     c.loop-k.answers)) c.answer-done.new.answers
-after_at_After_struct_known_1 c w s e f h₀ =
+after_with_same_y c w s e f h₀ =
     let A = c.args in
     let l = c.loop-k in
     let st = c.answer-done in
     let i = c.slot-i.result in
-    let F = facts_at_After_struct_known_1 c in
+    let F = facts_with_same_y c in
     let g = l.invariant.5 w s e f h₀ in
     let S = last_in w s (take l.k (store_calls_of A.calls.now)) in
     let z = sizes A.v A.e A.t in
@@ -425,7 +425,7 @@ after_at_After_struct_known_1 c w s e f h₀ =
     ∙ ap (λ (r : ℕ). min (A.t / 12) ((store_at l.all i).current.position.used + r)) g.1 in
     let an = st.ensures.takes w (S.machine (suc i)) (h.each i inside) in
     let xs = take st.result.calls (store_calls_of (take (6 * (length A.calls.now / 6) - 6 * l.k) (drop (6 * l.k) A.calls.now))) in
-    let of = one_store_at_After_struct_known_1 c in
+    let of = one_store_with_same_y c in
     let vl = st.auto.vertices ∙ part_length A.v i l.vertices F.vend in
     let el = st.auto.edges ∙ part_length A.e i l.edges F.eend in
     let tl = st.auto.journal ∙ part_length A.t i l.journal F.tend in
@@ -504,7 +504,7 @@ loop-k-preserved c =
     let a = c.args in
     let l = c.loop-k in
     let st = c.answer-done in
-    let F = facts_at_After_struct_known_1 c in
+    let F = facts_with_same_y c in
     let i = c.slot-i.result in
     let n = length a.calls.now / 6 in
     let t = taken_in c in
@@ -517,7 +517,7 @@ loop-k-preserved c =
       length_with a.t i st.new.journal l.journal tl F.tend ∙ l.invariant.3,
       part_kept (2 * l.k) (2 * n - 2 * l.k) st.new.answers l.answers st.auto.answers ∙ l.invariant.4,
       (λ w s e f h.
-          let r = after_at_After_struct_known_1 c w s e f h in
+          let r = after_with_same_y c w s e f h in
           let g = l.invariant.5 w s e f h in
           let m = stores_more w s a.calls.now l.k st.result.calls n (omega arith) t.1 in (
             record {

@@ -13,15 +13,15 @@ use Rattle.walks.proofs.counting.degree_from.Goals as goal
 pub loop-cursor-init : goal.loop-cursor-init
 loop-cursor-init c = (c.first-cursor.ensures.edges, along_start _ _ _ _ c.requires _ c.first-cursor.ensures.word)
 
-pub in_degree-requires : goal.in_degree-requires
-in_degree-requires c = along_row _ _ _ _ _ _ c.loop-cursor.invariant.1 c.loop-cursor-test.true
+pub in_degree-n-requires : goal.in_degree-n-requires
+in_degree-n-requires c = along_row _ _ _ _ _ _ c.loop-cursor.invariant.1 c.loop-cursor-test.true
 
 pub overflow_add-n : goal.overflow_add-n
 overflow_add-n c =
     omega (
       arith,
       along_fits _ _ _ _ _ _ c.loop-cursor.invariant.1 c.loop-cursor-test.true c.requires
-          (one_le (λ s. bit_of c.args.words.now s (c.args.t % 64)) (side_number c.args.side) c.args.tables.now.edges.now) _ (c.from-n.ensures ∙ c.in_degree.ensures),
+          (one_le (λ s. bit_of c.args.words.now s (c.args.t % 64)) (side_number c.args.side) c.args.tables.now.edges.now) _ c.in_degree-n.ensures,
     )
 
 pub step-requires : goal.step-requires
@@ -37,7 +37,7 @@ loop-cursor-preserved c = (
   ap (λ (b : Bor (List ℕ)). b.now) c.step.ensures.edges ∙ c.loop-cursor.invariant.0,
   along_on _ _ _ _ _ _ c.loop-cursor.invariant.1 c.loop-cursor-test.true _
       (c.step.ensures.word ∙ ap (λ (l : List ℕ). wnext l c.loop-cursor.cursor.word) c.loop-cursor.invariant.0)
-      _ (c.from-n.ensures ∙ c.in_degree.ensures),
+      _ c.in_degree-n.ensures,
 )
 
 pub returns : goal.returns
